@@ -1,0 +1,8 @@
+-- The laws of the definitions in specs/.
+pub mod Lists
+pub mod Lookup
+pub mod Maps
+pub mod QueueForm
+pub mod Refusals
+pub mod Scan
+pub mod Tests

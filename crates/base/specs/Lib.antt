@@ -1,0 +1,6 @@
+-- Definitions that the store's contracts and theorems are made of.
+pub mod Lists
+pub mod Maps
+pub mod Queue
+pub mod Refusals
+pub mod Scan
