@@ -1,14 +1,14 @@
 -- Laws of a list of refusals: an answer is 0 exactly when no condition holds, and in an ascending list it is the lowest whose condition does. Assumes nothing.
-use mathlib.Core.Path.{_≡_, refl, sym, _∙_}
-use mathlib.Core.Bool.{Bool, true, false, cond, _&&_, _||_, false≢true}
+use Prim.Native.Nat.{_<_, _≤_, ℕ}
+use mathlib.Core.Bool.{Bool, _&&_, _||_, and-false, cond, false, false≢true, true}
 use mathlib.Core.List.{List, [], _∷_}
 use mathlib.Core.Logic.{_↔_}
-use Prim.Native.Nat.{ℕ, _<_, _≤_}
+use mathlib.Core.Path.{_≡_, refl}
 use native.Mathlib.Omega.{arith}
-use lib.Dec.{ltb, leb, eqb}
-use borrow.Author.Tests.{ltb-true, eqb-true, eq-eqb, ne-eqb, leb-true, leb-false}
-use Rattle.base.specs.Refusals.{Row, _when_, answer, ascendingFrom, ascending, holds, clear, lowest}
-use Rattle.base.proofs.Tests.{split, clash, and-left, and-right, or-inl, or-inr}
+use borrow.Author.Tests.{eq-eqb, eqb-true, leb-false, leb-true, ltb-true, ne-eqb}
+use lib.Dec.{eqb, leb, ltb}
+use Rattle.base.proofs.Tests.{and-left, and-right, clash, or-inr, split}
+use Rattle.base.specs.Refusals.{NoneOf, Row, _when_, answer, ascending, ascendingFrom, holds, lowest}
 
 -- no condition holds
 abbrev pub Clear : List Row → Type 0
@@ -30,6 +30,15 @@ answer-iff m ((n when b) ∷ rs) t =
 -- accepted exactly when no condition holds
 pub accepted-iff : (rs : List Row) → ascending rs ≡ true → (answer rs ≡ 0) ↔ Clear rs
 accepted-iff rs t = answer-iff 0 rs t
+
+-- then no number's condition holds
+pub clear-holds : (rs : List Row) → Clear rs → (k : ℕ) → holds k rs ≡ false
+clear-holds [] c k = refl
+clear-holds ((n when b) ∷ rs) c k = rw (c .0, and-false (eqb n k)) (clear-holds rs (c .1) k)
+
+pub clear-none-of : (ns : List ℕ) (rs : List Row) → Clear rs → NoneOf ns rs
+clear-none-of [] rs c = tt
+clear-none-of (n ∷ ns) rs c = (clear-holds rs c n, clear-none-of ns rs c)
 
 answer-above : (m : ℕ) (rs : List Row) → ascendingFrom m rs ≡ true → (answer rs ≡ 0 → ⊥) → m < answer rs
 unfolding answer

@@ -1,8 +1,9 @@
 -- A call's refusals as rows, one for each row of document 01: a number and the condition under which it is returned.
-use mathlib.Core.Bool.{Bool, true, false, cond, _&&_, _||_}
-use mathlib.Core.List.{List, [], _∷_}
 use Prim.Native.Nat.{ℕ}
-use lib.Dec.{ltb, leb, eqb}
+use mathlib.Core.Bool.{Bool, _&&_, _||_, cond, false, true}
+use mathlib.Core.List.{List, [], _∷_}
+use mathlib.Core.Path.{_≡_}
+use lib.Dec.{eqb, leb, ltb}
 
 infix 40 _when_
 pub data Row : Type 0 where
@@ -26,6 +27,11 @@ ascending rs = ascendingFrom 0 rs
 abbrev pub holds : ℕ → List Row → Bool
 holds n [] = false
 holds n ((m when b) ∷ rs) = (eqb m n && b) || holds n rs
+
+-- no row with one of these numbers has its condition
+abbrev pub NoneOf : List ℕ → List Row → Type 0
+NoneOf [] rs = Unit {0}
+NoneOf (n ∷ ns) rs = (holds n rs ≡ false) × NoneOf ns rs
 
 -- no row has its condition
 abbrev pub clear : List Row → Bool

@@ -1,0 +1,34 @@
+use Rattle.layout.specs.Layout.{ValidLocation, ValidSuperblock1Location, ValidSuperblock2Location}
+use Rattle.layout.proofs.areas.is_place.Statement.{statement}
+use Rattle.layout.proofs.areas.is_place.Tie as tie
+
+same-location-requires : tie.Need-same-location-requires
+same-location-requires c κs = tt
+
+same-location-requires-2 : tie.Need-same-location-requires-2
+same-location-requires-2 c κs = tt
+
+is-journal-requires : tie.Need-is-journal-requires
+is-journal-requires c κs = c .before .before .pre
+
+is-table-requires : tie.Need-is-table-requires
+is-table-requires c κs = c .before .before .before .pre
+
+is-node-requires : tie.Need-is-node-requires
+is-node-requires c κs = c .before .before .before .before .pre
+
+returns : tie.Need-returns
+unfolding ValidLocation ValidSuperblock1Location ValidSuperblock2Location
+returns c =
+    rw (c .is-node .ensures, c .before .is-table .ensures, c .before .before .is-journal .ensures, c .before .before .before .same-location2 .ensures, c .before .before .before .before .same-location .ensures)
+
+pub is-place-spec : {M : Type 1} → statement M
+is-place-spec =
+    tie.close
+    (tie.spec
+    same-location-requires
+    same-location-requires-2
+    is-journal-requires
+    is-table-requires
+    is-node-requires
+    returns)

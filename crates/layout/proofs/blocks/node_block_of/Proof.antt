@@ -1,0 +1,17 @@
+use Rattle.layout.proofs.blocks.node_block_of.Statement.{statement}
+use Rattle.layout.proofs.blocks.node_block_of.Tie as tie
+
+row-requires : tie.Need-row-requires
+row-requires c κs = tt
+
+block-of-requires : tie.Need-block-of-requires
+block-of-requires c κs = c .before .row .ensures .good
+
+returns : tie.Need-returns
+returns c = rw (← c .before .before .row .ensures .is, c .before .if1 .taken, c .block-of .ensures)
+
+returns-2 : tie.Need-returns-2
+returns-2 c = rw (← c .before .row .ensures .is, c .if1 .left)
+
+pub node-block-of-spec : {M : Type 1} → statement M
+node-block-of-spec = tie.close (tie.spec row-requires block-of-requires returns returns-2)

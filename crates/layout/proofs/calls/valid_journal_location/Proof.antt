@@ -1,0 +1,18 @@
+use Rattle.layout.proofs.calls.valid_journal_location.Statement.{statement}
+use Rattle.layout.proofs.calls.valid_journal_location.Tie as tie
+
+row-requires : tie.Need-row-requires
+row-requires c κs = tt
+
+is-journal-requires : tie.Need-is-journal-requires
+is-journal-requires c κs = c .row .ensures .good
+
+flag-when-requires : tie.Need-flag-when-requires
+flag-when-requires c κs = tt
+
+returns : tie.Need-returns
+returns c = rw (c .flag-when .ensures, c .before .is-journal .ensures, c .before .before .row .ensures .is)
+
+pub valid-journal-location-spec : {M : Type 1} → statement M
+valid-journal-location-spec =
+    tie.close (tie.spec row-requires is-journal-requires flag-when-requires returns)

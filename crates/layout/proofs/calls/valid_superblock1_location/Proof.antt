@@ -1,0 +1,17 @@
+use Rattle.layout.specs.Layout.{ValidSuperblock1Location}
+use Rattle.layout.proofs.calls.valid_superblock1_location.Statement.{statement}
+use Rattle.layout.proofs.calls.valid_superblock1_location.Tie as tie
+
+same-location-requires : tie.Need-same-location-requires
+same-location-requires c κs = tt
+
+flag-when-requires : tie.Need-flag-when-requires
+flag-when-requires c κs = tt
+
+returns : tie.Need-returns
+unfolding ValidSuperblock1Location
+returns c = rw (c .flag-when .ensures, c .before .same-location .ensures)
+
+pub valid-superblock1-location-spec : {M : Type 1} → statement M
+valid-superblock1-location-spec =
+    tie.close (tie.spec same-location-requires flag-when-requires returns)

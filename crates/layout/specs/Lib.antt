@@ -1,0 +1,6 @@
+-- What the contracts of the layout calls cite.
+pub mod Blocks
+pub mod Calls
+pub mod Device
+pub mod Journal
+pub mod Layout

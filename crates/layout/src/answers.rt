@@ -1,0 +1,48 @@
+// The forms of a result: 0 with the result where ok holds, else 1 with zeros.
+ghost use mathlib.Core.Path.{_≡_};
+ghost use Rattle.layout.specs.Calls.{numberWhen, flagWhen, placeWhen};
+use crate::Flag;
+use crate::Location;
+use crate::Number;
+use crate::Place;
+
+pub(crate) const NOWHERE: Location = Location { addr: 0, len: 0 };
+
+pub(crate) fn number_when(ok: bool, value: u64) -> Number
+    ensures { λ r. ⌜ r ≡ numberWhen ok value ⌝ }
+{
+    if ok {
+        Number { answer: 0, value }
+    } else {
+        Number {
+            answer: 1,
+            value: 0,
+        }
+    }
+}
+
+pub(crate) fn flag_when(ok: bool, yes: bool) -> Flag
+    ensures { λ r. ⌜ r ≡ flagWhen ok yes ⌝ }
+{
+    if ok {
+        Flag { answer: 0, yes }
+    } else {
+        Flag {
+            answer: 1,
+            yes: false,
+        }
+    }
+}
+
+pub(crate) fn place_when(ok: bool, loc: Location) -> Place
+    ensures { λ r. ⌜ r ≡ placeWhen ok loc ⌝ }
+{
+    if ok {
+        Place { answer: 0, loc }
+    } else {
+        Place {
+            answer: 1,
+            loc: NOWHERE,
+        }
+    }
+}

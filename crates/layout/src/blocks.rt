@@ -1,0 +1,209 @@
+// Document 01's node blocks and table areas: the arithmetic over any good row, and the calls.
+ghost use mathlib.Core.Path.{_≡_};
+ghost use mathlib.Core.Bool.{true};
+ghost use Prim.Native.Nat.{_<_};
+ghost use lib.Dec.{ltb};
+ghost use Rattle.layout.specs.Calls.{number, numberIf, numberOptionWhen, numberOption, flag};
+ghost use Rattle.layout.specs.Device.{Good, deviceOf};
+ghost use Rattle.layout.specs.Blocks.{FirstNodeAddr, NodeBlockAddr, NodeBlocksEnd, NodeBlockOf};
+ghost use Rattle.layout.specs.Blocks.{TableAreaAddr, TableAreaOf, NodePlaceIn, TablePlaceIn, NodePlace};
+use crate::Device;
+use crate::Flag;
+use crate::Location;
+use crate::Number;
+use crate::NumberOption;
+use crate::answers::flag_when;
+use crate::answers::number_when;
+use crate::areas::first_node;
+use crate::areas::is_node;
+use crate::areas::is_node_addr;
+use crate::areas::is_table;
+use crate::areas::table1;
+use crate::areas::table2;
+use crate::rows::row;
+
+const BLOCKS: u64 = 128;
+
+// The address of block k; the end of the blocks for k = 128.
+fn block_addr(w: Device, k: u64) -> u64
+    requires { ⌜ Good w ⌝ }
+    requires { ⌜ k < 129 ⌝ }
+    ensures { λ r. ⌜ r ≡ NodeBlockAddr w k ⌝ }
+{
+    first_node(w) + k * w.block
+}
+
+fn area_addr(w: Device, k: u64) -> u64
+    requires { ⌜ Good w ⌝ }
+    requires { ⌜ k < 2 ⌝ }
+    ensures { λ r. ⌜ r ≡ TableAreaAddr w k ⌝ }
+{
+    table1(w) + k * w.table
+}
+
+fn block_of(w: Device, addr: u64) -> NumberOption
+    requires { ⌜ Good w ⌝ }
+    ensures { λ r. ⌜ r ≡ numberOptionWhen true (NodeBlockOf w addr) ⌝ }
+{
+    let valid = is_node_addr(w, addr);
+    if valid {
+        let k = addr / w.block - w.first;
+        if k < BLOCKS {
+            return NumberOption {
+                answer: 0,
+                exists: true,
+                value: k,
+            };
+        }
+    }
+    NumberOption {
+        answer: 0,
+        exists: false,
+        value: 0,
+    }
+}
+
+fn area_of(w: Device, addr: u64) -> NumberOption
+    requires { ⌜ Good w ⌝ }
+    ensures { λ r. ⌜ r ≡ numberOptionWhen true (TableAreaOf w addr) ⌝ }
+{
+    let one = table1(w);
+    if addr == one {
+        return NumberOption {
+            answer: 0,
+            exists: true,
+            value: 0,
+        };
+    }
+    let two = table2(w);
+    if addr == two {
+        return NumberOption {
+            answer: 0,
+            exists: true,
+            value: 1,
+        };
+    }
+    NumberOption {
+        answer: 0,
+        exists: false,
+        value: 0,
+    }
+}
+
+fn is_node_place_in(w: Device, k: u64, loc: Location) -> bool
+    requires { ⌜ Good w ⌝ }
+    ensures { λ r. ⌜ r ≡ NodePlaceIn w k loc ⌝ }
+{
+    if k < BLOCKS {
+        let addr = block_addr(w, k);
+        let valid = is_node(w, loc);
+        return (loc.addr == addr) & valid & (loc.len != 0);
+    }
+    false
+}
+
+fn is_table_place_in(w: Device, k: u64, loc: Location) -> bool
+    requires { ⌜ Good w ⌝ }
+    ensures { λ r. ⌜ r ≡ TablePlaceIn w k loc ⌝ }
+{
+    if k < 2 {
+        let addr = area_addr(w, k);
+        let valid = is_table(w, loc);
+        return (loc.addr == addr) & valid;
+    }
+    false
+}
+
+fn is_node_place(w: Device, loc: Location) -> bool
+    requires { ⌜ Good w ⌝ }
+    ensures { λ r. ⌜ r ≡ NodePlace w loc ⌝ }
+{
+    let block = block_of(w, loc.addr);
+    let valid = is_node(w, loc);
+    block.exists & valid & (loc.len != 0)
+}
+
+pub fn first_node_addr(device: u64) -> Number
+    ensures { λ r. ⌜ r ≡ number device (FirstNodeAddr (deviceOf device)) ⌝ }
+{
+    let w = row(device);
+    let addr = first_node(w);
+    number_when(device <= 2, addr)
+}
+
+pub fn node_blocks_end(device: u64) -> Number
+    ensures { λ r. ⌜ r ≡ number device (NodeBlocksEnd (deviceOf device)) ⌝ }
+{
+    let w = row(device);
+    let addr = block_addr(w, BLOCKS);
+    number_when(device <= 2, addr)
+}
+
+pub fn node_block_addr(device: u64, k: u64) -> Number
+    ensures { λ r. ⌜ r ≡ numberIf device (ltb k 128) (NodeBlockAddr (deviceOf device) k) ⌝ }
+{
+    let w = row(device);
+    let ok = (device <= 2) & (k < BLOCKS);
+    if ok {
+        let value = block_addr(w, k);
+        return Number { answer: 0, value };
+    }
+    Number {
+        answer: 1,
+        value: 0,
+    }
+}
+
+pub fn node_block_of(device: u64, addr: u64) -> NumberOption
+    ensures { λ r. ⌜ r ≡ numberOption device (NodeBlockOf (deviceOf device) addr) ⌝ }
+{
+    let w = row(device);
+    let ok = device <= 2;
+    if ok {
+        return block_of(w, addr);
+    }
+    NumberOption {
+        answer: 1,
+        exists: false,
+        value: 0,
+    }
+}
+
+pub fn table_area_of(device: u64, addr: u64) -> NumberOption
+    ensures { λ r. ⌜ r ≡ numberOption device (TableAreaOf (deviceOf device) addr) ⌝ }
+{
+    let w = row(device);
+    let ok = device <= 2;
+    if ok {
+        return area_of(w, addr);
+    }
+    NumberOption {
+        answer: 1,
+        exists: false,
+        value: 0,
+    }
+}
+
+pub fn node_place_in(device: u64, k: u64, loc: Location) -> Flag
+    ensures { λ r. ⌜ r ≡ flag device (NodePlaceIn (deviceOf device) k loc) ⌝ }
+{
+    let w = row(device);
+    let yes = is_node_place_in(w, k, loc);
+    flag_when(device <= 2, yes)
+}
+
+pub fn table_place_in(device: u64, k: u64, loc: Location) -> Flag
+    ensures { λ r. ⌜ r ≡ flag device (TablePlaceIn (deviceOf device) k loc) ⌝ }
+{
+    let w = row(device);
+    let yes = is_table_place_in(w, k, loc);
+    flag_when(device <= 2, yes)
+}
+
+pub fn node_place(device: u64, loc: Location) -> Flag
+    ensures { λ r. ⌜ r ≡ flag device (NodePlace (deviceOf device) loc) ⌝ }
+{
+    let w = row(device);
+    let yes = is_node_place(w, loc);
+    flag_when(device <= 2, yes)
+}

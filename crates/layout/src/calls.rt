@@ -1,0 +1,186 @@
+// The calls on addresses, kinds of place, and places against each other.
+ghost use mathlib.Core.Path.{_≡_};
+ghost use Rattle.layout.specs.Calls.{number, flag, place};
+ghost use Rattle.layout.specs.Device.{deviceOf};
+ghost use Rattle.layout.specs.Layout.{NumJournalBlocks, IndirectionTableMaxLength, NodeBlockSize, MinNodeBlockIndex};
+ghost use Rattle.layout.specs.Layout.{IndirectionTable1Addr, IndirectionTable2Addr, JournalStartAddr, JournalEndAddr};
+ghost use Rattle.layout.specs.Layout.{ValidIndirectionTableAddr, ValidNodeAddr, ValidJournalLocation};
+ghost use Rattle.layout.specs.Layout.{ValidIndirectionTableLocation, ValidNodeLocation, ValidLocation};
+ghost use Rattle.layout.specs.Layout.{Superblock1Location, Superblock2Location};
+ghost use Rattle.layout.specs.Layout.{ValidSuperblock1Location, ValidSuperblock2Location, ValidSuperblockLocation};
+ghost use Rattle.layout.specs.Layout.{LocationSub, otherIndirectionTableAddr};
+ghost use Rattle.layout.specs.Layout.{overlap as Layout·overlap};
+use crate::Flag;
+use crate::Location;
+use crate::Number;
+use crate::Place;
+use crate::answers::flag_when;
+use crate::answers::number_when;
+use crate::answers::place_when;
+use crate::areas::*;
+use crate::rows::row;
+use crate::sums::crosses;
+use crate::sums::is_part;
+
+pub fn num_journal_blocks(device: u64) -> Number
+    ensures { λ r. ⌜ r ≡ number device (NumJournalBlocks (deviceOf device)) ⌝ }
+{
+    let w = row(device);
+    number_when(device <= 2, w.journal)
+}
+
+pub fn indirection_table_max_length(device: u64) -> Number
+    ensures { λ r. ⌜ r ≡ number device (IndirectionTableMaxLength (deviceOf device)) ⌝ }
+{
+    let w = row(device);
+    number_when(device <= 2, w.table)
+}
+
+pub fn node_block_size(device: u64) -> Number
+    ensures { λ r. ⌜ r ≡ number device (NodeBlockSize (deviceOf device)) ⌝ }
+{
+    let w = row(device);
+    number_when(device <= 2, w.block)
+}
+
+pub fn min_node_block_index(device: u64) -> Number
+    ensures { λ r. ⌜ r ≡ number device (MinNodeBlockIndex (deviceOf device)) ⌝ }
+{
+    let w = row(device);
+    number_when(device <= 2, w.first)
+}
+
+pub fn indirection_table1_addr(device: u64) -> Number
+    ensures { λ r. ⌜ r ≡ number device (IndirectionTable1Addr (deviceOf device)) ⌝ }
+{
+    let w = row(device);
+    let addr = table1(w);
+    number_when(device <= 2, addr)
+}
+
+pub fn indirection_table2_addr(device: u64) -> Number
+    ensures { λ r. ⌜ r ≡ number device (IndirectionTable2Addr (deviceOf device)) ⌝ }
+{
+    let w = row(device);
+    let addr = table2(w);
+    number_when(device <= 2, addr)
+}
+
+pub fn journal_start_addr(device: u64) -> Number
+    ensures { λ r. ⌜ r ≡ number device (JournalStartAddr) ⌝ }
+{
+    number_when(device <= 2, JOURNAL_START)
+}
+
+pub fn journal_end_addr(device: u64) -> Number
+    ensures { λ r. ⌜ r ≡ number device (JournalEndAddr (deviceOf device)) ⌝ }
+{
+    let w = row(device);
+    let addr = table1(w);
+    number_when(device <= 2, addr)
+}
+
+pub fn other_indirection_table_addr(device: u64, addr: u64) -> Number
+    ensures { λ r. ⌜ r ≡ number device (otherIndirectionTableAddr (deviceOf device) addr) ⌝ }
+{
+    let w = row(device);
+    let other = other_table(w, addr);
+    number_when(device <= 2, other)
+}
+
+pub fn valid_indirection_table_addr(device: u64, addr: u64) -> Flag
+    ensures { λ r. ⌜ r ≡ flag device (ValidIndirectionTableAddr (deviceOf device) addr) ⌝ }
+{
+    let w = row(device);
+    let yes = is_table_addr(w, addr);
+    flag_when(device <= 2, yes)
+}
+
+pub fn valid_node_addr(device: u64, addr: u64) -> Flag
+    ensures { λ r. ⌜ r ≡ flag device (ValidNodeAddr (deviceOf device) addr) ⌝ }
+{
+    let w = row(device);
+    let yes = is_node_addr(w, addr);
+    flag_when(device <= 2, yes)
+}
+
+pub fn valid_journal_location(device: u64, loc: Location) -> Flag
+    ensures { λ r. ⌜ r ≡ flag device (ValidJournalLocation (deviceOf device) loc) ⌝ }
+{
+    let w = row(device);
+    let yes = is_journal(w, loc);
+    flag_when(device <= 2, yes)
+}
+
+pub fn valid_indirection_table_location(device: u64, loc: Location) -> Flag
+    ensures { λ r. ⌜ r ≡ flag device (ValidIndirectionTableLocation (deviceOf device) loc) ⌝ }
+{
+    let w = row(device);
+    let yes = is_table(w, loc);
+    flag_when(device <= 2, yes)
+}
+
+pub fn valid_node_location(device: u64, loc: Location) -> Flag
+    ensures { λ r. ⌜ r ≡ flag device (ValidNodeLocation (deviceOf device) loc) ⌝ }
+{
+    let w = row(device);
+    let yes = is_node(w, loc);
+    flag_when(device <= 2, yes)
+}
+
+pub fn superblock1_location(device: u64) -> Place
+    ensures { λ r. ⌜ r ≡ place device Superblock1Location ⌝ }
+{
+    place_when(device <= 2, SUPERBLOCK1)
+}
+
+pub fn superblock2_location(device: u64) -> Place
+    ensures { λ r. ⌜ r ≡ place device Superblock2Location ⌝ }
+{
+    place_when(device <= 2, SUPERBLOCK2)
+}
+
+pub fn valid_superblock1_location(device: u64, loc: Location) -> Flag
+    ensures { λ r. ⌜ r ≡ flag device (ValidSuperblock1Location loc) ⌝ }
+{
+    let yes = same_location(loc, SUPERBLOCK1);
+    flag_when(device <= 2, yes)
+}
+
+pub fn valid_superblock2_location(device: u64, loc: Location) -> Flag
+    ensures { λ r. ⌜ r ≡ flag device (ValidSuperblock2Location loc) ⌝ }
+{
+    let yes = same_location(loc, SUPERBLOCK2);
+    flag_when(device <= 2, yes)
+}
+
+pub fn valid_superblock_location(device: u64, loc: Location) -> Flag
+    ensures { λ r. ⌜ r ≡ flag device (ValidSuperblockLocation loc) ⌝ }
+{
+    let one = same_location(loc, SUPERBLOCK1);
+    let two = same_location(loc, SUPERBLOCK2);
+    let yes = one | two;
+    flag_when(device <= 2, yes)
+}
+
+pub fn valid_location(device: u64, loc: Location) -> Flag
+    ensures { λ r. ⌜ r ≡ flag device (ValidLocation (deviceOf device) loc) ⌝ }
+{
+    let w = row(device);
+    let yes = is_place(w, loc);
+    flag_when(device <= 2, yes)
+}
+
+pub fn overlap(device: u64, a: Location, b: Location) -> Flag
+    ensures { λ r. ⌜ r ≡ flag device (Layout·overlap a b) ⌝ }
+{
+    let yes = crosses(a, b);
+    flag_when(device <= 2, yes)
+}
+
+pub fn location_sub(device: u64, a: Location, b: Location) -> Flag
+    ensures { λ r. ⌜ r ≡ flag device (LocationSub a b) ⌝ }
+{
+    let yes = is_part(a, b);
+    flag_when(device <= 2, yes)
+}

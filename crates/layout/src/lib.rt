@@ -1,0 +1,92 @@
+// Upstream's DiskLayout: where on a device the superblocks, the journal, the two table areas and the node blocks lie, and which
+// places are valid. Each function and predicate of the module is a call that names its device; it returns 0 with its result, or 1
+// with zeros: a device above 2, a failed upstream `requires`, a result past 64 bits. No call has a `requires`.
+mod answers;
+mod areas;
+mod blocks;
+mod calls;
+mod journal;
+mod rows;
+mod sums;
+
+pub use blocks::first_node_addr;
+pub use blocks::node_block_addr;
+pub use blocks::node_block_of;
+pub use blocks::node_blocks_end;
+pub use blocks::node_place;
+pub use blocks::node_place_in;
+pub use blocks::table_area_of;
+pub use blocks::table_place_in;
+pub use calls::indirection_table_max_length;
+pub use calls::indirection_table1_addr;
+pub use calls::indirection_table2_addr;
+pub use calls::journal_end_addr;
+pub use calls::journal_start_addr;
+pub use calls::location_sub;
+pub use calls::min_node_block_index;
+pub use calls::node_block_size;
+pub use calls::num_journal_blocks;
+pub use calls::other_indirection_table_addr;
+pub use calls::overlap;
+pub use calls::superblock1_location;
+pub use calls::superblock2_location;
+pub use calls::valid_indirection_table_addr;
+pub use calls::valid_indirection_table_location;
+pub use calls::valid_journal_location;
+pub use calls::valid_location;
+pub use calls::valid_node_addr;
+pub use calls::valid_node_location;
+pub use calls::valid_superblock_location;
+pub use calls::valid_superblock1_location;
+pub use calls::valid_superblock2_location;
+pub use journal::journal_back_location;
+pub use journal::journal_block_idx;
+pub use journal::journal_front_location;
+pub use journal::journal_point;
+pub use journal::journal_pos_add;
+pub use journal::journal_range_location;
+pub use journal::loc_contained_in_circular_journal_range;
+pub use journal::loc_disjoint_from_circular_journal_range;
+
+// A place on the device: len bytes from addr on. Upstream's Addr is a u64.
+pub struct Location {
+    pub addr: u64,
+    pub len: u64,
+}
+
+// Document 01's row of four numbers: journal blocks, table length, node block size, first node block.
+pub struct Device {
+    pub journal: u64,
+    pub table: u64,
+    pub block: u64,
+    pub first: u64,
+}
+
+// What a call returns: its answer, 0 or 1, beside its result. Where the answer is 1 the rest is zeros.
+pub struct Number {
+    pub answer: u64,
+    pub value: u64,
+}
+
+pub struct Flag {
+    pub answer: u64,
+    pub yes: bool,
+}
+
+pub struct Place {
+    pub answer: u64,
+    pub loc: Location,
+}
+
+// 01's form of an Option is a flag beside the thing, which is zeros where the flag is false.
+pub struct PlaceOption {
+    pub answer: u64,
+    pub exists: bool,
+    pub loc: Location,
+}
+
+pub struct NumberOption {
+    pub answer: u64,
+    pub exists: bool,
+    pub value: u64,
+}
