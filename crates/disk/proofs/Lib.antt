@@ -1,0 +1,13 @@
+-- The laws of the disk.
+pub mod Accepting
+pub mod Crashing
+pub mod Demand2
+pub mod Forms
+pub mod Havoc
+pub mod Kept
+pub mod Moves
+pub mod Numbers
+pub mod Outstanding
+pub mod Reading
+pub mod Shelf
+pub mod Shelves

@@ -1,0 +1,31 @@
+-- By what the callees ensure. Assumes nothing.
+use borrow.Author.Needs.{needs}
+use Rattle.disk.proofs.form.node_record_ok.Statement.{statement}
+use Rattle.disk.specs.Form.{nodeRecordChecked}
+use Rattle.disk.proofs.form.node_record_ok.Tie as tie
+
+node-form-requires : tie.Need-node-form-requires
+node-form-requires c κs = search needs
+
+node-zero-requires : tie.Need-node-zero-requires
+node-zero-requires c κs = search needs
+
+loc-zero-requires : tie.Need-loc-zero-requires
+loc-zero-requires c κs = search needs
+
+node-place-in-requires : tie.Need-node-place-in-requires
+node-place-in-requires c κs = search needs
+
+returns : tie.Need-returns
+unfolding nodeRecordChecked
+returns c = simp (c .before .node-place-in .ensures, c .before .before .loc-zero .ensures, c .before .before .before .node-zero .ensures, c .before .before .before .before .node-form .ensures)
+
+pub node-record-ok-spec : {M : Type 1} → statement M
+node-record-ok-spec =
+    tie.close
+    (tie.spec
+    node-form-requires
+    node-zero-requires
+    loc-zero-requires
+    node-place-in-requires
+    returns)

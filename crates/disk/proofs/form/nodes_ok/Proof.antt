@@ -1,0 +1,58 @@
+-- One scan keeps both flags. Assumes nothing.
+use Prim.Native.Nat.{_-_, _≤_}
+use mathlib.Core.Path.{_≡_, ap}
+use borrow.Author.Needs.{needs}
+use lib.ListN.{getD}
+use Rattle.base.proofs.Scan.{all-end, all-none, all-turn}
+use Rattle.base.specs.Scan.{allBelow}
+use Rattle.disk.proofs.form.nodes_ok.Statement.{statement}
+use Rattle.disk.specs.Form.{nodeRecordChecked, nodesChecked}
+use Rattle.disk.specs.Records.{noNodeRecord}
+use Rattle.disk.proofs.form.nodes_ok.Tie as tie
+
+abbrev Inv-loop : tie.InvT-loop
+Inv-loop device nodes form₀ placed₀ i₀ form placed i = (i ≤ 128) × (form ≡ allBelow (λ k. nodeRecordChecked device k (getD nodes k noNodeRecord) .form) i) × (placed ≡ allBelow (λ k. nodeRecordChecked device k (getD nodes k noNodeRecord) .placed) i)
+
+abbrev μ-loop : tie.MeasureT-loop
+μ-loop device nodes form₀ placed₀ i₀ form placed i = 128 - i
+
+loop-holds : tie.Need-loop-holds Inv-loop μ-loop
+loop-holds c = (search needs, all-none _, all-none _)
+
+mul-r : tie.Need-mul-r Inv-loop μ-loop
+mul-r c = search needs
+
+array-copy-out-r : tie.Need-array-copy-out-r Inv-loop μ-loop
+array-copy-out-r c = search needs
+
+node-record-ok-requires : tie.Need-node-record-ok-requires Inv-loop μ-loop
+node-record-ok-requires c κs = search needs
+
+add-i : tie.Need-add-i Inv-loop μ-loop
+add-i c = search needs
+
+loop-less : tie.Need-loop-less Inv-loop μ-loop
+loop-less c = search needs
+
+loop-again : tie.Need-loop-again Inv-loop μ-loop
+loop-again c = (search needs, all-turn _ _ (c .before .before .before .before .before .loop .inv .1) (ap (λ x. x .form) (c .before .before .node-record-ok .ensures)), all-turn _ _ (c .before .before .before .before .before .loop .inv .2) (ap (λ x. x .placed) (c .before .before .node-record-ok .ensures)))
+
+returns : tie.Need-returns Inv-loop μ-loop
+unfolding nodesChecked
+returns c =
+    simp (all-end _ (c .before .loop .inv .1) (c .before .loop .inv .0) (c .loop-test .left), all-end _ (c .before .loop .inv .2) (c .before .loop .inv .0) (c .loop-test .left))
+
+pub nodes-ok-spec : {M : Type 1} → statement M
+nodes-ok-spec =
+    tie.close
+    (tie.spec
+    Inv-loop
+    μ-loop
+    loop-holds
+    mul-r
+    array-copy-out-r
+    node-record-ok-requires
+    add-i
+    loop-less
+    loop-again
+    returns)

@@ -1,0 +1,38 @@
+-- The rows in their order. Assumes nothing.
+use mathlib.Core.Path.{_∙_, sym}
+use borrow.Author.Needs.{needs}
+use borrow.Author.Tests.{not-false, not-true}
+use Rattle.base.specs.Refusals.{answer}
+use Rattle.disk.proofs.ops.ask.Statement.{statement}
+use Rattle.disk.specs.Ops.{requestTurn}
+use Rattle.disk.proofs.ops.ask.Tie as tie
+
+has-requires : tie.Need-has-requires
+has-requires c κs = search needs
+
+returns : tie.Need-returns
+unfolding requestTurn answer
+returns c = simp (sym (c .before .before .has .ensures) ∙ c .if1 .taken)
+
+returns-2 : tie.Need-returns-2
+unfolding requestTurn answer
+returns-2 c = simp (sym (c .before .before .before .has .ensures) ∙ c .before .if1 .left, not-true (c .before .before .before .before .args .allowed) (c .if2 .taken))
+
+returns-3 : tie.Need-returns-3
+unfolding requestTurn answer
+returns-3 c = simp (sym (c .before .before .before .before .has .ensures) ∙ c .before .before .if1 .left, not-false (c .before .before .before .before .before .args .allowed) (c .before .if2 .left), c .if3 .taken)
+
+request-requires : tie.Need-request-requires
+request-requires c κs = search needs
+
+insert-requires : tie.Need-insert-requires
+insert-requires c κs = search needs
+
+returns-4 : tie.Need-returns-4
+unfolding requestTurn answer
+returns-4 c = simp (sym (c .before .before .before .before .before .before .has .ensures) ∙ c .before .before .before .before .if1 .left, not-false (c .before .before .before .before .before .before .before .args .allowed) (c .before .before .before .if2 .left), c .before .before .if3 .left, c .insert .ensures, c .before .request .ensures)
+
+pub ask-spec : {M : Type 1} → statement M
+ask-spec =
+    tie.close
+    (tie.spec has-requires returns returns-2 returns-3 request-requires insert-requires returns-4)

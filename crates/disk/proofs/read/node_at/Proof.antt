@@ -1,0 +1,38 @@
+-- The block's number is below 128, so the remainder is the number itself. Assumes nothing.
+use borrow.Author.Needs.{needs}
+use Rattle.disk.proofs.Numbers.{node-found, node-missing}
+use Rattle.disk.proofs.read.node_at.Statement.{statement}
+use Rattle.disk.proofs.read.node_at.Tie as tie
+
+node-block-of-requires : tie.Need-node-block-of-requires
+node-block-of-requires c κs = search needs
+
+mul-x : tie.Need-mul-x
+mul-x c = search needs
+
+element-copy-out-x : tie.Need-element-copy-out-x
+element-copy-out-x c = search needs
+
+same-loc-requires : tie.Need-same-loc-requires
+same-loc-requires c κs = search needs
+
+returns : tie.Need-returns
+returns c = node-found (c .before .before .before .before .before .before .before .before .args .device) (c .before .before .before .before .before .before .before .before .args .t2) (c .before .before .before .before .before .before .before .before .args .loc) (c .before .before .before .before .before .before .before .node-block-of .result) (c .before .before .before .before .before .before .before .node-block-of .ensures) (rw (c .before .before .before .same-loc .ensures) at (c .if1 .taken))
+
+no-node-record-requires : tie.Need-no-node-record-requires
+no-node-record-requires c κs = search needs
+
+returns-2 : tie.Need-returns-2
+returns-2 c = rw (c .no-node-record .ensures) (node-missing (c .before .before .before .before .before .before .before .before .before .args .device) (c .before .before .before .before .before .before .before .before .before .args .t2) (c .before .before .before .before .before .before .before .before .before .args .loc) (c .before .before .before .before .before .before .before .before .node-block-of .result) (c .before .before .before .before .before .before .before .before .node-block-of .ensures) (rw (c .before .before .before .before .same-loc .ensures) at (c .before .if1 .left)))
+
+pub node-at-spec : {M : Type 1} → statement M
+node-at-spec =
+    tie.close
+    (tie.spec
+    node-block-of-requires
+    mul-x
+    element-copy-out-x
+    same-loc-requires
+    returns
+    no-node-record-requires
+    returns-2)

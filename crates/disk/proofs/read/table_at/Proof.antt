@@ -1,0 +1,38 @@
+-- The area's number is below 2, so the remainder is the number itself. Assumes nothing.
+use borrow.Author.Needs.{needs}
+use Rattle.disk.proofs.Numbers.{table-found, table-missing}
+use Rattle.disk.proofs.read.table_at.Statement.{statement}
+use Rattle.disk.proofs.read.table_at.Tie as tie
+
+table-area-of-requires : tie.Need-table-area-of-requires
+table-area-of-requires c κs = search needs
+
+mul-x : tie.Need-mul-x
+mul-x c = search needs
+
+element-copy-out-x : tie.Need-element-copy-out-x
+element-copy-out-x c = search needs
+
+same-loc-requires : tie.Need-same-loc-requires
+same-loc-requires c κs = search needs
+
+returns : tie.Need-returns
+returns c = table-found (c .before .before .before .before .before .before .before .before .args .device) (c .before .before .before .before .before .before .before .before .args .t2) (c .before .before .before .before .before .before .before .before .args .loc) (c .before .before .before .before .before .before .before .table-area-of .result) (c .before .before .before .before .before .before .before .table-area-of .ensures) (rw (c .before .before .before .same-loc .ensures) at (c .if1 .taken))
+
+no-table-record-requires : tie.Need-no-table-record-requires
+no-table-record-requires c κs = search needs
+
+returns-2 : tie.Need-returns-2
+returns-2 c = rw (c .no-table-record .ensures) (table-missing (c .before .before .before .before .before .before .before .before .before .args .device) (c .before .before .before .before .before .before .before .before .before .args .t2) (c .before .before .before .before .before .before .before .before .before .args .loc) (c .before .before .before .before .before .before .before .before .table-area-of .result) (c .before .before .before .before .before .before .before .before .table-area-of .ensures) (rw (c .before .before .before .before .same-loc .ensures) at (c .before .if1 .left)))
+
+pub table-at-spec : {M : Type 1} → statement M
+table-at-spec =
+    tie.close
+    (tie.spec
+    table-area-of-requires
+    mul-x
+    element-copy-out-x
+    same-loc-requires
+    returns
+    no-table-record-requires
+    returns-2)

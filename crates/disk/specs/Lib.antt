@@ -1,0 +1,5 @@
+pub mod Crash
+pub mod Form
+pub mod Ops
+pub mod Records
+pub mod Upstream

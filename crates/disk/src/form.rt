@@ -1,0 +1,163 @@
+// The disk's one written form (number 1): each record in its own form and place, each queue in its form with places that 16 allows.
+ghost use mathlib.Core.Path.{_≡_};
+ghost use Rattle.disk.specs.Form.{tableRecordChecked, nodeRecordChecked, tablesChecked, nodesChecked, recordsChecked, tableRequestOk, nodeRequestOk, tableQueueForm, nodeQueueForm, queuesForm, diskForm};
+use crate::Checked;
+use crate::Disk;
+use crate::NodeRecord;
+use crate::Queues;
+use crate::Records;
+use crate::TableRecord;
+use queue::Request;
+use queue::Requests;
+
+// One record of table area k.
+fn table_record_ok(device: u64, k: u64, r: TableRecord) -> Checked
+    ensures { λ c. ⌜ c ≡ tableRecordChecked device k r ⌝ }
+{
+    let there = r.present;
+    let loc = r.loc;
+    let table = r.table;
+    let form = sector::table_form(table);
+    let nowhere = sector::loc_zero(loc);
+    let allowed = layout::table_place_in(device, k, loc);
+    Checked {
+        form: form & (there | (nowhere & (table.count == 0))),
+        placed: !there | allowed.yes,
+    }
+}
+
+// One record of node block k.
+fn node_record_ok(device: u64, k: u64, r: NodeRecord) -> Checked
+    ensures { λ c. ⌜ c ≡ nodeRecordChecked device k r ⌝ }
+{
+    let there = r.present;
+    let loc = r.loc;
+    let node = r.node;
+    let form = sector::node_form(node);
+    let zero = sector::node_zero(node);
+    let nowhere = sector::loc_zero(loc);
+    let allowed = layout::node_place_in(device, k, loc);
+    Checked {
+        form: form & (there | (nowhere & zero)),
+        placed: !there | allowed.yes,
+    }
+}
+
+fn tables_ok(device: u64, tables: [TableRecord; 2]) -> Checked
+    ensures { λ c. ⌜ c ≡ tablesChecked device tables ⌝ }
+{
+    let first = tables[0];
+    let second = tables[1];
+    let a = table_record_ok(device, 0, first);
+    let b = table_record_ok(device, 1, second);
+    Checked {
+        form: a.form & b.form,
+        placed: a.placed & b.placed,
+    }
+}
+
+fn nodes_ok(device: u64, nodes: [NodeRecord; 128]) -> Checked
+    ensures { λ c. ⌜ c ≡ nodesChecked device nodes ⌝ }
+{
+    let mut form = true;
+    let mut placed = true;
+    let mut i: usize = 0;
+    while i < 128 {
+        let r = nodes[i];
+        let c = node_record_ok(device, i as u64, r);
+        form = form & c.form;
+        placed = placed & c.placed;
+        i += 1;
+    }
+    Checked { form, placed }
+}
+
+// Stored records, and those offered to a crash, are walked once.
+pub fn records_ok(device: u64, r: Records) -> Checked
+    ensures { λ c. ⌜ c ≡ recordsChecked device r ⌝ }
+{
+    let tables = r.tables;
+    let nodes = r.nodes;
+    let a = tables_ok(device, tables);
+    let b = nodes_ok(device, nodes);
+    Checked {
+        form: a.form & b.form,
+        placed: a.placed & b.placed,
+    }
+}
+
+fn table_request_ok(device: u64, w: Request) -> bool
+    ensures { λ b. ⌜ b ≡ tableRequestOk device w ⌝ }
+{
+    let loc = w.loc;
+    let allowed = layout::valid_indirection_table_location(device, loc);
+    (w.reference == 0) & allowed.yes
+}
+
+fn node_request_ok(device: u64, w: Request) -> bool
+    ensures { λ b. ⌜ b ≡ nodeRequestOk device w ⌝ }
+{
+    let loc = w.loc;
+    let allowed = layout::node_place(device, loc);
+    (w.reference == 0) & allowed.yes
+}
+
+fn table_queue_ok(device: u64, q: Requests) -> bool
+    ensures { λ b. ⌜ b ≡ tableQueueForm device q ⌝ }
+{
+    let form = queue::form(q);
+    let n = q.count as usize;
+    let mut good = true;
+    let mut i: usize = 0;
+    while i < 16 {
+        let w = q.at[i];
+        let p = table_request_ok(device, w);
+        good = good & (!(i < n) | p);
+        i += 1;
+    }
+    form & good
+}
+
+fn node_queue_ok(device: u64, q: Requests) -> bool
+    ensures { λ b. ⌜ b ≡ nodeQueueForm device q ⌝ }
+{
+    let form = queue::form(q);
+    let n = q.count as usize;
+    let mut good = true;
+    let mut i: usize = 0;
+    while i < 16 {
+        let w = q.at[i];
+        let p = node_request_ok(device, w);
+        good = good & (!(i < n) | p);
+        i += 1;
+    }
+    form & good
+}
+
+fn queues_ok(device: u64, qs: Queues) -> bool
+    ensures { λ b. ⌜ b ≡ queuesForm device qs ⌝ }
+{
+    let a = qs.tablereads;
+    let b = qs.nodereads;
+    let c = qs.tablewrites;
+    let d = qs.nodewrites;
+    let p = table_queue_ok(device, a);
+    let q = node_queue_ok(device, b);
+    let r = table_queue_ok(device, c);
+    let s = node_queue_ok(device, d);
+    p & q & r & s
+}
+
+impl Disk {
+    // Whether the disk is in its one written form on this device; on a device that is not made, none is.
+    pub fn form(self, device: u64) -> bool
+        ensures { λ b. ⌜ b ≡ diskForm device self ⌝ }
+    {
+        let records = self.records;
+        let queues = self.queues;
+        let c = records_ok(device, records);
+        let q = queues_ok(device, queues);
+        let known = device <= 2;
+        known & c.form & c.placed & q
+    }
+}

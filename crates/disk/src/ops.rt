@@ -1,0 +1,393 @@
+// Upstream's transitions of the disk: four requests, four answers, no operation. The entry judges the written form once, before all.
+ghost use mathlib.Core.Path.{_≡_};
+ghost use Rattle.sector.specs.Form.{zeroNode, emptyTable};
+ghost use Rattle.disk.specs.Ops.{requestOf, requestTurn, answerTurn, somethingIn, wrongTable, wrongNode, obeyedOp, obeyed, diskStep};
+use crate::Brought;
+use crate::Disk;
+use crate::DiskCall;
+use crate::DiskOp;
+use crate::DiskOutcome;
+use crate::Turn;
+use crate::read::node_at;
+use crate::read::table_at;
+use crate::read::with_node;
+use crate::read::with_table;
+use layout::Location;
+use queue::Request;
+use queue::Requests;
+use sector::Node;
+use sector::Table;
+
+fn request(id: u64, loc: Location) -> Request
+    ensures { λ w. ⌜ w ≡ requestOf id loc ⌝ }
+{
+    Request {
+        id,
+        reference: 0,
+        loc,
+    }
+}
+
+// A request: 15 if its id is in the queue, 16 if its place is not allowed, 18 if the queue holds 16.
+fn ask(q: Requests, id: u64, loc: Location, allowed: bool) -> Turn
+    ensures { λ t. ⌜ t ≡ requestTurn q id loc allowed ⌝ }
+{
+    let known = queue::has(q, id);
+    let full = 16 <= q.count;
+    if known {
+        return Turn {
+            answer: 15,
+            queue: q,
+        };
+    }
+    if !allowed {
+        return Turn {
+            answer: 16,
+            queue: q,
+        };
+    }
+    if full {
+        return Turn {
+            answer: 18,
+            queue: q,
+        };
+    }
+    let w = request(id, loc);
+    let next = queue::insert(q, w);
+    Turn {
+        answer: 0,
+        queue: next,
+    }
+}
+
+// An answer: 15 if its id is not in the queue, 17 if it brings something else than is stored.
+fn take(q: Requests, id: u64, wrong: bool) -> Turn
+    ensures { λ t. ⌜ t ≡ answerTurn q id wrong ⌝ }
+{
+    let known = queue::has(q, id);
+    if !known {
+        return Turn {
+            answer: 15,
+            queue: q,
+        };
+    }
+    if wrong {
+        return Turn {
+            answer: 17,
+            queue: q,
+        };
+    }
+    let next = queue::remove(q, id);
+    Turn {
+        answer: 0,
+        queue: next,
+    }
+}
+
+// A read answer that brings nothing is never wrong.
+fn brings(b: Brought) -> bool
+    ensures { λ r. ⌜ r ≡ somethingIn b ⌝ }
+{
+    let Brought::Something = b else {
+        return false;
+    };
+    true
+}
+
+impl Disk {
+    // Whether a table read answer brings something else than is stored at exactly the place asked for.
+    fn wrong_table(self, device: u64, id: u64, b: Brought, table: Table) -> bool
+        ensures { λ r. ⌜ r ≡ wrongTable device self id b table ⌝ }
+    {
+        let qs = self.queues;
+        let q = qs.tablereads;
+        let w = queue::entry(q, id);
+        let records = self.records;
+        let loc = w.loc;
+        let x = table_at(device, records, loc);
+        let stored = x.table;
+        let same = sector::same_table(stored, table);
+        let some = brings(b);
+        some & !(x.present & same)
+    }
+
+    // Whether a node read answer brings something else than is stored at exactly the place asked for.
+    fn wrong_node(self, device: u64, id: u64, b: Brought, node: Node) -> bool
+        ensures { λ r. ⌜ r ≡ wrongNode device self id b node ⌝ }
+    {
+        let qs = self.queues;
+        let q = qs.nodereads;
+        let w = queue::entry(q, id);
+        let records = self.records;
+        let loc = w.loc;
+        let x = node_at(device, records, loc);
+        let stored = x.node;
+        let same = sector::same_node(stored, node);
+        let some = brings(b);
+        some & !(x.present & same)
+    }
+
+    fn recv_read_indirection_table(mut self, device: u64, id: u64, loc: Location) -> DiskOutcome
+        ensures { λ o. ⌜ o ≡ obeyedOp device self (DiskOp.ReqReadIndirectionTableOp id loc) zeroNode emptyTable ⌝ }
+    {
+        let mut qs = self.queues;
+        let q = qs.tablereads;
+        let allowed = layout::valid_indirection_table_location(device, loc);
+        let t = ask(q, id, loc, allowed.yes);
+        let n = t.answer;
+        if n != 0 {
+            return DiskOutcome {
+                answer: n,
+                disk: self,
+            };
+        }
+        let next = t.queue;
+        qs.tablereads = next;
+        self.queues = qs;
+        DiskOutcome {
+            answer: 0,
+            disk: self,
+        }
+    }
+
+    fn recv_read_node(mut self, device: u64, id: u64, loc: Location) -> DiskOutcome
+        ensures { λ o. ⌜ o ≡ obeyedOp device self (DiskOp.ReqReadNodeOp id loc) zeroNode emptyTable ⌝ }
+    {
+        let mut qs = self.queues;
+        let q = qs.nodereads;
+        let allowed = layout::node_place(device, loc);
+        let t = ask(q, id, loc, allowed.yes);
+        let n = t.answer;
+        if n != 0 {
+            return DiskOutcome {
+                answer: n,
+                disk: self,
+            };
+        }
+        let next = t.queue;
+        qs.nodereads = next;
+        self.queues = qs;
+        DiskOutcome {
+            answer: 0,
+            disk: self,
+        }
+    }
+
+    // The write takes effect at once: it replaces its area's record and nothing else.
+    fn recv_write_indirection_table(
+        mut self,
+        device: u64,
+        id: u64,
+        loc: Location,
+        table: Table,
+    ) -> DiskOutcome
+        ensures { λ o. ⌜ o ≡ obeyedOp device self (DiskOp.ReqWriteIndirectionTableOp id loc) zeroNode table ⌝ }
+    {
+        let mut qs = self.queues;
+        let q = qs.tablewrites;
+        let allowed = layout::valid_indirection_table_location(device, loc);
+        let t = ask(q, id, loc, allowed.yes);
+        let n = t.answer;
+        if n != 0 {
+            return DiskOutcome {
+                answer: n,
+                disk: self,
+            };
+        }
+        let next = t.queue;
+        qs.tablewrites = next;
+        let old = self.records;
+        let records = with_table(device, old, loc, table);
+        self.queues = qs;
+        self.records = records;
+        DiskOutcome {
+            answer: 0,
+            disk: self,
+        }
+    }
+
+    // The write takes effect at once: it replaces its block's record and nothing else.
+    fn recv_write_node(mut self, device: u64, id: u64, loc: Location, node: Node) -> DiskOutcome
+        ensures { λ o. ⌜ o ≡ obeyedOp device self (DiskOp.ReqWriteNodeOp id loc) node emptyTable ⌝ }
+    {
+        let mut qs = self.queues;
+        let q = qs.nodewrites;
+        let allowed = layout::node_place(device, loc);
+        let t = ask(q, id, loc, allowed.yes);
+        let n = t.answer;
+        if n != 0 {
+            return DiskOutcome {
+                answer: n,
+                disk: self,
+            };
+        }
+        let next = t.queue;
+        qs.nodewrites = next;
+        let old = self.records;
+        let records = with_node(device, old, loc, node);
+        self.queues = qs;
+        self.records = records;
+        DiskOutcome {
+            answer: 0,
+            disk: self,
+        }
+    }
+
+    fn ack_read_indirection_table(
+        mut self,
+        device: u64,
+        id: u64,
+        b: Brought,
+        table: Table,
+    ) -> DiskOutcome
+        ensures { λ o. ⌜ o ≡ obeyedOp device self (DiskOp.RespReadIndirectionTableOp id b) zeroNode table ⌝ }
+    {
+        let wrong = self.wrong_table(device, id, b, table);
+        let mut qs = self.queues;
+        let q = qs.tablereads;
+        let t = take(q, id, wrong);
+        let n = t.answer;
+        if n != 0 {
+            return DiskOutcome {
+                answer: n,
+                disk: self,
+            };
+        }
+        let next = t.queue;
+        qs.tablereads = next;
+        self.queues = qs;
+        DiskOutcome {
+            answer: 0,
+            disk: self,
+        }
+    }
+
+    fn ack_read_node(mut self, device: u64, id: u64, b: Brought, node: Node) -> DiskOutcome
+        ensures { λ o. ⌜ o ≡ obeyedOp device self (DiskOp.RespReadNodeOp id b) node emptyTable ⌝ }
+    {
+        let wrong = self.wrong_node(device, id, b, node);
+        let mut qs = self.queues;
+        let q = qs.nodereads;
+        let t = take(q, id, wrong);
+        let n = t.answer;
+        if n != 0 {
+            return DiskOutcome {
+                answer: n,
+                disk: self,
+            };
+        }
+        let next = t.queue;
+        qs.nodereads = next;
+        self.queues = qs;
+        DiskOutcome {
+            answer: 0,
+            disk: self,
+        }
+    }
+
+    fn ack_write_indirection_table(mut self, device: u64, id: u64) -> DiskOutcome
+        ensures { λ o. ⌜ o ≡ obeyedOp device self (DiskOp.RespWriteIndirectionTableOp id) zeroNode emptyTable ⌝ }
+    {
+        let mut qs = self.queues;
+        let q = qs.tablewrites;
+        let t = take(q, id, false);
+        let n = t.answer;
+        if n != 0 {
+            return DiskOutcome {
+                answer: n,
+                disk: self,
+            };
+        }
+        let next = t.queue;
+        qs.tablewrites = next;
+        self.queues = qs;
+        DiskOutcome {
+            answer: 0,
+            disk: self,
+        }
+    }
+
+    fn ack_write_node(mut self, device: u64, id: u64) -> DiskOutcome
+        ensures { λ o. ⌜ o ≡ obeyedOp device self (DiskOp.RespWriteNodeOp id) zeroNode emptyTable ⌝ }
+    {
+        let mut qs = self.queues;
+        let q = qs.nodewrites;
+        let t = take(q, id, false);
+        let n = t.answer;
+        if n != 0 {
+            return DiskOutcome {
+                answer: n,
+                disk: self,
+            };
+        }
+        let next = t.queue;
+        qs.nodewrites = next;
+        self.queues = qs;
+        DiskOutcome {
+            answer: 0,
+            disk: self,
+        }
+    }
+
+    fn stutter(self, device: u64) -> DiskOutcome
+        ensures { λ o. ⌜ o ≡ obeyedOp device self DiskOp.NoDiskOp zeroNode emptyTable ⌝ }
+    {
+        DiskOutcome {
+            answer: 0,
+            disk: self,
+        }
+    }
+
+    // The operation alone, on a disk and a call in their written form.
+    fn obey(self, device: u64, call: DiskCall) -> DiskOutcome
+        ensures { λ o. ⌜ o ≡ obeyed device self call ⌝ }
+    {
+        let op = call.op;
+        let node = call.node;
+        let table = call.table;
+        match op {
+            DiskOp::ReqReadIndirectionTableOp(id, loc) => self.recv_read_indirection_table(
+                device,
+                id,
+                loc,
+            ),
+            DiskOp::ReqReadNodeOp(id, loc) => self.recv_read_node(device, id, loc),
+            DiskOp::ReqWriteIndirectionTableOp(id, loc) => self.recv_write_indirection_table(
+                device,
+                id,
+                loc,
+                table,
+            ),
+            DiskOp::ReqWriteNodeOp(id, loc) => self.recv_write_node(device, id, loc, node),
+            DiskOp::RespReadIndirectionTableOp(id, b) => self.ack_read_indirection_table(
+                device,
+                id,
+                b,
+                table,
+            ),
+            DiskOp::RespReadNodeOp(id, b) => self.ack_read_node(device, id, b, node),
+            DiskOp::RespWriteIndirectionTableOp(id) => self.ack_write_indirection_table(device, id),
+            DiskOp::RespWriteNodeOp(id) => self.ack_write_node(device, id),
+            DiskOp::NoDiskOp => self.stutter(device),
+        }
+    }
+
+    // Any call on any disk.
+    pub fn next(self, device: u64, call: DiskCall) -> DiskOutcome
+        ensures { λ o. ⌜ o ≡ diskStep device self call ⌝ }
+    {
+        let node = call.node;
+        let table = call.table;
+        let form = self.form(device);
+        let noded = sector::node_form(node);
+        let tabled = sector::table_form(table);
+        let good = form & noded & tabled;
+        if good {
+            return self.obey(device, call);
+        }
+        DiskOutcome {
+            answer: 1,
+            disk: self,
+        }
+    }
+}

@@ -1,0 +1,39 @@
+// A million calls of the disk that do nothing but judge its written form, to be timed: `time target/bin/formspeed`.
+// Prints how many were accepted.
+use disk::Disk;
+use disk::DiskCall;
+use disk::DiskOp;
+
+fn empty() -> Disk {
+    let records = disk::no_records();
+    let queues = disk::no_queues();
+    Disk { records, queues }
+}
+
+// One call; 1 if it was accepted.
+fn turn(s: Disk) -> u64 {
+    let node = sector::empty_node();
+    let table = sector::empty_table();
+    let c = DiskCall {
+        op: DiskOp::NoDiskOp,
+        node,
+        table,
+    };
+    let o = s.next(0, c);
+    if o.answer == 0 { 1 } else { 0 }
+}
+
+fn main() {
+    let s = empty();
+    let mut accepted: u64 = 0;
+    let mut i: u64 = 0;
+    while i < 1000000 {
+        let n = turn(s);
+        if n == 1 {
+            accepted += 1;
+        }
+        i += 1;
+    }
+    io::print_decimal(1, accepted);
+    io::write_all(1, b"\n");
+}

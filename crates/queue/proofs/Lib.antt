@@ -1,0 +1,2 @@
+-- The laws of the queue.
+pub mod Laws

@@ -1,0 +1,55 @@
+-- A scan with a flag; each place has its own test. Assumes nothing.
+use Prim.Native.Nat.{_-_, _≤_}
+use mathlib.Core.Path.{_≡_}
+use borrow.Author.Needs.{needs}
+use borrow.Author.Tests.{eq-eqb}
+use lib.ListN.{length}
+use Rattle.base.proofs.Scan.{all-end, all-none, all-turn}
+use Rattle.base.specs.Scan.{allBelow}
+use Rattle.sector.proofs.form.succs_form.Statement.{statement}
+use Rattle.sector.specs.Form.{succAt, succOk, succsForm}
+use Rattle.sector.proofs.form.succs_form.Tie as tie
+
+abbrev Inv-loop : tie.InvT-loop
+Inv-loop s good₀ i₀ good i = (i ≤ 8) × (good ≡ allBelow (λ k. succOk (s .count) k (succAt s k)) i)
+
+abbrev μ-loop : tie.MeasureT-loop
+μ-loop s good₀ i₀ good i = 8 - i
+
+loop-holds : tie.Need-loop-holds Inv-loop μ-loop
+loop-holds c = (search needs, all-none _)
+
+element-copy-out-succ-ok : tie.Need-element-copy-out-succ-ok Inv-loop μ-loop
+element-copy-out-succ-ok c = search needs
+
+succ-ok-requires : tie.Need-succ-ok-requires Inv-loop μ-loop
+succ-ok-requires c κs = search needs
+
+add-i : tie.Need-add-i Inv-loop μ-loop
+add-i c = search needs
+
+loop-less : tie.Need-loop-less Inv-loop μ-loop
+loop-less c = search needs
+
+loop-again : tie.Need-loop-again Inv-loop μ-loop
+loop-again c = (search needs, all-turn _ _ (c .before .before .before .loop .inv .1) (c .succ-ok .ensures))
+
+returns : tie.Need-returns Inv-loop μ-loop
+unfolding succsForm
+returns c =
+    let l : length ((c .before .before .args .t1) .at) ≡ 8 = search needs in
+    simp (eq-eqb _ _ l, all-end _ (c .before .loop .inv .1) (c .before .loop .inv .0) (c .loop-test .left))
+
+pub succs-form-spec : {M : Type 1} → statement M
+succs-form-spec =
+    tie.close
+    (tie.spec
+    Inv-loop
+    μ-loop
+    loop-holds
+    element-copy-out-succ-ok
+    succ-ok-requires
+    add-i
+    loop-less
+    loop-again
+    returns)

@@ -1,0 +1,4 @@
+pub mod Abstract
+pub mod Form
+pub mod Graph
+pub mod Same

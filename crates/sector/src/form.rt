@@ -1,0 +1,152 @@
+// Whether a record is in its one written form and within the limits: a reference is 0 to 63, a list has 0 to 8, unused places are
+// zeros, and a count is the number of places in use.
+ghost use mathlib.Core.Path.{_≡_};
+ghost use Rattle.base.specs.Scan.{bit, countBelow};
+ghost use Rattle.sector.specs.Form.{succOk, succsForm, succsZero, locZero, nodeForm, nodeZero, entryForm, tableForm, slotForm, nodesForm, allocatedAt, presentAt};
+use crate::Entry;
+use crate::Node;
+use crate::Nodes;
+use crate::Slot;
+use crate::Succs;
+use crate::Table;
+use layout::Location;
+
+// Place k of a list of `count` holds r.
+fn succ_ok(count: u8, k: usize, r: u8) -> bool
+    ensures { λ b. ⌜ b ≡ succOk count k r ⌝ }
+{
+    let n = count as usize;
+    let used = k < n;
+    (used & (r <= 63)) | (!used & (r == 0))
+}
+
+pub fn succs_form(s: Succs) -> bool
+    ensures { λ r. ⌜ r ≡ succsForm s ⌝ }
+{
+    let mut good = true;
+    let mut i: usize = 0;
+    while i < 8 {
+        let p = succ_ok(s.count, i, s.at[i]);
+        good = good & p;
+        i += 1;
+    }
+    (s.count <= 8) & good
+}
+
+pub fn succs_zero(s: Succs) -> bool
+    ensures { λ r. ⌜ r ≡ succsZero s ⌝ }
+{
+    let form = succs_form(s);
+    (s.count == 0) & form
+}
+
+pub fn loc_zero(l: Location) -> bool
+    ensures { λ r. ⌜ r ≡ locZero l ⌝ }
+{
+    (l.addr == 0) & (l.len == 0)
+}
+
+pub fn node_form(n: Node) -> bool
+    ensures { λ r. ⌜ r ≡ nodeForm n ⌝ }
+{
+    let s = n.succs;
+    succs_form(s)
+}
+
+pub fn node_zero(n: Node) -> bool
+    ensures { λ r. ⌜ r ≡ nodeZero n ⌝ }
+{
+    let s = n.succs;
+    let zero = succs_zero(s);
+    (n.contents == 0) & zero
+}
+
+fn entry_form(e: Entry) -> bool
+    ensures { λ r. ⌜ r ≡ entryForm e ⌝ }
+{
+    let s = e.succs;
+    let loc = e.loc;
+    let form = succs_form(s);
+    let blank = s.count == 0;
+    let nowhere = loc_zero(loc);
+    let used = e.allocated;
+    let placed = e.located;
+    form & (placed | nowhere) & (used | (!placed & blank))
+}
+
+fn one_if(b: bool) -> u8
+    ensures { λ r. ⌜ r ≡ bit b ⌝ }
+{
+    if b { 1 } else { 0 }
+}
+
+// How many of a table's references are allocated.
+pub fn count_allocated(entries: [Entry; 64]) -> u8
+    ensures { λ r. ⌜ r ≡ countBelow (allocatedAt entries) 64 ⌝ }
+{
+    let mut n: u8 = 0;
+    let mut i: usize = 0;
+    while i < 64 {
+        let e = entries[i];
+        let x = one_if(e.allocated);
+        n += x;
+        i += 1;
+    }
+    n
+}
+
+pub fn table_form(t: Table) -> bool
+    ensures { λ r. ⌜ r ≡ tableForm t ⌝ }
+{
+    let entries = t.entries;
+    let n = count_allocated(entries);
+    let mut good = true;
+    let mut i: usize = 0;
+    while i < 64 {
+        let e = t.entries[i];
+        let p = entry_form(e);
+        good = good & p;
+        i += 1;
+    }
+    (t.count == n) & good
+}
+
+fn slot_form(s: Slot) -> bool
+    ensures { λ r. ⌜ r ≡ slotForm s ⌝ }
+{
+    let node = s.node;
+    let form = node_form(node);
+    let zero = node_zero(node);
+    form & (s.present | zero)
+}
+
+// How many references a map of nodes has.
+pub fn count_present(slots: [Slot; 64]) -> u8
+    ensures { λ r. ⌜ r ≡ countBelow (presentAt slots) 64 ⌝ }
+{
+    let mut n: u8 = 0;
+    let mut i: usize = 0;
+    while i < 64 {
+        let s = slots[i];
+        let x = one_if(s.present);
+        n += x;
+        i += 1;
+    }
+    n
+}
+
+pub fn nodes_form(m: Nodes) -> bool
+    ensures { λ r. ⌜ r ≡ nodesForm m ⌝ }
+{
+    let slots = m.slots;
+    let n = count_present(slots);
+    let mut good = true;
+    let mut i: usize = 0;
+    while i < 64 {
+        let s = m.slots[i];
+        let p = slot_form(s);
+        good = good & p;
+        i += 1;
+    }
+    (m.count == n) & good
+}
