@@ -1,0 +1,20 @@
+-- The theory of the cache.
+pub mod Bounds
+pub mod Bridge
+pub mod Demand2
+pub mod FormKept
+pub mod Forms
+pub mod Frames
+pub mod GraphSteps
+pub mod InvGraph
+pub mod InvKept
+pub mod InvLaws
+pub mod InvReads
+pub mod InvWrites
+pub mod Numbers
+pub mod OpKinds
+pub mod OtherSteps
+pub mod Outcomes
+pub mod ReadSteps
+pub mod Waiting
+pub mod WriteSteps

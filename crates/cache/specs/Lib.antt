@@ -1,0 +1,10 @@
+pub mod Form
+pub mod Narrowings
+pub mod Next
+pub mod Ops
+pub mod Rows
+pub mod Scan
+pub mod Step
+pub mod Steps
+pub mod Upstream
+pub mod UpstreamInv

@@ -1,0 +1,194 @@
+// The cache's one written form: what a phase doesn't have is zeros.
+ghost use mathlib.Core.Path.{_≡_};
+ghost use Rattle.cache.specs.Form.{writesForm, readsForm, tablesForm, placesForm, awaitedForm, outstandingForm, idle, phaseForm, cacheForm, callForm, emptyCache, loadingAt};
+use crate::Awaited;
+use crate::Cache;
+use crate::Call;
+use crate::Outstanding;
+use crate::Phase;
+use crate::Places;
+use crate::Tables;
+use layout::Location;
+use queue::Requests;
+
+// Each write that is outstanding is of a reference.
+fn writes_form(q: Requests) -> bool
+    ensures { λ b. ⌜ b ≡ writesForm q ⌝ }
+{
+    let form = queue::form(q);
+    let n = q.count as usize;
+    let mut good = true;
+    let mut i: usize = 0;
+    while i < 16 {
+        let w = q.at[i];
+        good = good & (!(i < n) | (w.reference <= 63));
+        i += 1;
+    }
+    form & good
+}
+
+// Each read that is outstanding is of a reference; its place is kept zero.
+fn reads_form(q: Requests) -> bool
+    ensures { λ b. ⌜ b ≡ readsForm q ⌝ }
+{
+    let form = queue::form(q);
+    let n = q.count as usize;
+    let mut good = true;
+    let mut i: usize = 0;
+    while i < 16 {
+        let w = q.at[i];
+        let loc = w.loc;
+        let nowhere = sector::loc_zero(loc);
+        good = good & (!(i < n) | ((w.reference <= 63) & nowhere));
+        i += 1;
+    }
+    form & good
+}
+
+fn tables_form(ts: Tables) -> bool
+    ensures { λ b. ⌜ b ≡ tablesForm ts ⌝ }
+{
+    let p = ts.persistent;
+    let e = ts.ephemeral;
+    let f = ts.frozen;
+    let a = sector::table_form(p);
+    let b = sector::table_form(e);
+    let c = sector::table_form(f);
+    a & b & c & (ts.isfrozen | (f.count == 0))
+}
+
+fn places_form(ps: Places) -> bool
+    ensures { λ b. ⌜ b ≡ placesForm ps ⌝ }
+{
+    let f = ps.frozen;
+    let nowhere = sector::loc_zero(f);
+    ps.isfrozen | nowhere
+}
+
+fn awaited_form(a: Awaited) -> bool
+    ensures { λ b. ⌜ b ≡ awaitedForm a ⌝ }
+{
+    a.waiting | (a.id == 0)
+}
+
+fn outstanding_form(o: Outstanding) -> bool
+    ensures { λ b. ⌜ b ≡ outstandingForm o ⌝ }
+{
+    let w = o.writes;
+    let r = o.reads;
+    let a = writes_form(w);
+    let b = reads_form(r);
+    a & b
+}
+
+impl Cache {
+    // No table, no frozen place, nothing outstanding, nothing cached.
+    fn idle(self) -> bool
+        ensures { λ b. ⌜ b ≡ idle self ⌝ }
+    {
+        let ts = self.tables;
+        let ps = self.places;
+        let o = self.outstanding;
+        let p = ts.persistent;
+        let e = ts.ephemeral;
+        let w = o.writes;
+        let r = o.reads;
+        let m = self.nodes;
+        (p.count == 0)
+            & (e.count == 0)
+            & !ts.isfrozen
+            & !ps.isfrozen
+            & (w.count == 0)
+            & (r.count == 0)
+            & (m.count == 0)
+    }
+
+    // What the phase doesn't have is zeros.
+    fn phase_form(self) -> bool
+        ensures { λ b. ⌜ b ≡ phaseForm self ⌝ }
+    {
+        let phase = self.phase;
+        let idle = self.idle();
+        let ps = self.places;
+        let p = ps.persistent;
+        let a = self.awaited;
+        let nowhere = sector::loc_zero(p);
+        match phase {
+            Phase::Unready => idle & nowhere & !a.waiting,
+            Phase::Loading => idle,
+            Phase::Ready => true,
+        }
+    }
+
+    pub fn form(self) -> bool
+        ensures { λ b. ⌜ b ≡ cacheForm self ⌝ }
+    {
+        let ts = self.tables;
+        let ps = self.places;
+        let a = self.awaited;
+        let o = self.outstanding;
+        let m = self.nodes;
+        let tables = tables_form(ts);
+        let places = places_form(ps);
+        let awaited = awaited_form(a);
+        let outstanding = outstanding_form(o);
+        let nodes = sector::nodes_form(m);
+        let phase = self.phase_form();
+        tables & places & awaited & outstanding & nodes & phase
+    }
+}
+
+// The reference is one, node and table are in their written form. What a step doesn't use is judged all the same.
+pub fn call_form(q: Call) -> bool
+    ensures { λ b. ⌜ b ≡ callForm q ⌝ }
+{
+    let n = q.node;
+    let t = q.table;
+    let node = sector::node_form(n);
+    let table = sector::table_form(t);
+    (q.reference <= 63) & node & table
+}
+
+// The cache that has nothing.
+pub fn unready() -> Cache
+    ensures { λ c. ⌜ c ≡ emptyCache ⌝ }
+{
+    let nowhere = sector::empty_loc();
+    loading(Phase::Unready, nowhere)
+}
+
+// A cache in a phase before Ready, with the place being loaded.
+pub(crate) fn loading(phase: Phase, place: Location) -> Cache
+    ensures { λ c. ⌜ c ≡ loadingAt phase place ⌝ }
+{
+    let p = sector::empty_table();
+    let e = sector::empty_table();
+    let f = sector::empty_table();
+    let nowhere = sector::empty_loc();
+    let w = queue::none();
+    let r = queue::none();
+    let nodes = sector::empty_nodes();
+    Cache {
+        phase,
+        tables: Tables {
+            persistent: p,
+            ephemeral: e,
+            isfrozen: false,
+            frozen: f,
+        },
+        places: Places {
+            persistent: place,
+            isfrozen: false,
+            frozen: nowhere,
+        },
+        awaited: Awaited {
+            waiting: false,
+            id: 0,
+        },
+        outstanding: Outstanding {
+            writes: w,
+            reads: r,
+        },
+        nodes,
+    }
+}

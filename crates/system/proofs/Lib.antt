@@ -1,0 +1,19 @@
+-- The theory of the joined store: demand 2 for the joined call, and demand 3.
+pub mod Invariant
+pub mod Laws
+pub mod KeepQueues
+pub mod KeepTables
+pub mod KeepNodes
+pub mod KeepWrite
+pub mod KeepSteps
+pub mod Accepting
+pub mod Stories
+pub mod Tallies
+pub mod Counting
+pub mod Keep
+pub mod Answering
+pub mod Formatted
+pub mod Demand3
+pub mod Starting
+pub mod Demand2
+pub mod FormattedInit

@@ -1,0 +1,22 @@
+-- By what the callees ensure. Assumes nothing.
+use borrow.Author.Needs.{needs}
+use Rattle.system.proofs.formatting.root_table.Statement.{statement}
+use Rattle.system.specs.Format.{rootTable}
+use Rattle.system.proofs.formatting.root_table.Tie as tie
+
+empty-table-requires : tie.Need-empty-table-requires
+empty-table-requires c κs = search needs
+
+empty-entry-requires : tie.Need-empty-entry-requires
+empty-entry-requires c κs = search needs
+
+with-entry-requires : tie.Need-with-entry-requires
+with-entry-requires c κs = search needs
+
+returns : tie.Need-returns
+unfolding rootTable
+returns c = simp (c .with-entry .ensures, c .before .empty-entry .ensures, c .before .before .empty-table .ensures)
+
+pub root-table-spec : {M : Type 1} → statement M
+root-table-spec =
+    tie.close (tie.spec empty-table-requires empty-entry-requires with-entry-requires returns)

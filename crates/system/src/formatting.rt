@@ -1,0 +1,145 @@
+// Formatting: the root in the first node block, its table in area 1, all else empty; and the names and pictures at first.
+ghost use mathlib.Core.Path.{_≡_};
+ghost use Rattle.system.specs.Format.{rootNode, rootPlace, tablePlaceOf, rootTable, formattedRecords, emptyDisk, formatted};
+ghost use Rattle.system.specs.Names.{noName, withRoot, firstStory};
+use crate::Named;
+use crate::Outcome;
+use crate::Story;
+use disk::Disk;
+use disk::NodeRecord;
+use disk::Records;
+use disk::TableRecord;
+use layout::Location;
+use sector::Entry;
+use sector::Node;
+use sector::Nodes;
+use sector::Slot;
+use sector::Table;
+
+fn root_node(contents: u64) -> Node
+    ensures { λ n. ⌜ n ≡ rootNode contents ⌝ }
+{
+    let mut n = sector::empty_node();
+    n.contents = contents;
+    n
+}
+
+fn root_place(addr: u64) -> Location
+    ensures { λ l. ⌜ l ≡ record { addr = addr; len = 4096 } ⌝ }
+{
+    Location { addr, len: 4096 }
+}
+
+fn root_table(place: Location) -> Table
+    ensures { λ t. ⌜ t ≡ rootTable place ⌝ }
+{
+    let t = sector::empty_table();
+    let mut e = sector::empty_entry();
+    e.allocated = true;
+    e.located = true;
+    e.loc = place;
+    sector::with_entry(t, 0, e)
+}
+
+fn formatted_records(at: Location, place: Location, contents: u64) -> Records
+    ensures { λ r. ⌜ r ≡ formattedRecords at place contents ⌝ }
+{
+    let table = root_table(place);
+    let node = root_node(contents);
+    let mut r = disk::no_records();
+    let mut tables = r.tables;
+    let mut nodes = r.nodes;
+    let x = TableRecord {
+        present: true,
+        loc: at,
+        table,
+    };
+    let y = NodeRecord {
+        present: true,
+        loc: place,
+        node,
+    };
+    tables[0] = x;
+    nodes[0] = y;
+    r.tables = tables;
+    r.nodes = nodes;
+    r
+}
+
+// A newly formatted device; one above 2 gives 1 and zeros.
+pub fn format(device: u64, contents: u64) -> Outcome
+    ensures { λ o. ⌜ o ≡ formatted device contents ⌝ }
+{
+    let node = sector::empty_node();
+    let cache = cache::unready();
+    let queues = disk::no_queues();
+    if 2 < device {
+        let records = disk::no_records();
+        let disk = Disk { records, queues };
+        return Outcome {
+            answer: 1,
+            node,
+            cache,
+            disk,
+        };
+    }
+    let t = layout::indirection_table1_addr(device);
+    let n = layout::first_node_addr(device);
+    let at = root_place(t.value);
+    let place = root_place(n.value);
+    let records = formatted_records(at, place, contents);
+    let disk = Disk { records, queues };
+    Outcome {
+        answer: 0,
+        node,
+        cache,
+        disk,
+    }
+}
+
+pub(crate) fn no_name() -> Named
+    ensures { λ m. ⌜ m ≡ noName ⌝ }
+{
+    let place = sector::empty_loc();
+    let picture = sector::empty_nodes();
+    Named {
+        present: false,
+        place,
+        picture,
+    }
+}
+
+fn with_root(contents: u64) -> Nodes
+    ensures { λ p. ⌜ p ≡ withRoot contents ⌝ }
+{
+    let m = sector::empty_nodes();
+    let node = root_node(contents);
+    let s = Slot {
+        present: true,
+        node,
+    };
+    sector::with_slot(m, 0, s)
+}
+
+// Names and pictures of a newly formatted device.
+pub fn format_story(device: u64, contents: u64) -> Story
+    ensures { λ t. ⌜ t ≡ firstStory device contents ⌝ }
+{
+    let t = layout::indirection_table1_addr(device);
+    let place = root_place(t.value);
+    let working = with_root(contents);
+    let picture = working;
+    let first = Named {
+        present: true,
+        place,
+        picture,
+    };
+    let second = no_name();
+    let frozen = sector::empty_nodes();
+    Story {
+        first,
+        second,
+        working,
+        frozen,
+    }
+}
