@@ -45,7 +45,7 @@ module _ (x : NodeRecord) (s : Slot) (a : Agrees x s) where
   not-altered : isAltered x s ≡ false
   not-altered = split (x .present) (λ e. rw (e, sym (a .both) ∙ e, a .same e)) (λ e. rw e)
 
-module _ (d : ℕ) (s : Disk) (m : Named) (h : KeptOn (diskVars d s) (m .place) (nodesMap (m .picture))) (form : nodesForm (m .picture) ≡ true) where
+module _ (d : ℕ) (s : Disk) (m : Named) (h : KeptOn d (diskVars d s) (m .place) (nodesMap (m .picture))) (form : nodesForm (m .picture) ≡ true) where
   abbrev stored : Table
   stored = upstream-some d (s .records) (m .place) (h .stored) .0
 

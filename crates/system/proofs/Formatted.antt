@@ -1,14 +1,19 @@
 -- A newly formatted device: its root is read at its place through the table stored at the place that is named, and the invariant holds. Assumes nothing.
 use Prim.Native.Nat.{suc, zero, ℕ}
-use mathlib.Core.Bool.{Bool, cond, false, false≢true, true}
+use mathlib.Core.Bool.{Bool, _&&_, cond, false, false≢true, true}
 use mathlib.Core.Logic.{⊎-elim}
 use mathlib.Core.Option.{some}
 use mathlib.Core.Path.{_∙_, _≡_, ap, refl, sym}
 use native.Mathlib.Omega.{arith}
 use lib.ListN.{set}
-use borrow.Author.Tests.{leb-true}
+use lib.Dec.{eqb, ltb}
+use borrow.Author.Tests.{le-ltb, leb-true}
+use Rattle.base.proofs.Scan.{some-of-none}
+use Rattle.cache.specs.Upstream.{AllLocationsForDifferentRefsDontOverlap, WFCompleteIndirectionTable}
+use Rattle.sector.specs.Graph.{hasSucc}
+use Rattle.sector.specs.declared.Succs.{Succs}
 use Rattle.base.proofs.Maps.{put-other, put-same, put-some}
-use Rattle.base.proofs.Tests.{never}
+use Rattle.base.proofs.Tests.{and-iff, clash, never}
 use Rattle.base.specs.Maps.{empty, put}
 use Rattle.cache.proofs.FormKept.{empty-cache-form}
 use Rattle.cache.proofs.Forms.{cache-form-iff}
@@ -29,9 +34,9 @@ use Rattle.queue.specs.Queue.{noRequests}
 use Rattle.sector.proofs.Forms.{empty-nodes-form, empty-table-form, with-entry-form, with-slot-form, zero-succs-form}
 use Rattle.sector.proofs.Maps.{empty-graph, empty-locs, empty-nodes, graph-put, locs-put, nodes-put}
 use Rattle.sector.specs.Abstract.{graphOf, indirectionTable, locsOf, nodesMap}
-use Rattle.sector.specs.Form.{emptyNodes, emptyTable, nodesForm, tableForm, zeroNode, zeroSuccs}
-use Rattle.system.proofs.Invariant.{Invariant, KeptOn, NoneQueued}
-use Rattle.system.proofs.Laws.{put-none}
+use Rattle.sector.specs.Form.{emptyNodes, emptyTable, nodesForm, succAt, tableForm, zeroNode, zeroSuccs}
+use Rattle.system.proofs.Invariant.{Invariant, KeptOn, ListsAgree, NoneQueued}
+use Rattle.system.proofs.Laws.{in-put-same, put-none, same-put}
 use Rattle.system.specs.Format.{emptyDisk, formatted, formattedDisk, formattedRecords, rootNode, rootPlace, rootTable, tablePlaceOf}
 use Rattle.system.specs.Names.{firstStory, withRoot}
 use Rattle.system.specs.Run.{start}
@@ -82,6 +87,16 @@ module _ (x : ℕ) where
   pub root-picture-form : nodesForm (withRoot x) ≡ true
   root-picture-form = with-slot-form emptyNodes 0 (record { present = true; node = rootNode x }) empty-nodes-form (omega arith) (rw zero-succs-form)
 
+-- an empty list names nothing
+pub no-successor : (r : ℕ) → hasSucc zeroSuccs r ≡ false
+unfolding hasSucc
+no-successor r = some-of-none (λ k. ltb k 0 && eqb (succAt zeroSuccs k) r) 8 (λ k b. rw (le-ltb k 0 (omega arith)))
+
+-- a valid node place
+node-place-valid : (d : ℕ) (l : Location) → NodePlace (deviceOf d) l ≡ true → ValidNodeLocation (deviceOf d) l ≡ true
+unfolding NodePlace
+node-place-valid d l e = let h = simp and-iff at e in h .0 .1
+
 -- WHAT IS STORED
 
 module _ (d x : ℕ) (on : made d ≡ true) where
@@ -126,11 +141,39 @@ module _ (d x : ℕ) (on : made d ≡ true) where
   quiet : NoneQueued (places noRequests)
   quiet id m h = never (rw places-none at h)
 
-  pub formatted-kept : KeptOn (diskVars d (formattedDisk d x)) k (nodesMap (withRoot x))
+  pub root-complete : WFCompleteIndirectionTable d (indirectionTable (rootTable (rootPlace d)))
+  root-complete =
+      record {
+        valid = λ ref loc e.
+            ⊎-elim (λ (z : (ref ≡ 0) × (l ≡ loc)). rw (← (z .1)) (node-place-valid d l (root-place d on))) (λ z. never (z .1)) (put-some empty 0 l ref (rw (root-locs l) at e));
+        keys = λ ref. rw (root-locs l, root-graph l) (same-put {A = Succs} {B = Location} empty empty (λ k. refl) 0 zeroSuccs l ref);
+        root = rw (root-graph l) (in-put-same {A = Succs} empty 0 zeroSuccs);
+        graphClosed = λ ref list e succ h.
+            ⊎-elim (λ (z : (ref ≡ 0) × (zeroSuccs ≡ list)). clash (rw (← (z .1)) at h) (no-successor succ)) (λ z. never (z .1)) (put-some empty 0 zeroSuccs ref (rw (root-graph l) at e));
+      }
+
+  root-distinct : AllLocationsForDifferentRefsDontOverlap (indirectionTable (rootTable (rootPlace d)))
+  root-distinct r1 r2 l1 l2 a b e = only (rw (root-locs l) at a) ∙ sym (only (rw (root-locs l) at b))
+    where
+      only : {r : ℕ} {m : Location} → put empty 0 l r ≡ some m → r ≡ 0
+      only {r} h = ⊎-elim (λ z. z .0) (λ z. never (z .1)) (put-some empty 0 l r h)
+
+  root-lists : ListsAgree (graphOf (rootTable (rootPlace d))) (nodesMap (withRoot x))
+  root-lists ref list n a b =
+      ⊎-elim
+      (λ (z : (ref ≡ 0) × (zeroSuccs ≡ list)).
+      ⊎-elim (λ (y : (ref ≡ 0) × (rootNode x ≡ n)). rw (← (z .1), ← (y .1)) (λ r. refl)) (λ y. never (y .1)) (put-some empty 0 (rootNode x) ref (rw (root-picture x) at b)))
+      (λ z. never (z .1))
+      (put-some empty 0 zeroSuccs ref (rw (root-graph l) at a))
+
+  pub formatted-kept : KeptOn d (diskVars d (formattedDisk d x)) k (nodesMap (withRoot x))
   formatted-kept =
       record {
         table = indirectionTable (rootTable l);
         stored = formatted-table;
+        complete = root-complete;
+        distinct = root-distinct;
+        lists = root-lists;
         located = λ ref m e.
             ⊎-elim
             (λ (z : (ref ≡ 0) × (l ≡ m)). rw (← (z .1), z .0) (record { node = rootNode x; stored = formatted-node; drawn = rw (root-picture x) (put-same empty 0 (rootNode x)) }))
@@ -165,6 +208,7 @@ module _ (d x : ℕ) (on : made d ≡ true) where
           inv = tt;
           first = formatted-kept;
           second = λ m h. never h;
+          apart = λ m h. never h;
           phase = record { no-table-reads = quiet; no-node-reads = quiet; no-table-writes = quiet; no-node-writes = quiet };
         };
       })

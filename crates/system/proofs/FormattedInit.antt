@@ -1,47 +1,32 @@
 -- A newly formatted device meets BlockSystem's Init at its table's place. Assumes nothing.
 use Prim.Native.Nat.{ℕ}
-use mathlib.Core.Bool.{_&&_, false, false≢true, true}
+use mathlib.Core.Bool.{false, false≢true, true}
 use mathlib.Core.Logic.{⊎-elim}
 use mathlib.Core.Option.{Option}
 use mathlib.Core.Path.{_≡_, ap, fun-ext, refl}
-use native.Mathlib.Omega.{arith}
-use lib.Dec.{eqb, ltb}
-use borrow.Author.Tests.{eqb-true, le-ltb}
+use lib.Dec.{eqb}
+use borrow.Author.Tests.{eqb-true}
 use Rattle.base.proofs.Maps.{put-same, put-some}
-use Rattle.base.proofs.Scan.{some-of-none}
-use Rattle.base.proofs.Tests.{and-iff, clash, never, split}
+use Rattle.base.proofs.Tests.{clash, never, split}
 use Rattle.base.specs.Maps.{empty, isSome, put}
-use Rattle.cache.specs.Upstream.{In, WFCompleteIndirectionTable}
+use Rattle.cache.specs.Upstream.{In}
 use Rattle.disk.proofs.Demand2.{disk-init}
 use Rattle.disk.specs.Upstream.{nodesStored}
-use Rattle.layout.specs.Blocks.{NodePlace}
-use Rattle.layout.specs.Device.{deviceOf, made}
-use Rattle.layout.specs.Layout.{ValidNodeLocation}
+use Rattle.layout.specs.Device.{made}
 use Rattle.layout.specs.declared.Location.{Location}
 use Rattle.sector.specs.Abstract.{IndirectionTable, indirectionTable}
-use Rattle.sector.specs.Form.{succAt, zeroSuccs}
-use Rattle.sector.specs.Graph.{hasSucc}
+use Rattle.sector.specs.Form.{zeroSuccs}
 use Rattle.sector.specs.declared.Node.{Node}
 use Rattle.sector.specs.declared.Succs.{Succs}
-use Rattle.system.proofs.Formatted.{formatted-is, formatted-node, formatted-table, root-graph, root-locs, root-place, table-place}
-use Rattle.system.proofs.Laws.{in-put-same, same-put}
+use Rattle.system.proofs.Formatted.{formatted-is, formatted-node, no-successor, root-complete, formatted-table, root-graph, root-locs, table-place}
+use Rattle.system.proofs.Laws.{in-put-same}
 use Rattle.system.specs.Format.{formatted, formattedDisk, formattedRecords, rootNode, rootPlace, rootTable, tablePlaceOf}
 use Rattle.system.specs.Upstream.{DiskGraph, Init, NoDanglingPointers, SuccessorsAgree, systemVars}
-
--- an empty list names nothing
-pub no-successor : (r : ℕ) → hasSucc zeroSuccs r ≡ false
-unfolding hasSucc
-no-successor r = some-of-none (λ k. ltb k 0 && eqb (succAt zeroSuccs k) r) 8 (λ k b. rw (le-ltb k 0 (omega arith)))
 
 -- a map with the key 0 alone
 only-zero : {A : Type 0} (a : A) (k : ℕ) → In k (put empty 0 a) → k ≡ 0
 unfolding put
 only-zero a k i = split (eqb k 0) (λ t. eqb-true k 0 t) (λ t. absurd (let z : false ≡ true = rw t at i in false≢true z))
-
--- a valid node place
-node-place-valid : (d : ℕ) (l : Location) → NodePlace (deviceOf d) l ≡ true → ValidNodeLocation (deviceOf d) l ≡ true
-unfolding NodePlace
-node-place-valid d l e = let h = simp and-iff at e in h .0 .1
 
 module _ (d x : ℕ) (on : made d ≡ true) where
   abbrev l : Location
@@ -52,17 +37,6 @@ module _ (d x : ℕ) (on : made d ≡ true) where
 
   abbrev t : IndirectionTable
   t = indirectionTable (rootTable (rootPlace d))
-
-  complete : WFCompleteIndirectionTable d (indirectionTable (rootTable (rootPlace d)))
-  complete =
-      record {
-        valid = λ ref loc e.
-            ⊎-elim (λ (z : (ref ≡ 0) × (l ≡ loc)). rw (← (z .1)) (node-place-valid d l (root-place d on))) (λ z. never (z .1)) (put-some empty 0 l ref (rw (root-locs l) at e));
-        keys = λ ref. rw (root-locs l, root-graph l) (same-put {A = Succs} {B = Location} empty empty (λ k. refl) 0 zeroSuccs l ref);
-        root = rw (root-graph l) (in-put-same {A = Succs} empty 0 zeroSuccs);
-        graphClosed = λ ref list e succ h.
-            ⊎-elim (λ (z : (ref ≡ 0) × (zeroSuccs ≡ list)). clash (rw (← (z .1)) at h) (no-successor succ)) (λ z. never (z .1)) (put-some empty 0 zeroSuccs ref (rw (root-graph l) at e));
-      }
 
   -- the root alone
   graph-is : DiskGraph (indirectionTable (rootTable (rootPlace d))) nodes ≡ put empty 0 (rootNode x)
@@ -98,7 +72,7 @@ module _ (d x : ℕ) (on : made d ≡ true) where
           valid = table-place d on;
           table = indirectionTable (rootTable (rootPlace d));
           there = formatted-table d x on;
-          complete = complete;
+          complete = root-complete d x on;
           stored = λ ref loc e.
               ⊎-elim (λ (z : (ref ≡ 0) × (l ≡ loc)). rw (← (z .1)) (ap isSome (formatted-node d x on))) (λ z. never (z .1)) (put-some empty 0 l ref (rw (root-locs l) at e));
         };

@@ -7,7 +7,7 @@ use mathlib.Core.Path.{_≡_}
 use Rattle.base.specs.Maps.{Map, flagged, isSome}
 use Rattle.cache.specs.Form.{cacheForm}
 use Rattle.cache.specs.Steps.{cacheVars}
-use Rattle.cache.specs.Upstream.{In, NoAddr, OutstandingWrite, Ready, Variables, loadingIndirectionTable, ready, unready}
+use Rattle.cache.specs.Upstream.{AllLocationsForDifferentRefsDontOverlap, In, NoAddr, OutstandingWrite, Ready, SameSuccs, Variables, WFCompleteIndirectionTable, loadingIndirectionTable, ready, unready}
 use Rattle.cache.specs.UpstreamInv.{Inv}
 use Rattle.disk.specs.Form.{diskForm}
 use Rattle.disk.specs.Upstream.{Imap, Variables as DVariables, diskVars}
@@ -63,20 +63,28 @@ pub record Stands (nodes : Imap Node) (l : Location) (pictured : Option Node) : 
 abbrev pub Located : Imap Node → Map Location → Map Node → Type 0
 Located nodes locs pic = (ref : ℕ) (l : Location) → locs ref ≡ some l → Stands nodes l (pic ref)
 
+-- a list of the graph is, as a set, the successors of the picture's node
+abbrev pub ListsAgree : Map Succs → Map Node → Type 0
+ListsAgree graph pic = (ref : ℕ) (list : Succs) (n : Node) → graph ref ≡ some list → pic ref ≡ some n → SameSuccs list n
+
 -- a named place l with the picture that belongs to it
-pub record Kept (tables : Imap IndirectionTable) (nodes : Imap Node) (tableWrites nodeWrites : Map Location) (l : Location) (pic : Map Node) : Type 0 where
+pub record Kept (d : ℕ) (tables : Imap IndirectionTable) (nodes : Imap Node) (tableWrites nodeWrites : Map Location) (l : Location) (pic : Map Node) : Type 0 where
   -- a table is stored at exactly the place
   pub table : IndirectionTable
   pub stored : tables l ≡ some table
+  -- complete and well formed, no two references at one address
+  pub complete : WFCompleteIndirectionTable d table
+  pub distinct : AllLocationsForDifferentRefsDontOverlap table
   -- each of its locations has the picture's node, and the picture has no other reference
   pub located : Located nodes (table .locs) pic
   pub no-more : (ref : ℕ) → table .locs ref ≡ none → pic ref ≡ none
+  pub lists : ListsAgree (table .graph) pic
   -- no table write is queued in its area, and no node write at an address of the table
   pub quiet : Quiet tableWrites (l .addr)
   pub quiet-nodes : (ref : ℕ) (k : Location) → table .locs ref ≡ some k → Quiet nodeWrites (k .addr)
 
-abbrev pub KeptOn : DVariables → Location → Map Node → Type 0
-KeptOn v l pic = Kept (v .indirectionTables) (v .nodes) (v .reqWriteIndirectionTables) (v .reqWriteNodes) l pic
+abbrev pub KeptOn : ℕ → DVariables → Location → Map Node → Type 0
+KeptOn d v l pic = Kept d (v .indirectionTables) (v .nodes) (v .reqWriteIndirectionTables) (v .reqWriteNodes) l pic
 
 -- THE PARTS OF A READY STATE
 
@@ -120,6 +128,7 @@ WritesApart writes locs = (id : ℕ) (w : OutstandingWrite) → writes id ≡ so
 -- the frozen table and the frozen picture
 pub record FrozenOk (nodes : Imap Node) (t : IndirectionTable) (cache pic : Map Node) : Type 0 where
   pub refs : SameKeys pic (t .graph)
+  pub lists : ListsAgree (t .graph) pic
   pub located : Located nodes (t .locs) pic
   -- a reference without a location is cached with the frozen picture's node
   pub cached : (ref : ℕ) → In ref (t .graph) → t .locs ref ≡ none → (n : Node) × (cache ref ≡ some n) × (pic ref ≡ some n)
@@ -139,8 +148,9 @@ pub record ReadyOk (x : Ready) (v : DVariables) (t : Tale) : Type 0 where
   pub node-writes : NodeWritesAwaited (v .reqWriteNodes) (x .outstandingBlockWrites)
   pub node-reads : NodeReadsAwaited (v .reqReadNodes) (x .outstandingBlockReads) (x .ephemeralIndirectionTable .locs)
   pub reads-uncached : ReadsUncached (x .outstandingBlockReads) (x .ephemeralIndirectionTable .graph) (x .cache)
-  -- the working picture: the ephemeral references exactly; a located one has its node on the disk, a cached one in the cache
+  -- the working picture: the ephemeral references exactly, each with a node whose successors are its list; a located one has its node on the disk, a cached one in the cache
   pub working-refs : SameKeys (t .working) (x .ephemeralIndirectionTable .graph)
+  pub working-lists : ListsAgree (x .ephemeralIndirectionTable .graph) (t .working)
   pub located : Located (v .nodes) (x .ephemeralIndirectionTable .locs) (t .working)
   pub cached : Cached (x .ephemeralIndirectionTable .graph) (x .cache) (t .working)
   -- the frozen picture likewise
@@ -177,8 +187,10 @@ pub record Whole (d : ℕ) (s : Variables) (v : DVariables) (t : Tale) : Type 0 
   -- upstream's Inv, widened
   pub inv : Inv d s
   -- each named place is kept
-  pub first : KeptOn v (t .place) (t .picture)
-  pub second : (l : Location) → t .second ≡ some l → KeptOn v l (t .secondPicture)
+  pub first : KeptOn d v (t .place) (t .picture)
+  pub second : (l : Location) → t .second ≡ some l → KeptOn d v l (t .secondPicture)
+  -- two named places lie in different areas
+  pub apart : (l : Location) → t .second ≡ some l → l .addr ≡ t .place .addr → ⊥
   pub phase : InPhase s v t
 
 -- each picture is in its form

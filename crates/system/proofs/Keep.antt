@@ -69,7 +69,10 @@ module _ (d : ℕ) (q : Call) (o : Records) (s : State) (v : Invariant d s) wher
       let f : WellFormed d (s .cache) q = well-formed-iff d (s .cache) q .0 (rows-accepted-iff d (s .cache) n q .0 (z .0) .0) in
       let next = nextDisk d (s .disk) (c .op) (q .node) (q .table) in
       let x = cache-allowed d (s .cache) n q (z .0) in
-      let r = step-kept d q (cacheVars (s .cache)) (cacheVars (stepNext d (s .cache) n (q .reference) q)) (diskVars d (s .disk)) (diskVars d next) (s .story) (v .whole) (v .story-form) (v .first-named) (inv-kept d (s .cache) n q (v .whole .inv) (z .0)) (f .call .reference) (f .call .node) n ne (record { cache = rw (x .1) (x .2); disk = disk-allowed d (s .disk) c a; move = disk-moves d (s .disk) c a; start = named }) in
+      let s' = cacheVars (stepNext d (s .cache) n (q .reference) q) in
+      let inv = inv-kept d (s .cache) n q (v .whole .inv) (z .0) in
+      let r = step-kept d q (cacheVars (s .cache)) s' (diskVars d (s .disk)) (diskVars d next) (s .story) (v .whole) (v .story-form) (v .first-named) inv (f .call .reference) (f .call .node) n ne
+      (record { cache = rw (x .1) (x .2); disk = disk-allowed d (s .disk) c a; move = disk-moves d (s .disk) c a; start = named }) in
       record {
         made-device = v .made-device;
         cache-form = cache-form-kept d (s .cache) n q (z .0);

@@ -6,7 +6,7 @@ use mathlib.Core.Path.{_∙_, _≡_, ap, refl, sym}
 use Rattle.base.proofs.Maps.{del-other, del-some, put-other, put-same, put-some}
 use Rattle.base.proofs.Tests.{never}
 use Rattle.base.specs.Maps.{Map, del, isSome, put}
-use Rattle.cache.specs.Upstream.{Alloc, Dirty, Evict, In, PageInNodeResp, Ready, Unalloc, ready}
+use Rattle.cache.specs.Upstream.{Alloc, Dirty, Evict, In, PageInNodeResp, Ready, SameSuccs, Unalloc, ready}
 use Rattle.cache.specs.UpstreamInv.{Inv}
 use Rattle.disk.proofs.Moves.{nextVars}
 use Rattle.disk.specs.Upstream.{AckReadNode, Imap, Variables as DVariables, respReadNode}
@@ -29,6 +29,7 @@ module _ (nodes : Imap Node) (f : IndirectionTable) (cache pic : Map Node) (o : 
   frozen-cache cache' spared same =
       record {
         refs = o .refs;
+        lists = o .lists;
         located = o .located;
         cached = λ k g e. let c = o .cached k g e in (c .0, same k (spared k g e) ∙ c .1, c .2);
       }
@@ -51,6 +52,7 @@ keep-page-in d x y v v' t id n w i u a =
       inv = rw (u .next) at i;
       first = w .first;
       second = w .second;
+      apart = w .apart;
       phase = record {
         persistent-place = p .persistent-place;
         persistent-stored = p .persistent-stored;
@@ -68,6 +70,7 @@ keep-page-in d x y v v' t id n w i u a =
             let h = p .reads-uncached j r (e .1) in
             (h .0, put-other (x .cache) (u .ref) (u .block) r (λ z. e .0 (w .inv .reads-unique j id r (e .1) (rw z (u .there)))) ∙ h .1);
         working-refs = p .working-refs;
+        working-lists = p .working-lists;
         located = p .located;
         cached = λ r m g q.
             ⊎-elim (λ (z : (r ≡ u .ref) × (u .block ≡ m)). rw (z .0) (drawn ∙ ap some (z .1))) (λ z. p .cached r m g (z .1)) (put-some (x .cache) (u .ref) (u .block) r q);
@@ -101,6 +104,7 @@ keep-evict d x y v t ref w i u =
       inv = rw (u .next) at i;
       first = w .first;
       second = w .second;
+      apart = w .apart;
       phase = record {
         persistent-place = p .persistent-place;
         persistent-stored = p .persistent-stored;
@@ -112,6 +116,7 @@ keep-evict d x y v t ref w i u =
         node-reads = p .node-reads;
         reads-uncached = λ j r q. let h = p .reads-uncached j r q in (h .0, none-del (x .cache) ref r (h .1));
         working-refs = p .working-refs;
+        working-lists = p .working-lists;
         located = p .located;
         cached = λ r m g q. p .cached r m g (del-some (x .cache) ref r q .1);
         frozen = λ f q.
@@ -152,6 +157,7 @@ keep-unalloc d x y v t ref w i u =
       inv = rw is at i;
       first = w .first;
       second = w .second;
+      apart = w .apart;
       phase = record {
         persistent-place = p .persistent-place;
         persistent-stored = p .persistent-stored;
@@ -167,6 +173,7 @@ keep-unalloc d x y v t ref w i u =
             let h = p .reads-uncached j r q in
             (in-del (x .ephemeralIndirectionTable .graph) ref r (h .0) (u .not-read j r q), none-del (x .cache) ref r (h .1));
         working-refs = same-del (t .working) (x .ephemeralIndirectionTable .graph) (p .working-refs) ref;
+        working-lists = λ r list n a b. p .working-lists r list n (del-some (x .ephemeralIndirectionTable .graph) ref r a .1) (del-some (t .working) ref r b .1);
         located = λ r l q.
             let e = del-some (x .ephemeralIndirectionTable .locs) ref r q in
             let s = p .located r l (e .1) in
@@ -187,19 +194,20 @@ module _ (d : ℕ) (x y : Ready) (v : DVariables) (t : Tale) (ref : ℕ) (n : No
   abbrev put-ready : Ready
   put-ready = working x locs (put (x .ephemeralIndirectionTable .graph) ref list) (put (x .cache) ref n)
 
-  keep-drawn : y ≡ put-ready →
+  keep-drawn : y ≡ put-ready → SameSuccs list n →
       ((k : ℕ) (l : Location) → locs k ≡ some l → (k ≡ ref → ⊥) × (x .ephemeralIndirectionTable .locs k ≡ some l)) →
       ((k : ℕ) → (k ≡ ref → ⊥) → locs k ≡ x .ephemeralIndirectionTable .locs k) →
       ((id k : ℕ) → x .outstandingBlockReads id ≡ some k → k ≡ ref → ⊥) →
       ((f : IndirectionTable) → x .frozenIndirectionTable ≡ some f → (k : ℕ) → In k (f .graph) → f .locs k ≡ none → k ≡ ref → ⊥) →
       Whole d (ready y) v (drawnTale t (put (t .working) ref n))
-  keep-drawn is back there unread spared =
+  keep-drawn is succs back there unread spared =
       let p = w .phase in
       rw is
       (record {
         inv = rw is at i;
         first = w .first;
         second = w .second;
+        apart = w .apart;
         phase = record {
           persistent-place = p .persistent-place;
           persistent-stored = p .persistent-stored;
@@ -213,6 +221,12 @@ module _ (d : ℕ) (x y : Ready) (v : DVariables) (t : Tale) (ref : ℕ) (n : No
               let h = p .reads-uncached j r q in
               (in-put (x .ephemeralIndirectionTable .graph) ref list r (h .0), put-other (x .cache) ref n r (unread j r q) ∙ h .1);
           working-refs = same-put (t .working) (x .ephemeralIndirectionTable .graph) (p .working-refs) ref n list;
+          working-lists = λ r a m g q.
+              ⊎-elim
+              (λ (z : (r ≡ ref) × (list ≡ a)).
+              ⊎-elim (λ (y : (r ≡ ref) × (n ≡ m)). rw (← (z .1), ← (y .1)) succs) (λ y. absurd (y .0 (z .0))) (put-some (t .working) ref n r q))
+              (λ z. ⊎-elim (λ y. absurd (z .0 (y .0))) (λ y. p .working-lists r a m (z .1) (y .1)) (put-some (t .working) ref n r q))
+              (put-some (x .ephemeralIndirectionTable .graph) ref list r g);
           located = λ r l q.
               let e = back r l q in
               let s = p .located r l (e .1) in
@@ -231,6 +245,7 @@ keep-dirty d x y v t ref n w i u =
     let locs = x .ephemeralIndirectionTable .locs in
     keep-drawn d x y v t ref n (u .list) (del locs ref) w i
     (let e = table-of (u .locs') (u .graph') in search ready-ext)
+    (u .succs)
     (λ k l q. del-some locs ref k q)
     (λ k ne. del-other locs ref k ne)
     (λ id k q z. not-both (x .cache) ref (u .cached) (rw z at (w .phase .reads-uncached id k q .1)))
@@ -241,10 +256,8 @@ keep-alloc d x y v t ref n w i u =
     let locs = x .ephemeralIndirectionTable .locs in
     keep-drawn d x y v t ref n (u .list) locs w i
     (let e = table-of (u .locs') (u .graph') in search ready-ext)
+    (u .succs)
     (λ k l q. ((λ z. not-both (x .ephemeralIndirectionTable .graph) ref (rw z at (w .inv .ephemeral .keys k (in-of locs k q))) (u .not-allocated)), q))
     (λ k ne. refl)
     (λ id k q z. not-both (x .ephemeralIndirectionTable .graph) ref (rw z at (w .phase .reads-uncached id k q .0)) (u .not-allocated))
     (λ f q. spared-uncached (v .nodes) f (x .cache) (t .frozen) (w .phase .frozen f q) ref (u .not-cached))
-
-zzz-probe : ℕ → ℕ
-zzz-probe n = n

@@ -31,8 +31,8 @@ withQueues v tr nr tw nw =
     }
 
 module _ (d : ℕ) (v : DVariables) (t : Tale) (tr nr tw nw : Map Location) (a : Fewer tr (v .reqReadIndirectionTables)) (b : Fewer nr (v .reqReadNodes)) (c : Fewer tw (v .reqWriteIndirectionTables)) (e : Fewer nw (v .reqWriteNodes)) where
-  kept-less : (l : Location) (pic : Map Node) → KeptOn v l pic → KeptOn (withQueues v tr nr tw nw) l pic
-  kept-less l pic k = kept-fewer (v .indirectionTables) (v .nodes) (v .reqWriteIndirectionTables) (v .reqWriteNodes) l pic k tw nw c e
+  kept-less : (l : Location) (pic : Map Node) → KeptOn d v l pic → KeptOn d (withQueues v tr nr tw nw) l pic
+  kept-less l pic k = kept-fewer d (v .indirectionTables) (v .nodes) (v .reqWriteIndirectionTables) (v .reqWriteNodes) l pic k tw nw c e
 
   phase-less : (s : Variables) → InPhase s v t → InPhase s (withQueues v tr nr tw nw) t
   phase-less (ready x) p =
@@ -47,6 +47,7 @@ module _ (d : ℕ) (v : DVariables) (t : Tale) (tr nr tw nw : Map Location) (a :
         node-reads = λ id k q. p .node-reads id k (b id k q);
         reads-uncached = p .reads-uncached;
         working-refs = p .working-refs;
+        working-lists = p .working-lists;
         located = p .located;
         cached = p .cached;
         frozen = p .frozen;
@@ -77,6 +78,7 @@ module _ (d : ℕ) (v : DVariables) (t : Tale) (tr nr tw nw : Map Location) (a :
         inv = w .inv;
         first = kept-less (t .place) (t .picture) (w .first);
         second = λ l q. kept-less l (t .secondPicture) (w .second l q);
+        apart = w .apart;
         phase = phase-less s (w .phase);
       }
 
@@ -108,11 +110,11 @@ pub record Survives (v v' : DVariables) : Type 0 where
   pub nodes : (k : Location) (n : Node) → v .nodes k ≡ some n → Quiet (v .reqWriteNodes) (k .addr) → v' .nodes k ≡ some n
 
 pub keep-crash : (d : ℕ) (s : Variables) (v v' : DVariables) (t : Tale) → Whole d s v t → Survives v v' → Whole d unready v' t
-keep-crash d s v v' t w c = record { inv = tt; first = still (t .place) (t .picture) (w .first); second = λ l q. still l (t .secondPicture) (w .second l q); phase = c .idle }
+keep-crash d s v v' t w c = record { inv = tt; first = still (t .place) (t .picture) (w .first); second = λ l q. still l (t .secondPicture) (w .second l q); apart = w .apart; phase = c .idle }
   where
-    still : (l : Location) (pic : Map Node) → KeptOn v l pic → KeptOn v' l pic
+    still : (l : Location) (pic : Map Node) → KeptOn d v l pic → KeptOn d v' l pic
     still l pic k =
-        kept-crash (v .indirectionTables) (v .nodes) (v .reqWriteIndirectionTables) (v .reqWriteNodes) l pic k (v' .indirectionTables) (v' .nodes) (v' .reqWriteIndirectionTables) (v' .reqWriteNodes)
+        kept-crash d (v .indirectionTables) (v .nodes) (v .reqWriteIndirectionTables) (v .reqWriteNodes) l pic k (v' .indirectionTables) (v' .nodes) (v' .reqWriteIndirectionTables) (v' .reqWriteNodes)
         (c .idle .no-table-writes) (c .idle .no-node-writes) (c .tables) (c .nodes)
 
 -- BEFORE READY
@@ -132,6 +134,7 @@ keep-receive d s' v t t' l w i u n =
       inv = rw (u .next) at i;
       first = ⊎-elim (λ x. rw (n .place, x .1) (rw (x .0) at (w .first))) (λ x. rw (n .place, x .1) (w .second l (x .0))) (n .named);
       second = λ k q. never (sym (n .no-second) ∙ q);
+      apart = λ k q. never (sym (n .no-second) ∙ q);
       phase = record {
         place = n .place;
         no-second = n .no-second;
@@ -151,6 +154,7 @@ keep-table-read d at read s' v t id loc w i u =
       inv = rw (u .next) at i;
       first = w .first;
       second = w .second;
+      apart = w .apart;
       phase = record {
         place = w .phase .place;
         no-second = w .phase .no-second;
@@ -174,6 +178,7 @@ keep-write-resp d x y v t id w i u =
       inv = rw (u .next) at i;
       first = less (t .place) (t .picture) (w .first);
       second = λ l q. less l (t .secondPicture) (w .second l q);
+      apart = w .apart;
       phase = record {
         persistent-place = p .persistent-place;
         persistent-stored = p .persistent-stored;
@@ -188,6 +193,7 @@ keep-write-resp d x y v t id w i u =
         node-reads = p .node-reads;
         reads-uncached = p .reads-uncached;
         working-refs = p .working-refs;
+        working-lists = p .working-lists;
         located = p .located;
         cached = p .cached;
         frozen = p .frozen;
@@ -196,9 +202,9 @@ keep-write-resp d x y v t id w i u =
       };
     })
   where
-    less : (l : Location) (pic : Map Node) → KeptOn v l pic → KeptOn (setWriteNodes v (del (v .reqWriteNodes) id)) l pic
+    less : (l : Location) (pic : Map Node) → KeptOn d v l pic → KeptOn d (setWriteNodes v (del (v .reqWriteNodes) id)) l pic
     less l pic k =
-        kept-fewer (v .indirectionTables) (v .nodes) (v .reqWriteIndirectionTables) (v .reqWriteNodes) l pic k (v .reqWriteIndirectionTables) (del (v .reqWriteNodes) id)
+        kept-fewer d (v .indirectionTables) (v .nodes) (v .reqWriteIndirectionTables) (v .reqWriteNodes) l pic k (v .reqWriteIndirectionTables) (del (v .reqWriteNodes) id)
         (λ j k q. q) (fewer-del (v .reqWriteNodes) id)
 
 -- A NODE READ ASKED FOR
@@ -212,6 +218,7 @@ keep-read-req d x y v t id ref loc w i u =
       inv = rw (u .next) at i;
       first = w .first;
       second = w .second;
+      apart = w .apart;
       phase = record {
         persistent-place = p .persistent-place;
         persistent-stored = p .persistent-stored;
@@ -228,6 +235,7 @@ keep-read-req d x y v t id ref loc w i u =
         reads-uncached = λ j r q.
             ⊎-elim (λ (z : (j ≡ id) × (ref ≡ r)). rw (← (z .1)) (u .allocated, u .not-cached)) (λ z. p .reads-uncached j r (z .1)) (put-some (x .outstandingBlockReads) id ref j q);
         working-refs = p .working-refs;
+        working-lists = p .working-lists;
         located = p .located;
         cached = p .cached;
         frozen = p .frozen;

@@ -95,13 +95,35 @@ module _ (d : ℕ) (s s' : Variables) (v v' : DVariables) (dop : Dop) (vop : Ver
       (λ x y ex ey u. let k = rw b at disk in rw (ey, move, b) (keep-page-in d x y v v' t id n (rw ex at w) (rw ey at i) u k))
 
   pub kept8 : NextStep d s s' dop vop pageInIndirectionTableReqStep → Whole d s' v' t
-  kept8 (a, (id, loc, b, (at, read, ex, u))) = rw (move, b) (keep-table-read d at read s' v t id loc (rw ex at w) i u)
+  kept8 g =
+      let id = g .1 .0 in
+      let loc = g .1 .1 in
+      let b = g .1 .2 in
+      let at = g .1 .3 .0 in
+      let read = g .1 .3 .1 in
+      let ex = g .1 .3 .2 in
+      let u = g .1 .3 .3 in
+      rw (move, b) (keep-table-read d at read s' v t id loc (rw ex at w) i u)
 
   pub kept9 : NextStep d s s' dop vop pageInIndirectionTableRespStep → Whole d s' v' t
-  kept9 (a, (id, f, b, (at, read, ex, (y, ey, u)))) = let k = rw b at disk in rw (ey, move, b) (keep-table-page-in d at read y v v' t id f (rw ex at w) (rw ey at i) u k)
+  kept9 g =
+      let id = g .1 .0 in
+      let f = g .1 .1 in
+      let b = g .1 .2 in
+      let at = g .1 .3 .0 in
+      let read = g .1 .3 .1 in
+      let ex = g .1 .3 .2 in
+      let y = g .1 .3 .3 .0 in
+      let ey = g .1 .3 .3 .1 in
+      let u = g .1 .3 .3 .2 in
+      let k = rw b at disk in rw (ey, move, b) (keep-table-page-in d at read y v v' t id f (rw ex at w) (rw ey at i) u k)
 
   pub kept10 : (l : Location) (t' : Tale) → vop ≡ SendPersistentLocOp l → Started t t' l → NextStep d s s' dop vop receiveLocStep → Whole d s' v' t'
-  kept10 l t' q n (b, (m, a, u)) =
+  kept10 l t' q n g =
+      let b = g .0 in
+      let m = g .1 .0 in
+      let a = g .1 .1 in
+      let u = g .1 .2 in
       let h : SendPersistentLocOp m ≡ SendPersistentLocOp l = sym a ∙ q in
       let e : m ≡ l = cc in
       let r = rw (u .before, e) at u in
@@ -132,7 +154,9 @@ module _ (d : ℕ) (s s' : Variables) (v v' : DVariables) (dop : Dop) (vop : Ver
       (u .loc, frozen-named d x v t (u .loc) k (u .no-table-write) (u .frozen-loc), rw (ey, move, b) (keep-clean-up d x y v t blank k (rw ey at i) u)))
 
   pub kept14 : NextStep d s s' dop vop noOpStep → Whole d s' v' t
-  kept14 (a, u) = rw (u .next, move) (keep-idle d s v t w dop (u .op))
+  kept14 g =
+      let u = g .1 in
+      rw (u .next, move) (keep-idle d s v t w dop (u .op))
 
   pub kept15 : (ref : ℕ) (n : Node) → NextStep d s s' dop vop (dirtyStep ref n) → Whole d s' v' (drawnTale t (put (t .working) ref n))
   kept15 ref n g =
@@ -150,4 +174,4 @@ module _ (d : ℕ) (s s' : Variables) (v v' : DVariables) (dop : Dop) (vop : Ver
 
 -- a read changes nothing; it takes no disk operation
 pub kept17 : (d : ℕ) (s s' : Variables) (v v' : DVariables) (dop : Dop) (vop : VersionOp) (t : Tale) (ref : ℕ) → Whole d s v t → v' ≡ v → NextStep d s s' dop vop (readStep ref) → Whole d s' v' t
-kept17 d s s' v v' dop vop t ref w e (a, b) = rw (a, e) w
+kept17 d s s' v v' dop vop t ref w e g = rw (g .0, e) w

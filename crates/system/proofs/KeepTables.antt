@@ -4,13 +4,15 @@ use mathlib.Core.Logic.{⊎-elim}
 use mathlib.Core.Option.{Option, none, some}
 use mathlib.Core.Path.{_∙_, _≡_, ap, refl, sym}
 use Rattle.base.proofs.Maps.{del-some, put-some}
-use Rattle.base.proofs.Tests.{never}
+use Rattle.base.proofs.Tests.{clash, never}
 use Rattle.base.specs.Maps.{Map, del, empty, isSome}
 use Rattle.cache.specs.Upstream.{CleanUp, Freeze, PageInIndirectionTableResp, Ready, WriteBackIndirectionTableReq, WriteBackIndirectionTableResp, loadingIndirectionTable, ready}
 use Rattle.cache.specs.UpstreamInv.{Inv}
 use Rattle.disk.proofs.Moves.{nextVars}
 use Rattle.disk.proofs.Reading.{replacing-other, replacing-same}
 use Rattle.disk.specs.Upstream.{AckReadIndirectionTable, Variables as DVariables, reqWriteIndirectionTable, respReadIndirectionTable, respWriteIndirectionTable}
+use Rattle.layout.proofs.Places.{table-overlap-iff}
+use Rattle.layout.specs.Device.{deviceOf}
 use Rattle.layout.specs.declared.Location.{Location}
 use Rattle.sector.specs.Abstract.{IndirectionTable}
 use Rattle.sector.specs.declared.Node.{Node}
@@ -28,6 +30,7 @@ frozen-of-ephemeral d x v t w =
     let p = w .phase in
     record {
       refs = p .working-refs;
+      lists = p .working-lists;
       located = p .located;
       cached = λ ref g e.
           ⊎-elim (λ c. let n = some-of (x .cache) ref c in (n .0, n .1, p .cached ref (n .0) g (n .1))) (λ l. not-both (x .ephemeralIndirectionTable .locs) ref l e) (w .inv .consistent ref g);
@@ -41,6 +44,7 @@ keep-freeze d x y v t blank w i u =
       inv = rw (u .next) at i;
       first = w .first;
       second = λ l q. never q;
+      apart = λ l q. never q;
       phase = record {
         persistent-place = p .persistent-place;
         persistent-stored = p .persistent-stored;
@@ -52,6 +56,7 @@ keep-freeze d x y v t blank w i u =
         node-reads = p .node-reads;
         reads-uncached = p .reads-uncached;
         working-refs = p .working-refs;
+        working-lists = p .working-lists;
         located = p .located;
         cached = p .cached;
         frozen = λ f q. let e : x .ephemeralIndirectionTable ≡ f = cc in rw (← e) (frozen-of-ephemeral d x v t w);
@@ -77,6 +82,7 @@ keep-clean-up d x y v t blank w i u =
       inv = rw (u .next) at i;
       first = w .second (u .loc) (frozen-named d x v t (u .loc) w (u .no-table-write) (u .frozen-loc));
       second = λ l q. never q;
+      apart = λ l q. never q;
       phase = record {
         persistent-place = refl;
         persistent-stored = p .frozen-stored (u .loc) (u .table) (u .frozen-loc) (u .frozen);
@@ -88,6 +94,7 @@ keep-clean-up d x y v t blank w i u =
         node-reads = p .node-reads;
         reads-uncached = p .reads-uncached;
         working-refs = p .working-refs;
+        working-lists = p .working-lists;
         located = p .located;
         cached = p .cached;
         frozen = λ f q. never q;
@@ -106,8 +113,9 @@ keep-table-write d x y v t id loc f w i u apart =
     rw (u .next)
     (record {
       inv = rw (u .next) at i;
-      first = kept-table-write (v .indirectionTables) (v .nodes) (v .reqWriteIndirectionTables) (v .reqWriteNodes) (t .place) (t .picture) (w .first) id loc f (λ e. apart (e ∙ ap (λ l. l .addr) (p .persistent-place)));
+      first = kept-table-write d (v .indirectionTables) (v .nodes) (v .reqWriteIndirectionTables) (v .reqWriteNodes) (t .place) (t .picture) (w .first) id loc f (λ e. apart (e ∙ ap (λ l. l .addr) (p .persistent-place)));
       second = λ l q. never (sym none-second ∙ q);
+      apart = λ l q. never (sym none-second ∙ q);
       phase = record {
         persistent-place = p .persistent-place;
         persistent-stored = replacing-other (v .indirectionTables) loc f (x .persistentIndirectionTableLoc) (λ e. apart (sym e)) ∙ p .persistent-stored;
@@ -124,6 +132,7 @@ keep-table-write d x y v t id loc f w i u apart =
         node-reads = p .node-reads;
         reads-uncached = p .reads-uncached;
         working-refs = p .working-refs;
+        working-lists = p .working-lists;
         located = p .located;
         cached = p .cached;
         frozen = p .frozen;
@@ -141,9 +150,14 @@ keep-table-resp d x y v t id loc w i u =
     rw (u .next)
     (record {
       inv = rw (u .next) at i;
-      first = kept-fewer (v .indirectionTables) (v .nodes) (v .reqWriteIndirectionTables) (v .reqWriteNodes) (t .place) (t .picture) (w .first) (del (v .reqWriteIndirectionTables) id) (v .reqWriteNodes)
+      first = kept-fewer d (v .indirectionTables) (v .nodes) (v .reqWriteIndirectionTables) (v .reqWriteNodes) (t .place) (t .picture) (w .first) (del (v .reqWriteIndirectionTables) id) (v .reqWriteNodes)
           (fewer-del (v .reqWriteIndirectionTables) id) (λ j k q. q);
       second = λ l q. let e : loc ≡ l = cc in rw (← e) kept;
+      apart = λ l q e.
+          let h : loc ≡ l = cc in
+          let f = w .inv .frozen-loc loc (sym (u .frozen-loc)) in
+          let k : loc .addr ≡ x .persistentIndirectionTableLoc .addr = ap (λ m. m .addr) h ∙ e ∙ ap (λ m. m .addr) (p .persistent-place) in
+          clash (table-overlap-iff (deviceOf d) loc (x .persistentIndirectionTableLoc) (f .valid) (w .inv .persistent-valid) .1 k) (f .apart);
       phase = record {
         persistent-place = p .persistent-place;
         persistent-stored = p .persistent-stored;
@@ -155,6 +169,7 @@ keep-table-resp d x y v t id loc w i u =
         node-reads = p .node-reads;
         reads-uncached = p .reads-uncached;
         working-refs = p .working-refs;
+        working-lists = p .working-lists;
         located = p .located;
         cached = p .cached;
         frozen = p .frozen;
@@ -173,14 +188,17 @@ keep-table-resp d x y v t id loc w i u =
         let h : some j ≡ some id = sym (w .phase .table-writes j k (e .1) .0) ∙ u .awaited in
         e .0 (cc)
 
-    kept : Kept (v .indirectionTables) (v .nodes) (del (v .reqWriteIndirectionTables) id) (v .reqWriteNodes) loc (t .frozen)
+    kept : Kept d (v .indirectionTables) (v .nodes) (del (v .reqWriteIndirectionTables) id) (v .reqWriteNodes) loc (t .frozen)
     kept =
         let f = w .inv .frozen-loc loc (sym (u .frozen-loc)) in
         let o = w .phase .frozen (f .table) (f .is) in
         record {
           table = f .table;
           stored = w .phase .frozen-stored loc (f .table) (sym (u .frozen-loc)) (f .is);
+          complete = f .wf;
+          distinct = w .inv .frozen (f .table) (f .is) .distinct;
           located = o .located;
+          lists = o .lists;
           no-more = λ ref e. same-none (t .frozen) (f .table .locs) (λ k. o .refs k ∙ f .wf .keys k) ref e;
           quiet = λ j k q a. no-more j k q;
           quiet-nodes = λ ref k e j q b a.
@@ -231,6 +249,7 @@ keep-table-page-in d at read y v v' t id brought w i u a =
       inv = rw is at i;
       first = k;
       second = w .second;
+      apart = w .apart;
       phase = record {
         persistent-place = p .place;
         persistent-stored = stored;
@@ -244,7 +263,8 @@ keep-table-page-in d at read y v v' t id brought w i u a =
         node-writes = λ j k q. absurd (p .no-node-writes j k q);
         node-reads = λ j k q. absurd (p .no-node-reads j k q);
         reads-uncached = λ j r q. never q;
-        working-refs = rw (p .working) (λ ref. kept-keys (v .indirectionTables) (v .nodes) (v .reqWriteIndirectionTables) (v .reqWriteNodes) (t .place) (t .picture) k ref ∙ ap (λ (z : IndirectionTable). isSome (z .locs ref)) same ∙ sym (u .wf .keys ref));
+        working-refs = rw (p .working) (λ ref. kept-keys d (v .indirectionTables) (v .nodes) (v .reqWriteIndirectionTables) (v .reqWriteNodes) (t .place) (t .picture) k ref ∙ ap (λ (z : IndirectionTable). isSome (z .locs ref)) same ∙ sym (u .wf .keys ref));
+        working-lists = rw (p .working) (rw same at (k .lists));
         located = rw (p .working) (rw same at (k .located));
         cached = λ ref n g q. never q;
         frozen = λ f q. never q;

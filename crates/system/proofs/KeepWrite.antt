@@ -145,8 +145,9 @@ module _ (d : ℕ) (x y : Ready) (v : DVariables) (t : Tale) (id ref : ℕ) (loc
       rw is
       (record {
         inv = rw is at i;
-        first = kept-node-write (v .indirectionTables) (v .nodes) (v .reqWriteIndirectionTables) (v .reqWriteNodes) (t .place) (t .picture) (w .first) id loc n (rw first-table (u .free .persistent));
-        second = λ l q. kept-node-write (v .indirectionTables) (v .nodes) (v .reqWriteIndirectionTables) (v .reqWriteNodes) l (t .secondPicture) (w .second l q) id loc n (second-free l q);
+        first = kept-node-write d (v .indirectionTables) (v .nodes) (v .reqWriteIndirectionTables) (v .reqWriteNodes) (t .place) (t .picture) (w .first) id loc n (rw first-table (u .free .persistent));
+        second = λ l q. kept-node-write d (v .indirectionTables) (v .nodes) (v .reqWriteIndirectionTables) (v .reqWriteNodes) l (t .secondPicture) (w .second l q) id loc n (second-free l q);
+        apart = w .apart;
         phase = record {
           persistent-place = p .persistent-place;
           persistent-stored = p .persistent-stored;
@@ -162,6 +163,7 @@ module _ (d : ℕ) (x y : Ready) (v : DVariables) (t : Tale) (id ref : ℕ) (loc
           node-reads = λ j k q. let h = p .node-reads j k q in (h .0, h .1, assign-keeps (x .ephemeralIndirectionTable) ref loc (h .0) k (h .2));
           reads-uncached = rw (assign-graph (x .ephemeralIndirectionTable) ref loc) (p .reads-uncached);
           working-refs = rw (assign-graph (x .ephemeralIndirectionTable) ref loc) (p .working-refs);
+          working-lists = rw (assign-graph (x .ephemeralIndirectionTable) ref loc) (p .working-lists);
           located = grown (t .working) (x .ephemeralIndirectionTable) (u .free .ephemeral) (λ g e. p .cached ref n g (u .cached)) (p .located);
           cached = rw (assign-graph (x .ephemeralIndirectionTable) ref loc) (p .cached);
           frozen = λ f q.
@@ -170,6 +172,7 @@ module _ (d : ℕ) (x y : Ready) (v : DVariables) (t : Tale) (id ref : ℕ) (loc
               rw (← (g .2))
               (record {
                 refs = rw (assign-graph (g .0) ref loc) (o .refs);
+                lists = rw (assign-graph (g .0) ref loc) (o .lists);
                 located = grown (t .frozen) (g .0) (u .free .frozen (g .0) (g .1)) (λ a e. let c = o .cached ref a e in c .2 ∙ sym (c .1) ∙ u .cached) (o .located);
                 cached = λ k a e. o .cached k (rw (assign-graph (g .0) ref loc) at a) (assign-none (g .0) ref loc k e);
               });

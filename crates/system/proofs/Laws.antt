@@ -102,7 +102,7 @@ located-write nodes k n locs pic h free ref l e = stands-elsewhere nodes k n l (
 
 -- A NAMED PLACE
 
-module _ (tables : Imap IndirectionTable) (nodes : Imap Node) (tw nw : Map Location) (l : Location) (pic : Map Node) (h : Kept tables nodes tw nw l pic) where
+module _ (d : ℕ) (tables : Imap IndirectionTable) (nodes : Imap Node) (tw nw : Map Location) (l : Location) (pic : Map Node) (h : Kept d tables nodes tw nw l pic) where
   pub kept-keys : SameKeys pic (h .table .locs)
   kept-keys ref =
       split (isSome (h .table .locs ref))
@@ -113,38 +113,47 @@ module _ (tables : Imap IndirectionTable) (nodes : Imap Node) (tw nw : Map Locat
       e' s e = rw (e, s .drawn)
 
   -- a node written to an address that no location of its table has
-  pub kept-node-write : (id : ℕ) (k : Location) (n : Node) → NoAddr (h .table .locs) (k .addr) → Kept tables (replacing nodes k n) tw (put nw id k) l pic
+  pub kept-node-write : (id : ℕ) (k : Location) (n : Node) → NoAddr (h .table .locs) (k .addr) → Kept d tables (replacing nodes k n) tw (put nw id k) l pic
   kept-node-write id k n free =
       record {
         table = h .table;
         stored = h .stored;
         located = located-write nodes k n (h .table .locs) pic (h .located) free;
         no-more = h .no-more;
+        complete = h .complete;
+        distinct = h .distinct;
+        lists = h .lists;
         quiet = h .quiet;
         quiet-nodes = λ ref m e j q p a.
             ⊎-elim (λ (x : (j ≡ id) × (k ≡ q)). free ref m e (sym (ap (λ y. y .addr) (x .1) ∙ a))) (λ x. h .quiet-nodes ref m e j q (x .1) a) (put-some nw id k j p);
       }
 
   -- a table written in another area
-  pub kept-table-write : (id : ℕ) (k : Location) (t : IndirectionTable) → (k .addr ≡ l .addr → ⊥) → Kept (replacing tables k t) nodes (put tw id k) nw l pic
+  pub kept-table-write : (id : ℕ) (k : Location) (t : IndirectionTable) → (k .addr ≡ l .addr → ⊥) → Kept d (replacing tables k t) nodes (put tw id k) nw l pic
   kept-table-write id k t apart =
       record {
         table = h .table;
         stored = replacing-other tables k t l (λ e. apart (sym e)) ∙ h .stored;
         located = h .located;
         no-more = h .no-more;
+        complete = h .complete;
+        distinct = h .distinct;
+        lists = h .lists;
         quiet = λ j q p a. ⊎-elim (λ (x : (j ≡ id) × (k ≡ q)). apart (ap (λ y. y .addr) (x .1) ∙ a)) (λ x. h .quiet j q (x .1) a) (put-some tw id k j p);
         quiet-nodes = h .quiet-nodes;
       }
 
   -- requests answered
-  pub kept-fewer : (tw' nw' : Map Location) → Fewer tw' tw → Fewer nw' nw → Kept tables nodes tw' nw' l pic
+  pub kept-fewer : (tw' nw' : Map Location) → Fewer tw' tw → Fewer nw' nw → Kept d tables nodes tw' nw' l pic
   kept-fewer tw' nw' f g =
       record {
         table = h .table;
         stored = h .stored;
         located = h .located;
         no-more = h .no-more;
+        complete = h .complete;
+        distinct = h .distinct;
+        lists = h .lists;
         quiet = λ j q p. h .quiet j q (f j q p);
         quiet-nodes = λ ref m e j q p. h .quiet-nodes ref m e j q (g j q p);
       }
@@ -152,13 +161,16 @@ module _ (tables : Imap IndirectionTable) (nodes : Imap Node) (tw nw : Map Locat
   -- a crash leaves what no write is queued for, and nothing queued
   pub kept-crash : (tables' : Imap IndirectionTable) (nodes' : Imap Node) (tw' nw' : Map Location) → NoneQueued tw' → NoneQueued nw' →
       ((k : Location) (t : IndirectionTable) → tables k ≡ some t → Quiet tw (k .addr) → tables' k ≡ some t) →
-      ((k : Location) (n : Node) → nodes k ≡ some n → Quiet nw (k .addr) → nodes' k ≡ some n) → Kept tables' nodes' tw' nw' l pic
+      ((k : Location) (n : Node) → nodes k ≡ some n → Quiet nw (k .addr) → nodes' k ≡ some n) → Kept d tables' nodes' tw' nw' l pic
   kept-crash tables' nodes' tw' nw' none-t none-n still-t still-n =
       record {
         table = h .table;
         stored = still-t l (h .table) (h .stored) (h .quiet);
         located = λ ref k e. let s = h .located ref k e in record { node = s .node; stored = still-n k (s .node) (s .stored) (h .quiet-nodes ref k e); drawn = s .drawn };
         no-more = h .no-more;
+        complete = h .complete;
+        distinct = h .distinct;
+        lists = h .lists;
         quiet = λ j q p a. none-t j q p;
         quiet-nodes = λ ref k e j q p a. none-n j q p;
       }

@@ -17,3 +17,4 @@ pub mod Demand3
 pub mod Starting
 pub mod Demand2
 pub mod FormattedInit
+pub mod Restart
