@@ -1,0 +1,165 @@
+// What a round carries, the arguments of a call, and the one place that makes a joined call.
+ghost use mathlib.Core.Path.{_≡_};
+use cache::Cache;
+use cache::Call;
+use cache::VersionOp;
+use disk::Disk;
+use disk::DiskOp;
+use disk::Records;
+use layout::Location;
+use sector::Node;
+use sector::Succs;
+use sector::Table;
+
+// The device and the contents number of this round, the counts and the checksum so far, and the store.
+pub struct State {
+    pub device: u64,
+    pub base: u64,
+    pub calls: u64,
+    pub accepted: u64,
+    pub checksum: u64,
+    pub cache: Cache,
+    pub disk: Disk,
+}
+
+fn double(x: u64) -> u64 {
+    std::num::wrapping_add_u64(x, x)
+}
+
+// 33 times the checksum and x more, modulo 2 to the 64.
+fn mixed(checksum: u64, x: u64) -> u64 {
+    let two = double(checksum);
+    let four = double(two);
+    let eight = double(four);
+    let sixteen = double(eight);
+    let most = double(sixteen);
+    let all = std::num::wrapping_add_u64(most, checksum);
+    std::num::wrapping_add_u64(all, x)
+}
+
+fn one_if_accepted(answer: u64) -> u64 {
+    if answer == 0 { 1 } else { 0 }
+}
+
+// A joined call that offers these records, which only a crash looks at.
+pub fn offer(s: State, number: u64, q: Call, offered: Records) -> State {
+    let cache = s.cache;
+    let disk = s.disk;
+    let o = system::step(s.device, number, q, offered, cache, disk);
+    let node = o.node;
+    let next = o.cache;
+    let stored = o.disk;
+    let answered = mixed(s.checksum, o.answer);
+    State {
+        device: s.device,
+        base: s.base,
+        calls: std::num::wrapping_add_u64(s.calls, 1),
+        accepted: std::num::wrapping_add_u64(s.accepted, one_if_accepted(o.answer)),
+        checksum: mixed(answered, node.contents),
+        cache: next,
+        disk: stored,
+    }
+}
+
+// A joined call that offers the records that are stored.
+pub fn turn(s: State, number: u64, q: Call) -> State {
+    let disk = s.disk;
+    let offered = disk.records;
+    offer(s, number, q, offered)
+}
+
+// The contents number of reference r in this round.
+pub fn contents(s: State, r: u64) -> u64 {
+    std::num::wrapping_add_u64(s.base, r)
+}
+
+pub fn node_place(s: State, block: u64) -> Location {
+    let n = layout::node_block_addr(s.device, block);
+    Location {
+        addr: n.value,
+        len: 4096,
+    }
+}
+
+pub fn table_place(s: State, second: bool) -> Location {
+    if second {
+        let two = layout::indirection_table2_addr(s.device);
+        return Location {
+            addr: two.value,
+            len: 4096,
+        };
+    }
+    let one = layout::indirection_table1_addr(s.device);
+    Location {
+        addr: one.value,
+        len: 4096,
+    }
+}
+
+// A call that brings neither node nor table.
+pub fn bare(reference: u64, vop: VersionOp, dop: DiskOp) -> Call {
+    let node = sector::empty_node();
+    let table = sector::empty_table();
+    Call {
+        reference,
+        vop,
+        dop,
+        node,
+        table,
+    }
+}
+
+pub fn with_node(reference: u64, vop: VersionOp, dop: DiskOp, node: Node) -> Call {
+    let table = sector::empty_table();
+    Call {
+        reference,
+        vop,
+        dop,
+        node,
+        table,
+    }
+}
+
+pub fn with_table(vop: VersionOp, dop: DiskOp, table: Table) -> Call {
+    let node = sector::empty_node();
+    Call {
+        reference: 0,
+        vop,
+        dop,
+        node,
+        table,
+    }
+}
+
+// A node that names two references.
+pub fn naming(contents: u64, first: u8, second: u8) -> Node {
+    let mut at: [u8; 8] = [0; 8];
+    at[0] = first;
+    at[1] = second;
+    let succs = Succs { count: 2, at };
+    Node { contents, succs }
+}
+
+// A node that names 1 to 7, and 8 too where `all` holds.
+pub fn root(contents: u64, all: bool) -> Node {
+    let mut at: [u8; 8] = [0; 8];
+    at[0] = 1;
+    at[1] = 2;
+    at[2] = 3;
+    at[3] = 4;
+    at[4] = 5;
+    at[5] = 6;
+    at[6] = 7;
+    if all {
+        at[7] = 8;
+    }
+    let count: u8 = if all { 8 } else { 7 };
+    let succs = Succs { count, at };
+    Node { contents, succs }
+}
+
+pub fn wide(r: u8) -> u64
+    ensures { λ n. ⌜ n ≡ r ⌝ }
+{
+    r as u64
+}

@@ -1,0 +1,236 @@
+// The script: 82 calls on a newly formatted device, of which document 01 accepts 62. Each refused call says its number.
+use crate::calls::State;
+use crate::calls::contents;
+use crate::calls::naming;
+use crate::calls::root;
+use crate::calls::wide;
+use crate::steps::alloc;
+use crate::steps::clean_up;
+use crate::steps::crash;
+use crate::steps::crash_to_nothing;
+use crate::steps::dirty;
+use crate::steps::evict;
+use crate::steps::freeze;
+use crate::steps::no_op;
+use crate::steps::no_step;
+use crate::steps::page_in_node_req;
+use crate::steps::page_in_node_resp;
+use crate::steps::page_in_table_req;
+use crate::steps::page_in_table_resp;
+use crate::steps::read;
+use crate::steps::receive_loc;
+use crate::steps::unalloc;
+use crate::steps::write_back_node_req;
+use crate::steps::write_back_node_resp;
+use crate::steps::write_back_table_req;
+use crate::steps::write_back_table_resp;
+use cache::VersionOp;
+use disk::Brought;
+use disk::DiskOp;
+use sector::Node;
+
+// Reference r as the script first writes it: it names the one before it, and the root.
+fn leaf(s: State, r: u8) -> Node {
+    let before: u8 = if r == 0 { 0 } else { r - 1 };
+    let x = contents(s, wide(r));
+    naming(x, before, 0)
+}
+
+// The root as formatting leaves it.
+fn first_root(s: State) -> Node {
+    let mut n = sector::empty_node();
+    n.contents = s.base;
+    n
+}
+
+// Calls 1 to 12: a start from area 1, and the root paged in.
+fn load(s: State) -> State {
+    let s = read(s, 0); // 4: Unready
+    let s = receive_loc(s, true); // 20: nothing stored in area 2
+    let s = receive_loc(s, false);
+    let s = page_in_table_req(s, 1, false);
+    let s = page_in_table_req(s, 2, false); // 10: one is outstanding
+    let s = page_in_table_resp(s, 1, false);
+    let s = evict(s, 0); // 8: not cached
+    let s = page_in_node_req(s, 0, 7, 0);
+    let s = page_in_node_req(s, 0, 8, 0); // 10: a read of it is outstanding
+    let n = first_root(s);
+    let s = page_in_node_resp(s, 7, n);
+    let s = read(s, 0);
+    let m = naming(1, 5, 5);
+    alloc(s, 5, m) // 13: it names itself
+}
+
+// 8 calls: references 1 to 8.
+fn grow(s: State) -> State {
+    let mut now = s;
+    let mut r: u8 = 1;
+    while r <= 8 {
+        let n = leaf(now, r);
+        now = alloc(now, wide(r), n);
+        r += 1;
+    }
+    now
+}
+
+// 9 calls: references 0 to 8.
+fn read_all(s: State) -> State {
+    let mut now = s;
+    let mut r: u8 = 0;
+    while r <= 8 {
+        now = read(now, wide(r));
+        r += 1;
+    }
+    now
+}
+
+// Calls 13 to 33: eight references more, one of them taken back.
+fn work(s: State) -> State {
+    let s = grow(s);
+    let x = contents(s, 100);
+    let n = root(x, true);
+    let s = dirty(s, 0, n);
+    let s = read_all(s);
+    let s = unalloc(s, 8); // 12: the root names it
+    let m = root(x, false);
+    let s = dirty(s, 0, m);
+    unalloc(s, 8)
+}
+
+// The node that the script has left under r, below 8.
+fn latest(s: State, r: u8) -> Node {
+    if r == 0 {
+        let x = contents(s, 100);
+        return root(x, false);
+    }
+    leaf(s, r)
+}
+
+// 8 calls: references 0 to 7 to blocks 1 to 8.
+fn write_all(s: State) -> State {
+    let mut now = s;
+    let mut r: u8 = 0;
+    while r < 8 {
+        let k = wide(r);
+        let n = latest(now, r);
+        now = write_back_node_req(
+            now,
+            k,
+            std::num::wrapping_add_u64(20, k),
+            std::num::wrapping_add_u64(1, k),
+            n,
+        );
+        r += 1;
+    }
+    now
+}
+
+// 8 calls: the answers.
+fn answer_all(s: State) -> State {
+    let mut now = s;
+    let mut k: u64 = 0;
+    while k < 8 {
+        now = write_back_node_resp(now, 20 + k);
+        k += 1;
+    }
+    now
+}
+
+// Calls 34 to 52: write-back.
+fn write_back(s: State) -> State {
+    let s = write_all(s);
+    let n = latest(s, 0);
+    let s = write_back_node_req(s, 0, 30, 0, n); // 7: the persistent table holds it
+    let s = evict(s, 3); // 10: its write is outstanding
+    let s = answer_all(s);
+    write_back_node_resp(s, 99) // 5: not awaited
+}
+
+// Calls 53 to 62: a frozen table written and cleaned up.
+fn persist(s: State) -> State {
+    let s = freeze(s);
+    let n = naming(1, 0, 0);
+    let s = dirty(s, 1, n);
+    let s = write_back_table_req(s, 40);
+    let s = freeze(s); // 10: a table write is outstanding
+    let s = write_back_node_req(s, 1, 41, 20, n); // 10: the same
+    let s = write_back_table_resp(s, 40);
+    let s = clean_up(s);
+    let s = clean_up(s); // 11: no frozen place
+    let s = no_op(s, DiskOp::NoDiskOp);
+    no_op(s, DiskOp::RespReadNodeOp(77, Brought::Something)) // 15: no such read
+}
+
+// Calls 63 to 73: a node out and in again, and a crash with a write outstanding.
+fn lose(s: State) -> State {
+    let s = evict(s, 2);
+    let s = read(s, 2); // 8: not cached
+    let s = page_in_node_req(s, 2, 50, 3);
+    let n = leaf(s, 2);
+    let s = page_in_node_resp(s, 50, n);
+    let s = read(s, 2);
+    let s = freeze(s);
+    let m = naming(1, 0, 0);
+    let s = dirty(s, 1, m); // 11: the frozen table needs the cached node
+    let s = write_back_node_req(s, 1, 60, 21, m);
+    let s = crash(s, VersionOp::StatesInternalOp); // 2
+    let s = crash_to_nothing(s); // 19: what is stored has to stay
+    crash(s, VersionOp::CrashOp)
+}
+
+// Calls 74 to 82: a start from area 2.
+fn again(s: State) -> State {
+    let s = receive_loc(s, true);
+    let s = page_in_table_req(s, 70, true);
+    let s = page_in_table_resp(s, 70, true);
+    let s = page_in_node_req(s, 1, 71, 2);
+    let n = leaf(s, 1);
+    let s = page_in_node_resp(s, 71, n);
+    let s = read(s, 1);
+    let s = no_step(s, 0); // 1
+    let s = no_step(s, 19); // 1
+    crash(s, VersionOp::CrashOp)
+}
+
+// The store newly formatted on this device, with this contents number; counts and checksum as they were.
+fn formatted(s: State, device: u64, base: u64) -> State {
+    let o = system::format(device, base);
+    let cache = o.cache;
+    let disk = o.disk;
+    State {
+        device,
+        base,
+        calls: s.calls,
+        accepted: s.accepted,
+        checksum: s.checksum,
+        cache,
+        disk,
+    }
+}
+
+// A whole round: the devices take turns.
+pub fn round(s: State, i: u64) -> State {
+    let s = formatted(s, i % 3, i);
+    let s = load(s);
+    let s = work(s);
+    let s = write_back(s);
+    let s = persist(s);
+    let s = lose(s);
+    again(s)
+}
+
+// Nothing called yet.
+pub fn start() -> State {
+    let o = system::format(0, 0);
+    let cache = o.cache;
+    let disk = o.disk;
+    State {
+        device: 0,
+        base: 0,
+        calls: 0,
+        accepted: 0,
+        checksum: 0,
+        cache,
+        disk,
+    }
+}

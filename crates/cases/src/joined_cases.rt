@@ -1,0 +1,341 @@
+// The joined call: the lowest number of cache and disk, and where either refuses neither moves. After each case stands how many of
+// the two have changed: none after a refusal, or after step 14.
+use crate::changed::changed;
+use crate::made::AREA1;
+use crate::made::AREA2;
+use crate::made::BLOCK1;
+use crate::made::BLOCK2;
+use crate::made::BLOCK3;
+use crate::made::at;
+use crate::made::entry_at;
+use crate::made::in_phase;
+use crate::made::leaf;
+use crate::made::one;
+use crate::made::queue_of;
+use crate::made::queued;
+use crate::made::ready;
+use crate::made::stored;
+use crate::made::storing;
+use crate::made::two_entries;
+use crate::made::with_cached;
+use crate::made::with_ephemeral;
+use crate::made::with_frozen;
+use crate::made::with_reads;
+use crate::made::with_writes;
+use crate::show::idle;
+use crate::show::internal;
+use crate::show::pair;
+use cache::Awaited;
+use cache::Cache;
+use cache::Call;
+use cache::Phase;
+use cache::VersionOp;
+use disk::Brought;
+use disk::Disk;
+use disk::DiskOp;
+use disk::Records;
+use layout::Location;
+use queue::Requests;
+
+fn both(name: &[u8], number: u64, q: Call, offered: Records, c: Cache, s: Disk) {
+    let o = system::step(0, number, q, offered, c, s);
+    let d = o.cache;
+    let t = o.disk;
+    let n = changed(c, d, s, t);
+    pair(b"joined", name, o.answer);
+    pair(b"changed_by", name, n);
+}
+
+fn joined(name: &[u8], number: u64, q: Call, c: Cache, s: Disk) {
+    let offered = disk::no_records();
+    both(name, number, q, offered, c, s);
+}
+
+// A disk that stores nothing and has nothing outstanding.
+fn empty() -> Disk {
+    let none = disk::no_records();
+    storing(none)
+}
+
+// Reference 1 cached with contents 9.
+fn cached() -> Cache {
+    let c = ready();
+    let node = leaf(9);
+    with_cached(c, 1, node)
+}
+
+// Step 1: reference 1 to a place under an id.
+fn write_call(id: u64, loc: Location) -> Call {
+    let node = leaf(9);
+    let dop = DiskOp::ReqWriteNodeOp(id, loc);
+    internal(1, dop, node)
+}
+
+// n writes at block 2 in both the cache's and the disk's form.
+fn writes(n: u64) -> Requests {
+    let loc = at(BLOCK2, 4096);
+    queue_of(n, loc)
+}
+
+fn step_1_ids() {
+    let c = cached();
+    let w = writes(1);
+    let known = with_writes(c, w);
+    let s = queued(4, w);
+    let none = empty();
+    let loc = at(BLOCK3, 4096);
+    let q = write_call(1, loc);
+    joined(b"step_1_accepted", 1, q, c, none);
+    joined(
+        b"step_1_with_5_of_the_cache_and_15_of_the_disk",
+        1,
+        q,
+        known,
+        s,
+    );
+    joined(b"step_1_with_5_of_the_cache_alone", 1, q, known, none);
+    joined(b"step_1_with_15_of_the_disk_alone", 1, q, c, s);
+}
+
+fn step_1_limits() {
+    let c = cached();
+    let w = writes(16);
+    let full = with_writes(c, w);
+    let s = queued(4, w);
+    let none = empty();
+    let loc = at(BLOCK3, 4096);
+    let past = at(8650752, 1);
+    let q = write_call(99, loc);
+    let r = write_call(99, past);
+    joined(
+        b"step_1_with_14_of_the_cache_and_18_of_the_disk",
+        1,
+        q,
+        full,
+        s,
+    );
+    joined(b"step_1_with_18_of_the_disk_alone", 1, q, c, s);
+    joined(b"step_1_with_16_of_the_disk_alone", 1, r, c, none);
+}
+
+// Step 2 under id 1, which the cache awaits.
+fn step_2() {
+    let c = cached();
+    let w = writes(1);
+    let awaiting = with_writes(c, w);
+    let s = queued(4, w);
+    let none = empty();
+    let dop = DiskOp::RespWriteNodeOp(1);
+    let node = sector::empty_node();
+    let q = internal(0, dop, node);
+    joined(b"step_2_accepted", 2, q, awaiting, s);
+    joined(b"step_2_with_15_of_the_disk_alone", 2, q, awaiting, none);
+}
+
+// n requests at table area 2.
+fn table_requests(n: u64) -> Requests {
+    let loc = at(AREA2, 4096);
+    queue_of(n, loc)
+}
+
+// The frozen table, whole, to area 2 under id 1.
+fn step_3() {
+    let c = ready();
+    let t = two_entries();
+    let frozen = with_frozen(c, true, t);
+    let p = table_requests(1);
+    let r = table_requests(16);
+    let known = queued(3, p);
+    let full = queued(3, r);
+    let none = empty();
+    let loc = at(AREA2, 4096);
+    let node = sector::empty_node();
+    let dop = DiskOp::ReqWriteIndirectionTableOp(1, loc);
+    let other = DiskOp::ReqWriteIndirectionTableOp(99, loc);
+    let mut q = internal(0, dop, node);
+    q.table = t;
+    let mut x = internal(0, other, node);
+    x.table = t;
+    joined(b"step_3_accepted", 3, q, frozen, none);
+    joined(b"step_3_with_15_of_the_disk_alone", 3, q, frozen, known);
+    joined(b"step_3_with_18_of_the_disk_alone", 3, x, frozen, full);
+}
+
+// A table write to area 2 under id 1 is awaited.
+fn awaiting_table() -> Cache {
+    let c = ready();
+    let t = two_entries();
+    let mut next = with_frozen(c, true, t);
+    let loc = at(AREA2, 4096);
+    let mut ps = next.places;
+    ps.isfrozen = true;
+    ps.frozen = loc;
+    next.places = ps;
+    let a = Awaited {
+        waiting: true,
+        id: 1,
+    };
+    next.awaited = a;
+    next
+}
+
+fn step_4() {
+    let c = awaiting_table();
+    let p = table_requests(1);
+    let s = queued(3, p);
+    let none = empty();
+    let loc = at(AREA2, 4096);
+    let node = sector::empty_node();
+    let table = sector::empty_table();
+    let vop = VersionOp::SendFrozenLocOp(loc);
+    let dop = DiskOp::RespWriteIndirectionTableOp(1);
+    let q = Call {
+        reference: 0,
+        vop,
+        dop,
+        node,
+        table,
+    };
+    joined(b"step_4_accepted", 4, q, c, s);
+    joined(b"step_4_with_15_of_the_disk_alone", 4, q, c, none);
+}
+
+// Step 6: reference 1 under an id.
+fn read_call(id: u64, loc: Location) -> Call {
+    let node = sector::empty_node();
+    let dop = DiskOp::ReqReadNodeOp(id, loc);
+    internal(1, dop, node)
+}
+
+// Reference 1 lies past the last block: a ValidNodeLocation, but in none of the 128 blocks.
+fn past_the_blocks() -> Cache {
+    let c = ready();
+    let t = two_entries();
+    let e = entry_at(8650752);
+    let u = sector::with_entry(t, 1, e);
+    with_ephemeral(c, u)
+}
+
+fn step_6() {
+    let c = ready();
+    let past = past_the_blocks();
+    let loc = at(BLOCK1, 4096);
+    let beyond = at(8650752, 4096);
+    let p = queue_of(1, loc);
+    let r = queue_of(16, loc);
+    let known = queued(2, p);
+    let full = queued(2, r);
+    let none = empty();
+    let q = read_call(1, loc);
+    let x = read_call(99, loc);
+    let y = read_call(1, beyond);
+    joined(b"step_6_accepted", 6, q, c, none);
+    joined(b"step_6_with_15_of_the_disk_alone", 6, q, c, known);
+    joined(b"step_6_with_16_of_the_disk_alone", 6, y, past, none);
+    joined(b"step_6_with_18_of_the_disk_alone", 6, x, c, full);
+}
+
+// Step 7 under id 1: the disk stores nothing at the place asked for.
+fn step_7() {
+    let c = ready();
+    let nowhere = sector::empty_loc();
+    let loc = at(BLOCK1, 4096);
+    let r = one(1, 1, nowhere);
+    let p = queue_of(1, loc);
+    let awaiting = with_reads(c, r);
+    let s = queued(2, p);
+    let none = empty();
+    let node = leaf(9);
+    let dop = DiskOp::RespReadNodeOp(1, Brought::Something);
+    let q = internal(0, dop, node);
+    joined(b"step_7_with_17_of_the_disk_alone", 7, q, awaiting, s);
+    joined(b"step_7_with_15_of_the_disk_alone", 7, q, awaiting, none);
+}
+
+// A cache that is loading this place.
+fn loading(loc: Location) -> Cache {
+    let unready = cache::unready();
+    let phase = Phase::Loading;
+    let mut c = in_phase(unready, phase);
+    let mut ps = c.places;
+    ps.persistent = loc;
+    c.places = ps;
+    c
+}
+
+fn step_8() {
+    let loc = at(AREA2, 4096);
+    let wrong = at(AREA2, 0);
+    let c = loading(loc);
+    let d = loading(wrong);
+    let p = table_requests(1);
+    let r = table_requests(16);
+    let known = queued(1, p);
+    let full = queued(1, r);
+    let none = empty();
+    let node = sector::empty_node();
+    let one = DiskOp::ReqReadIndirectionTableOp(1, loc);
+    let many = DiskOp::ReqReadIndirectionTableOp(99, loc);
+    let short = DiskOp::ReqReadIndirectionTableOp(1, wrong);
+    let q = internal(0, one, node);
+    let x = internal(0, many, node);
+    let y = internal(0, short, node);
+    joined(b"step_8_accepted", 8, q, c, none);
+    joined(b"step_8_with_15_of_the_disk_alone", 8, q, c, known);
+    joined(b"step_8_with_16_of_the_disk_alone", 8, y, d, none);
+    joined(b"step_8_with_18_of_the_disk_alone", 8, x, c, full);
+}
+
+// A crash that is offered no records while a node and a table are stored.
+fn crash() {
+    let c = ready();
+    let r = stored();
+    let s = storing(r);
+    let none = disk::no_records();
+    let node = sector::empty_node();
+    let table = sector::empty_table();
+    let vop = VersionOp::CrashOp;
+    let dop = DiskOp::NoDiskOp;
+    let q = Call {
+        reference: 0,
+        vop,
+        dop,
+        node,
+        table,
+    };
+    let p = table_requests(1);
+    let outstanding = queued(3, p);
+    both(b"crash_accepted", 18, q, none, c, outstanding);
+    both(b"crash_with_19_of_the_disk_alone", 18, q, none, c, s);
+}
+
+// 1 of one of the two alone, and step numbers outside 1 to 18.
+fn forms() {
+    let c = ready();
+    let none = empty();
+    let q = idle();
+    let nowhere = sector::empty_loc();
+    let p = one(1, 0, nowhere);
+    let broken = queued(4, p);
+    let loc = at(AREA1, 4096);
+    let r = one(1, 0, loc);
+    let wrong = with_reads(c, r);
+    joined(b"step_14_accepted", 14, q, c, none);
+    joined(b"step_14_with_1_of_the_disk_alone", 14, q, c, broken);
+    joined(b"step_14_with_1_of_the_cache_alone", 14, q, wrong, none);
+    joined(b"step_0", 0, q, c, none);
+    joined(b"step_19", 19, q, c, none);
+}
+
+pub(crate) fn run() {
+    step_1_ids();
+    step_1_limits();
+    step_2();
+    step_3();
+    step_4();
+    step_6();
+    step_7();
+    step_8();
+    crash();
+    forms();
+}

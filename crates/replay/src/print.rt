@@ -1,0 +1,90 @@
+// What is printed.
+use layout::Location;
+use libc::STDOUT_FILENO;
+use sector::Node;
+use sector::Succs;
+use system::Counts;
+use words::digits::wide;
+
+// The lines passed, and how many of them were calls, accepted, refused and errors.
+pub struct Tally {
+    pub lines: u64,
+    pub calls: u64,
+    pub accepted: u64,
+    pub refused: u64,
+    pub errors: u64,
+}
+
+pub fn nothing() -> Tally {
+    Tally {
+        lines: 0,
+        calls: 0,
+        accepted: 0,
+        refused: 0,
+        errors: 0,
+    }
+}
+
+pub fn text(s: &[u8]) {
+    io::write_all(STDOUT_FILENO, s);
+}
+
+// A word with a number: the key, `=` and all, and the digits.
+pub fn word(key: &[u8], n: u64) {
+    io::write_all(STDOUT_FILENO, key);
+    io::print_decimal(STDOUT_FILENO, n);
+}
+
+pub fn error(line: u64) {
+    word(b"line=", line);
+    text(b" error\n");
+}
+
+pub fn answer(line: u64, answer: u64) {
+    word(b"line=", line);
+    word(b" answer=", answer);
+    text(b"\n");
+}
+
+// A list's references, joined by commas.
+fn list(l: Succs) {
+    let count = l.count as usize;
+    let mut i: usize = 0;
+    while i < 8 {
+        if i < count {
+            if i > 0 {
+                text(b",");
+            }
+            io::print_decimal(STDOUT_FILENO, wide(l.at[i]));
+        }
+        i += 1;
+    }
+}
+
+// What step 17 answers.
+pub fn read(line: u64, answer: u64, node: Node) {
+    word(b"line=", line);
+    word(b" answer=", answer);
+    word(b" contents=", node.contents);
+    text(b" succs=");
+    list(node.succs);
+    text(b"\n");
+}
+
+pub fn counts(line: u64, place: Location, c: Counts) {
+    word(b"line=", line);
+    word(b" place=", place.addr);
+    word(b"+", place.len);
+    word(b" lost=", c.lost);
+    word(b" added=", c.added);
+    word(b" altered=", c.altered);
+    text(b"\n");
+}
+
+pub fn summary(t: Tally) {
+    word(b"calls=", t.calls);
+    word(b" accepted=", t.accepted);
+    word(b" refused=", t.refused);
+    word(b" errors=", t.errors);
+    text(b"\n");
+}

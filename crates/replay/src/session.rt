@@ -1,0 +1,219 @@
+// A run of a script: the store, its names and pictures, and what has been counted. Each function takes the session and hands
+// back the next one.
+use crate::print;
+use crate::print::Tally;
+use crate::show;
+use cache::Cache;
+use cache::Call;
+use disk::Disk;
+use disk::Records;
+use system::Named;
+use system::Outcome;
+use system::Story;
+use words::line::Line;
+
+// A sequence of calls on one device: where it stands, and its names and pictures.
+pub struct Store {
+    pub device: u64,
+    pub cache: Cache,
+    pub disk: Disk,
+    pub story: Story,
+}
+
+// Until a `format` has been accepted no sequence has been started, and what stands in `store` is not used.
+pub struct Session {
+    pub started: bool,
+    pub store: Store,
+    pub tally: Tally,
+}
+
+// The store after a call that was accepted.
+fn moved(device: u64, o: Outcome, story: Story) -> Store {
+    let cache = o.cache;
+    let disk = o.disk;
+    Store {
+        device,
+        cache,
+        disk,
+        story,
+    }
+}
+
+pub fn unstarted() -> Session {
+    let o = system::format(0, 0);
+    let story = system::format_story(0, 0);
+    let store = moved(0, o, story);
+    Session {
+        started: false,
+        store,
+        tally: print::nothing(),
+    }
+}
+
+// One more, as far as 64 bits go: no run comes there.
+fn more(n: u64) -> u64 {
+    if n < u64::MAX { n + 1 } else { n }
+}
+
+// Whether the place of a comes before that of b.
+fn comes_before(a: Named, b: Named) -> bool {
+    let p = a.place;
+    let q = b.place;
+    (p.addr < q.addr) | ((p.addr == q.addr) & (p.len < q.len))
+}
+
+fn audit_one(line: u64, store: Store, named: Named) {
+    if named.present {
+        let disk = store.disk;
+        let c = system::audit(store.device, disk, named);
+        print::counts(line, named.place, c);
+    }
+}
+
+impl Store {
+    // Each named place, by ascending address.
+    fn audit(self, line: u64) {
+        let story = self.story;
+        let first = story.first;
+        let second = story.second;
+        if comes_before(second, first) {
+            audit_one(line, self, second);
+            audit_one(line, self, first);
+        } else {
+            audit_one(line, self, first);
+            audit_one(line, self, second);
+        }
+    }
+
+    fn show(self, line: u64) {
+        let cache = self.cache;
+        let disk = self.disk;
+        show::sizes(line, cache);
+        show::blocks(line, self.device, cache, disk);
+    }
+
+    fn step(self, number: u64, call: Call, offered: Records) -> Outcome {
+        let cache = self.cache;
+        let disk = self.disk;
+        system::step(self.device, number, call, offered, cache, disk)
+    }
+}
+
+impl Session {
+    fn error(mut self) -> Session {
+        let mut t = self.tally;
+        t.errors = more(t.errors);
+        self.tally = t;
+        print::error(t.lines);
+        self
+    }
+
+    fn counted(mut self, answer: u64) -> Session {
+        let mut t = self.tally;
+        t.calls = more(t.calls);
+        if answer == 0 {
+            t.accepted = more(t.accepted);
+        } else {
+            t.refused = more(t.refused);
+        }
+        self.tally = t;
+        self
+    }
+
+    // A refused `format` leaves the sequence before it as it was.
+    fn format(self, device: u64, contents: u64) -> Session {
+        let o = system::format(device, contents);
+        let answer = o.answer;
+        print::answer(self.tally.lines, answer);
+        let mut next = self.counted(answer);
+        if answer == 0 {
+            let story = system::format_story(device, contents);
+            let store = moved(device, o, story);
+            next.started = true;
+            next.store = store;
+        }
+        next
+    }
+
+    // Makes a call, prints what it answers, and keeps names and pictures where it is accepted.
+    fn call(self, number: u64, call: Call, offered: Records) -> Session {
+        let store = self.store;
+        let o = store.step(number, call, offered);
+        let answer = o.answer;
+        if number == 17 {
+            print::read(self.tally.lines, answer, o.node);
+        } else {
+            print::answer(self.tally.lines, answer);
+        }
+        let mut next = self.counted(answer);
+        if answer == 0 {
+            let before = store.story;
+            let story = before.after(number, call);
+            let after = moved(store.device, o, story);
+            next.store = after;
+        }
+        next
+    }
+
+    // A step line, by what follows its first word. Only a crash is offered records other than those that are stored.
+    fn step(self, number: u64, rest: &[u8]) -> Session {
+        let crash = number == 18;
+        let q = script::request::request_of(rest, crash);
+        if !q.ok {
+            return self.error();
+        }
+        let store = self.store;
+        let cache = store.cache;
+        let disk = store.disk;
+        let stored = disk.records;
+        let call = script::calls::call_of(q, store.device, cache, disk);
+        if !crash {
+            return self.call(number, call, stored);
+        }
+        let offer = script::offer::offered(rest, stored);
+        if !offer.ok {
+            return self.error();
+        }
+        let records = offer.records;
+        self.call(number, call, records)
+    }
+
+    // A line that wants a sequence.
+    fn started_line(self, kind: Line, s: &[u8]) -> Session {
+        if !self.started {
+            return self.error();
+        }
+        let store = self.store;
+        let line = self.tally.lines;
+        match kind {
+            Line::Step(n) => self.step(n, words::line::rest(s)),
+            Line::Audit => {
+                store.audit(line);
+                self
+            }
+            Line::Show => {
+                store.show(line);
+                self
+            }
+            Line::Format(d, c) => self.format(d, c),
+            Line::Skip => self,
+            Line::Bad => self.error(),
+        }
+    }
+
+    // Runs one line, without its line feed.
+    pub fn run(mut self, s: &[u8]) -> Session {
+        let mut t = self.tally;
+        t.lines = more(t.lines);
+        self.tally = t;
+        let kind = words::line::line_of(s);
+        match kind {
+            Line::Skip => self,
+            Line::Format(d, c) => self.format(d, c),
+            Line::Step(_) => self.started_line(kind, s),
+            Line::Audit => self.started_line(kind, s),
+            Line::Show => self.started_line(kind, s),
+            Line::Bad => self.error(),
+        }
+    }
+}

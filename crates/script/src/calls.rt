@@ -1,0 +1,181 @@
+// The call that a request makes on a cache and a disk.
+use crate::request::NodeSource;
+use crate::request::NodeWord;
+use crate::request::Request;
+use crate::request::TableSource;
+use crate::request::TableWord;
+use cache::Cache;
+use cache::Call;
+use cache::Phase;
+use disk::Brought;
+use disk::Disk;
+use disk::DiskOp;
+use sector::Node;
+use sector::Table;
+
+// A node or nothing, which is zeros.
+pub struct BroughtNode {
+    pub brought: Brought,
+    pub node: Node,
+}
+
+// A table or nothing, which is the empty table.
+pub struct BroughtTable {
+    pub brought: Brought,
+    pub table: Table,
+}
+
+fn some_node(node: Node) -> BroughtNode {
+    BroughtNode {
+        brought: Brought::Something,
+        node,
+    }
+}
+
+fn nothing_node() -> BroughtNode {
+    let node = sector::empty_node();
+    BroughtNode {
+        brought: Brought::Nothing,
+        node,
+    }
+}
+
+fn some_table(table: Table) -> BroughtTable {
+    BroughtTable {
+        brought: Brought::Something,
+        table,
+    }
+}
+
+fn nothing_table() -> BroughtTable {
+    let table = sector::empty_table();
+    BroughtTable {
+        brought: Brought::Nothing,
+        table,
+    }
+}
+
+// What is stored at the place that is queued as a node read under an id.
+fn answered_node(device: u64, disk: Disk, id: u64) -> BroughtNode {
+    let q = disk.queues.nodereads;
+    let records = disk.records;
+    let w = queue::entry(q, id);
+    let loc = w.loc;
+    let r = disk::node_at(device, records, loc);
+    let queued = queue::has(q, id);
+    if queued & r.present {
+        return some_node(r.node);
+    }
+    nothing_node()
+}
+
+fn answered_table(device: u64, disk: Disk, id: u64) -> BroughtTable {
+    let q = disk.queues.tablereads;
+    let records = disk.records;
+    let w = queue::entry(q, id);
+    let loc = w.loc;
+    let r = disk::table_at(device, records, loc);
+    let queued = queue::has(q, id);
+    if queued & r.present {
+        return some_table(r.table);
+    }
+    nothing_table()
+}
+
+// The cached node of a reference, zeros where there is none.
+fn cached_node(cache: Cache, reference: u64) -> Node {
+    if reference > 63 {
+        return sector::empty_node();
+    }
+    let r = reference as usize;
+    let nodes = cache.nodes;
+    let slot = nodes.slots[r];
+    if slot.present {
+        return slot.node;
+    }
+    sector::empty_node()
+}
+
+pub fn is_ready(cache: Cache) -> bool {
+    let phase = cache.phase;
+    match phase {
+        Phase::Unready => false,
+        Phase::Loading => false,
+        Phase::Ready => true,
+    }
+}
+
+// One of the cache's tables, or the empty one where it is not there.
+fn cache_table(present: bool, t: Table) -> BroughtTable {
+    if present {
+        return some_table(t);
+    }
+    some_table(sector::empty_table())
+}
+
+fn node_value(
+    w: NodeWord,
+    reference: u64,
+    id: u64,
+    device: u64,
+    cache: Cache,
+    disk: Disk,
+) -> BroughtNode {
+    let source = w.source;
+    match source {
+        NodeSource::Nothing => nothing_node(),
+        NodeSource::Written => some_node(w.node),
+        NodeSource::Stored => answered_node(device, disk, id),
+        NodeSource::Cached => some_node(cached_node(cache, reference)),
+    }
+}
+
+fn table_value(w: TableWord, id: u64, device: u64, cache: Cache, disk: Disk) -> BroughtTable {
+    let ready = is_ready(cache);
+    let tables = cache.tables;
+    let source = w.source;
+    match source {
+        TableSource::Nothing => nothing_table(),
+        TableSource::Written => some_table(w.table),
+        TableSource::Stored => answered_table(device, disk, id),
+        TableSource::Frozen => cache_table(ready & tables.isfrozen, tables.frozen),
+        TableSource::Ephemeral => cache_table(ready, tables.ephemeral),
+        TableSource::Persistent => cache_table(ready, tables.persistent),
+    }
+}
+
+// The disk operation, with what the two read answers bring.
+fn bringing(op: DiskOp, node: Brought, table: Brought) -> DiskOp {
+    match op {
+        DiskOp::ReqReadIndirectionTableOp(id, loc) => DiskOp::ReqReadIndirectionTableOp(id, loc),
+        DiskOp::ReqReadNodeOp(id, loc) => DiskOp::ReqReadNodeOp(id, loc),
+        DiskOp::ReqWriteIndirectionTableOp(id, loc) => DiskOp::ReqWriteIndirectionTableOp(id, loc),
+        DiskOp::ReqWriteNodeOp(id, loc) => DiskOp::ReqWriteNodeOp(id, loc),
+        DiskOp::RespReadIndirectionTableOp(id, _) => DiskOp::RespReadIndirectionTableOp(id, table),
+        DiskOp::RespReadNodeOp(id, _) => DiskOp::RespReadNodeOp(id, node),
+        DiskOp::RespWriteIndirectionTableOp(id) => DiskOp::RespWriteIndirectionTableOp(id),
+        DiskOp::RespWriteNodeOp(id) => DiskOp::RespWriteNodeOp(id),
+        DiskOp::NoDiskOp => DiskOp::NoDiskOp,
+    }
+}
+
+pub fn call_of(q: Request, device: u64, cache: Cache, disk: Disk) -> Call {
+    let id = q.id;
+    let reference = q.reference;
+    let vop = q.vop;
+    let op = q.dop;
+    let n = node_value(q.node, reference, id, device, cache, disk);
+    let t = table_value(q.table, id, device, cache, disk);
+    let brought_node = n.brought;
+    let brought_table = t.brought;
+    let dop = bringing(op, brought_node, brought_table);
+    let node = n.node;
+    let table = t.table;
+    Call {
+        reference,
+        vop,
+        dop,
+        node,
+        table,
+    }
+}

@@ -1,0 +1,203 @@
+// The records that a crash line offers: what is stored, but where a word of the line says otherwise.
+use disk::NodeRecord;
+use disk::Records;
+use disk::TableRecord;
+use layout::Location;
+use words::digits::Digits;
+use words::digits::Place;
+use words::digits::location;
+use words::digits::small;
+use words::lists::node;
+use words::tables::TableRead;
+use words::tables::no_table;
+use words::tables::table;
+use words::text::after;
+use words::text::find;
+use words::text::front;
+use words::text::same;
+use words::text::starts;
+use words::text::word;
+
+pub struct AreaRead {
+    pub ok: bool,
+    pub record: TableRecord,
+}
+
+pub struct BlockRead {
+    pub ok: bool,
+    pub record: NodeRecord,
+}
+
+// The records so far, and the blocks that a word has named; where a word is not of the form, `ok` is false and the rest says
+// nothing.
+pub struct Offer {
+    pub ok: bool,
+    pub named: [bool; 128],
+    pub records: Records,
+}
+
+fn no_area(ok: bool) -> AreaRead {
+    let table = sector::empty_table();
+    AreaRead {
+        ok,
+        record: TableRecord {
+            present: false,
+            loc: Location { addr: 0, len: 0 },
+            table,
+        },
+    }
+}
+
+fn no_block(ok: bool) -> BlockRead {
+    let node = sector::empty_node();
+    BlockRead {
+        ok,
+        record: NodeRecord {
+            present: false,
+            loc: Location { addr: 0, len: 0 },
+            node,
+        },
+    }
+}
+
+// A table behind a `/`: written out, or `empty`.
+fn offered_table(w: &[u8]) -> TableRead {
+    if same(w, b"empty") {
+        let mut t = no_table();
+        t.ok = true;
+        return t;
+    }
+    table(w)
+}
+
+// `none` or `ADDR+LEN/TABLE`.
+fn area(w: &[u8]) -> AreaRead {
+    if same(w, b"none") {
+        return no_area(true);
+    }
+    let at = find(w, b'/');
+    if at == w.len() {
+        return no_area(false);
+    }
+    let Place::At(loc) = location(front(w, at)) else {
+        return no_area(false);
+    };
+    let t = offered_table(after(w, at + 1));
+    if !t.ok {
+        return no_area(false);
+    }
+    let table = t.table;
+    AreaRead {
+        ok: true,
+        record: TableRecord {
+            present: true,
+            loc,
+            table,
+        },
+    }
+}
+
+// `none` or `ADDR+LEN/NODE`.
+fn block(w: &[u8]) -> BlockRead {
+    if same(w, b"none") {
+        return no_block(true);
+    }
+    let at = find(w, b'/');
+    if at == w.len() {
+        return no_block(false);
+    }
+    let Place::At(loc) = location(front(w, at)) else {
+        return no_block(false);
+    };
+    let n = node(after(w, at + 1));
+    if !n.ok {
+        return no_block(false);
+    }
+    let node = n.node;
+    BlockRead {
+        ok: true,
+        record: NodeRecord {
+            present: true,
+            loc,
+            node,
+        },
+    }
+}
+
+fn refused(o: Offer) -> Offer {
+    let mut next = o;
+    next.ok = false;
+    next
+}
+
+// With what a line has for one of the table areas, 0 or 1; what is stored there where it has nothing.
+fn with_area(o: Offer, rest: &[u8], key: &[u8], k: usize) -> Offer {
+    if k > 1 {
+        return o;
+    }
+    let w = word(rest, key);
+    if w.len() == 0 {
+        return o;
+    }
+    let a = area(after(w, key.len()));
+    if !a.ok {
+        return refused(o);
+    }
+    let record = a.record;
+    let mut records = o.records;
+    records.tables[k] = record;
+    let mut next = o;
+    next.records = records;
+    next
+}
+
+// With what one word has for a block, `K:` and the record; no block is named twice.
+fn with_block(o: Offer, w: &[u8]) -> Offer {
+    let at = find(w, b':');
+    if at == w.len() {
+        return refused(o);
+    }
+    let Digits::Value(n) = small(front(w, at), 127) else {
+        return refused(o);
+    };
+    let b = block(after(w, at + 1));
+    let k = (n % 128) as usize;
+    if !b.ok | o.named[k] {
+        return refused(o);
+    }
+    let record = b.record;
+    let mut records = o.records;
+    records.nodes[k] = record;
+    let mut next = o;
+    next.records = records;
+    next.named[k] = true;
+    next
+}
+
+// With what all the words of a line have for blocks.
+fn with_blocks(o: Offer, rest: &[u8]) -> Offer {
+    let mut next = o;
+    let mut at: usize = 0;
+    while at < rest.len() {
+        let tail = after(rest, at + 1);
+        let n = find(tail, b' ');
+        let w = front(tail, n);
+        if starts(w, b"block=") {
+            next = with_block(next, after(w, 6));
+        }
+        at = at + 1 + n;
+    }
+    next
+}
+
+// What a crash line offers, from what follows its first word and what is stored.
+pub fn offered(rest: &[u8], stored: Records) -> Offer {
+    let none = Offer {
+        ok: true,
+        named: [false; 128],
+        records: stored,
+    };
+    let one = with_area(none, rest, b"table1=", 0);
+    let two = with_area(one, rest, b"table2=", 1);
+    with_blocks(two, rest)
+}

@@ -1,0 +1,245 @@
+// What a step line asks for, before it is known what the cache and the disk hold.
+use crate::operations::DiskRead;
+use crate::operations::Uiop;
+use crate::operations::VersionRead;
+use crate::operations::disk_word;
+use crate::operations::uiop_word;
+use crate::operations::version_word;
+use cache::VersionOp;
+use disk::DiskOp;
+use sector::Node;
+use sector::Table;
+use words::digits::Digits;
+use words::digits::Place;
+use words::digits::number_word;
+use words::digits::place_word;
+use words::lists::node;
+use words::tables::table;
+use words::text::CRASH_LAST;
+use words::text::STEP_FIRST;
+use words::text::STEP_LAST;
+use words::text::after;
+use words::text::same;
+use words::text::word;
+use words::text::words_fit;
+
+// Where a call's node comes from. No word, and `none`, bring nothing.
+pub enum NodeSource {
+    Nothing,
+    Written,
+    Stored,
+    Cached,
+}
+
+// The same for its table; `empty` counts as written out.
+pub enum TableSource {
+    Nothing,
+    Written,
+    Stored,
+    Frozen,
+    Ephemeral,
+    Persistent,
+}
+
+// The source, with the node itself where it is written out, else zeros.
+pub struct NodeWord {
+    pub ok: bool,
+    pub source: NodeSource,
+    pub node: Node,
+}
+
+pub struct TableWord {
+    pub ok: bool,
+    pub source: TableSource,
+    pub table: Table,
+}
+
+// The two operations, and the id that the disk operation has, which `stored` goes by too; where a word of theirs is not of the
+// form, `ok` is false and the rest says nothing.
+pub struct Operations {
+    pub ok: bool,
+    pub id: u64,
+    pub vop: VersionOp,
+    pub dop: DiskOp,
+}
+
+// A step line, read; where it is not of the form, `ok` is false and the rest says nothing.
+pub struct Request {
+    pub ok: bool,
+    pub reference: u64,
+    pub id: u64,
+    pub vop: VersionOp,
+    pub dop: DiskOp,
+    pub node: NodeWord,
+    pub table: TableWord,
+}
+
+fn node_from(source: NodeSource) -> NodeWord {
+    let node = sector::empty_node();
+    NodeWord {
+        ok: true,
+        source,
+        node,
+    }
+}
+
+fn node_written(w: &[u8]) -> NodeWord {
+    let read = node(w);
+    let ok = read.ok;
+    let node = read.node;
+    NodeWord {
+        ok,
+        source: NodeSource::Written,
+        node,
+    }
+}
+
+fn node_of(w: &[u8]) -> NodeWord {
+    if same(w, b"none") {
+        return node_from(NodeSource::Nothing);
+    }
+    if same(w, b"stored") {
+        return node_from(NodeSource::Stored);
+    }
+    if same(w, b"cached") {
+        return node_from(NodeSource::Cached);
+    }
+    node_written(w)
+}
+
+fn table_from(source: TableSource) -> TableWord {
+    let table = sector::empty_table();
+    TableWord {
+        ok: true,
+        source,
+        table,
+    }
+}
+
+fn table_written(w: &[u8]) -> TableWord {
+    let read = table(w);
+    let ok = read.ok;
+    let table = read.table;
+    TableWord {
+        ok,
+        source: TableSource::Written,
+        table,
+    }
+}
+
+fn table_of(w: &[u8]) -> TableWord {
+    if same(w, b"none") {
+        return table_from(TableSource::Nothing);
+    }
+    if same(w, b"empty") {
+        return table_from(TableSource::Written);
+    }
+    if same(w, b"stored") {
+        return table_from(TableSource::Stored);
+    }
+    if same(w, b"frozen") {
+        return table_from(TableSource::Frozen);
+    }
+    if same(w, b"ephemeral") {
+        return table_from(TableSource::Ephemeral);
+    }
+    if same(w, b"persistent") {
+        return table_from(TableSource::Persistent);
+    }
+    table_written(w)
+}
+
+fn node_word(rest: &[u8]) -> NodeWord {
+    let w = word(rest, b"node=");
+    if w.len() == 0 {
+        return node_from(NodeSource::Nothing);
+    }
+    node_of(after(w, 5))
+}
+
+fn table_word(rest: &[u8]) -> TableWord {
+    let w = word(rest, b"table=");
+    if w.len() == 0 {
+        return table_from(TableSource::Nothing);
+    }
+    table_of(after(w, 6))
+}
+
+// Whether a step line's words are of the form, each key at most once; `table1`, `table2` and `block` are a crash's alone.
+fn step_words_fit(rest: &[u8], crash: bool) -> bool {
+    if crash {
+        return words_fit(rest, STEP_FIRST, CRASH_LAST);
+    }
+    words_fit(rest, STEP_FIRST, STEP_LAST)
+}
+
+fn no_operations() -> Operations {
+    Operations {
+        ok: false,
+        id: 0,
+        vop: VersionOp::StatesInternalOp,
+        dop: DiskOp::NoDiskOp,
+    }
+}
+
+// The two operations of a step line, with all that they carry.
+fn operations_of(rest: &[u8]) -> Operations {
+    let Digits::Value(id) = number_word(rest, b"id=") else {
+        return no_operations();
+    };
+    let Place::At(vloc) = place_word(rest, b"vloc=") else {
+        return no_operations();
+    };
+    let Place::At(loc) = place_word(rest, b"loc=") else {
+        return no_operations();
+    };
+    let Uiop::IsNoOp(noop) = uiop_word(rest) else {
+        return no_operations();
+    };
+    let VersionRead::Op(vop) = version_word(rest, vloc, noop) else {
+        return no_operations();
+    };
+    let DiskRead::Op(dop) = disk_word(rest, id, loc) else {
+        return no_operations();
+    };
+    Operations {
+        ok: true,
+        id,
+        vop,
+        dop,
+    }
+}
+
+fn request_from(
+    ok: bool,
+    reference: u64,
+    o: Operations,
+    node: NodeWord,
+    table: TableWord,
+) -> Request {
+    let vop = o.vop;
+    let dop = o.dop;
+    Request {
+        ok,
+        reference,
+        id: o.id,
+        vop,
+        dop,
+        node,
+        table,
+    }
+}
+
+// What a step line asks for, from what follows its first word.
+pub fn request_of(rest: &[u8], crash: bool) -> Request {
+    let fit = step_words_fit(rest, crash);
+    let o = operations_of(rest);
+    let node = node_word(rest);
+    let table = table_word(rest);
+    let ok = fit & o.ok & node.ok & table.ok;
+    let reference = number_word(rest, b"ref=");
+    match reference {
+        Digits::Value(r) => request_from(ok, r, o, node, table),
+        Digits::Bad => request_from(false, 0, o, node, table),
+    }
+}

@@ -1,0 +1,75 @@
+-- By the two sides. Assumes nothing.
+use mathlib.Core.Path.{_∙_, sym}
+use borrow.Author.Needs.{needs}
+use borrow.Author.Tests.{eq-eqb, ne-eqb}
+use Rattle.words.proofs.digits.location.Statement.{statement}
+use Rattle.words.specs.Numbers.{locationOf}
+use Rattle.words.proofs.digits.location.Tie as tie
+
+find-requires : tie.Need-find-requires
+find-requires c κs = search needs
+
+returns : tie.Need-returns
+unfolding locationOf
+returns c = simp (eq-eqb _ _ (rw (c .before .find .ensures .0) at (c .if1 .taken)))
+
+front-requires : tie.Need-front-requires
+front-requires c κs = search needs
+
+number-requires : tie.Need-number-requires
+number-requires c κs = search needs
+
+enum-known-addr : tie.Need-enum-known-addr
+enum-known-addr c = search needs
+
+enum-told : tie.Need-enum-told
+enum-told c = search needs
+
+returns-2 : tie.Need-returns-2
+unfolding locationOf
+returns-2 c =
+    simp (ne-eqb _ _ (rw (c .before .before .before .before .before .find .ensures .0) at (c .before .before .before .before .if1 .left)), rw (c .before .before .before .front .ensures, c .before .before .before .before .before .find .ensures .0) at (sym (c .before .before .number .ensures) ∙ c .enum-told .given .1))
+
+add-after : tie.Need-add-after
+add-after c = search needs
+
+after-requires : tie.Need-after-requires
+after-requires c κs = search needs
+
+number-requires-2 : tie.Need-number-requires-2
+number-requires-2 c κs = search needs
+
+enum-known-len : tie.Need-enum-known-len
+enum-known-len c = search needs
+
+enum-told-2 : tie.Need-enum-told-2
+enum-told-2 c = search needs
+
+returns-3 : tie.Need-returns-3
+unfolding locationOf
+returns-3 c =
+    simp (ne-eqb _ _ (rw (c .before .before .before .before .before .before .before .before .before .before .find .ensures .0) at (c .before .before .before .before .before .before .before .before .before .if1 .left)), rw (c .before .before .before .before .before .before .before .before .front .ensures, c .before .before .before .before .before .before .before .before .before .before .find .ensures .0) at (sym (c .before .before .before .before .before .before .before .number .ensures) ∙ c .before .before .before .before .before .addr .given .1), rw (c .before .before .before .after .ensures .0, c .before .before .before .before .before .before .before .before .before .before .find .ensures .0) at (sym (c .before .before .number2 .ensures) ∙ c .enum-told2 .given .1))
+
+returns-4 : tie.Need-returns-4
+unfolding locationOf
+returns-4 c =
+    simp (ne-eqb _ _ (rw (c .before .before .before .before .before .before .before .before .before .before .before .find .ensures .0) at (c .before .before .before .before .before .before .before .before .before .before .if1 .left)), rw (c .before .before .before .before .before .before .before .before .before .front .ensures, c .before .before .before .before .before .before .before .before .before .before .before .find .ensures .0) at (sym (c .before .before .before .before .before .before .before .before .number .ensures) ∙ c .before .before .before .before .before .before .addr .given .1), rw (c .before .before .before .before .after .ensures .0, c .before .before .before .before .before .before .before .before .before .before .before .find .ensures .0) at (sym (c .before .before .before .number2 .ensures) ∙ c .before .len .given .1))
+
+pub location-spec : {M : Type 1} → statement M
+location-spec =
+    tie.close
+    (tie.spec
+    find-requires
+    returns
+    front-requires
+    number-requires
+    enum-known-addr
+    enum-told
+    returns-2
+    add-after
+    after-requires
+    number-requires-2
+    enum-known-len
+    enum-told-2
+    returns-3
+    returns-4)

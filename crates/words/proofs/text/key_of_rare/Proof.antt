@@ -1,0 +1,81 @@
+-- By the first key that fits. Assumes nothing.
+use mathlib.Core.Path.{_∙_, sym}
+use borrow.Author.Needs.{needs}
+use Rattle.words.proofs.text.key_of_rare.Statement.{statement}
+use Rattle.words.specs.Bytes.{rareKeyOf}
+use Rattle.words.proofs.text.key_of_rare.Tie as tie
+
+slice-aggregate-starts : tie.Need-slice-aggregate-starts
+slice-aggregate-starts c = search needs
+
+starts-requires : tie.Need-starts-requires
+starts-requires c κs = search needs
+
+returns : tie.Need-returns
+unfolding rareKeyOf
+returns c = (simp (sym (c .before .starts .ensures) ∙ c .if1 .taken), search needs)
+
+slice-aggregate-starts-2 : tie.Need-slice-aggregate-starts-2
+slice-aggregate-starts-2 c = search needs
+
+starts-requires-2 : tie.Need-starts-requires-2
+starts-requires-2 c κs = search needs
+
+returns-2 : tie.Need-returns-2
+unfolding rareKeyOf
+returns-2 c = (simp (sym (c .before .starts2 .ensures) ∙ c .if2 .taken, sym (c .before .before .before .before .starts .ensures) ∙ c .before .before .before .if1 .left), search needs)
+
+slice-aggregate-starts-3 : tie.Need-slice-aggregate-starts-3
+slice-aggregate-starts-3 c = search needs
+
+starts-requires-3 : tie.Need-starts-requires-3
+starts-requires-3 c κs = search needs
+
+returns-3 : tie.Need-returns-3
+unfolding rareKeyOf
+returns-3 c = (simp (sym (c .before .starts3 .ensures) ∙ c .if3 .taken, sym (c .before .before .before .before .starts2 .ensures) ∙ c .before .before .before .if2 .left, sym (c .before .before .before .before .before .before .before .starts .ensures) ∙ c .before .before .before .before .before .before .if1 .left), search needs)
+
+slice-aggregate-starts-4 : tie.Need-slice-aggregate-starts-4
+slice-aggregate-starts-4 c = search needs
+
+starts-requires-4 : tie.Need-starts-requires-4
+starts-requires-4 c κs = search needs
+
+returns-4 : tie.Need-returns-4
+unfolding rareKeyOf
+returns-4 c = (simp (sym (c .before .starts4 .ensures) ∙ c .if4 .taken, sym (c .before .before .before .before .starts3 .ensures) ∙ c .before .before .before .if3 .left, sym (c .before .before .before .before .before .before .before .starts2 .ensures) ∙ c .before .before .before .before .before .before .if2 .left, sym (c .before .before .before .before .before .before .before .before .before .before .starts .ensures) ∙ c .before .before .before .before .before .before .before .before .before .if1 .left), search needs)
+
+slice-aggregate-starts-5 : tie.Need-slice-aggregate-starts-5
+slice-aggregate-starts-5 c = search needs
+
+starts-requires-5 : tie.Need-starts-requires-5
+starts-requires-5 c κs = search needs
+
+returns-5 : tie.Need-returns-5
+unfolding rareKeyOf
+returns-5 c = (simp (sym (c .before .starts5 .ensures) ∙ c .if5 .taken, sym (c .before .before .before .before .starts4 .ensures) ∙ c .before .before .before .if4 .left, sym (c .before .before .before .before .before .before .before .starts3 .ensures) ∙ c .before .before .before .before .before .before .if3 .left, sym (c .before .before .before .before .before .before .before .before .before .before .starts2 .ensures) ∙ c .before .before .before .before .before .before .before .before .before .if2 .left, sym (c .before .before .before .before .before .before .before .before .before .before .before .before .before .starts .ensures) ∙ c .before .before .before .before .before .before .before .before .before .before .before .before .if1 .left), search needs)
+
+returns-6 : tie.Need-returns-6
+unfolding rareKeyOf
+returns-6 c = (simp (sym (c .before .starts5 .ensures) ∙ c .if5 .left, sym (c .before .before .before .before .starts4 .ensures) ∙ c .before .before .before .if4 .left, sym (c .before .before .before .before .before .before .before .starts3 .ensures) ∙ c .before .before .before .before .before .before .if3 .left, sym (c .before .before .before .before .before .before .before .before .before .before .starts2 .ensures) ∙ c .before .before .before .before .before .before .before .before .before .if2 .left, sym (c .before .before .before .before .before .before .before .before .before .before .before .before .before .starts .ensures) ∙ c .before .before .before .before .before .before .before .before .before .before .before .before .if1 .left), search needs)
+
+pub key-of-rare-spec : {M : Type 1} → statement M
+key-of-rare-spec =
+    tie.close
+    (tie.spec
+    slice-aggregate-starts
+    starts-requires
+    returns
+    slice-aggregate-starts-2
+    starts-requires-2
+    returns-2
+    slice-aggregate-starts-3
+    starts-requires-3
+    returns-3
+    slice-aggregate-starts-4
+    starts-requires-4
+    returns-4
+    slice-aggregate-starts-5
+    starts-requires-5
+    returns-5
+    returns-6)

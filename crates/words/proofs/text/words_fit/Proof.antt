@@ -1,0 +1,73 @@
+-- Each turn passes a word. Assumes nothing.
+use Prim.Native.Nat.{_-_, _≤_}
+use mathlib.Core.Path.{_≡_}
+use borrow.Author.Needs.{needs}
+use lib.ListN.{length, length-set}
+use Rattle.layout.proofs.Devices.{good}
+use Rattle.words.proofs.text.words_fit.Statement.{statement}
+use Rattle.words.proofs.text.words_fit.Tie as tie
+
+abbrev Inv-loop : tie.InvT-loop
+Inv-loop rest first last seen₀ good₀ at₀ seen good at = (at ≤ length rest) × (length seen ≡ 15)
+
+abbrev μ-loop : tie.MeasureT-loop
+μ-loop rest first last seen₀ good₀ at₀ seen good at = length rest - at
+
+loop-holds : tie.Need-loop-holds Inv-loop μ-loop
+loop-holds c = (search needs, search needs)
+
+add-after : tie.Need-add-after Inv-loop μ-loop
+add-after c = search needs
+
+after-requires : tie.Need-after-requires Inv-loop μ-loop
+after-requires c κs = search needs
+
+find-requires : tie.Need-find-requires Inv-loop μ-loop
+find-requires c κs = search needs
+
+front-requires : tie.Need-front-requires Inv-loop μ-loop
+front-requires c κs = search needs
+
+key-of-requires : tie.Need-key-of-requires Inv-loop μ-loop
+key-of-requires c κs = search needs
+
+array-read-twice : tie.Need-array-read-twice Inv-loop μ-loop
+array-read-twice c = search needs
+
+array-write-seen : tie.Need-array-write-seen Inv-loop μ-loop
+array-write-seen c = search needs
+
+add-at : tie.Need-add-at Inv-loop μ-loop
+add-at c = search needs
+
+add-at-2 : tie.Need-add-at-2 Inv-loop μ-loop
+add-at-2 c = search needs
+
+loop-less : tie.Need-loop-less Inv-loop μ-loop
+loop-less c = search needs
+
+loop-again : tie.Need-loop-again Inv-loop μ-loop
+loop-again c = (search needs, simp length-set (c .before .before .before .before .before .loop .inv .1))
+
+returns : tie.Need-returns Inv-loop μ-loop
+returns c = tt
+
+pub words-fit-spec : {M : Type 1} → statement M
+words-fit-spec =
+    tie.close
+    (tie.spec
+    Inv-loop
+    μ-loop
+    loop-holds
+    add-after
+    after-requires
+    find-requires
+    front-requires
+    key-of-requires
+    array-read-twice
+    array-write-seen
+    add-at
+    add-at-2
+    loop-less
+    loop-again
+    returns)

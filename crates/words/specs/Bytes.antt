@@ -1,0 +1,42 @@
+-- Bytes: where one first stands, whether a list begins with another, and which key a word has.
+use Prim.Native.Nat.{ℕ}
+use mathlib.Core.Bool.{Bool, _&&_, cond}
+use mathlib.Core.List.{List, [], _∷_}
+use lib.Dec.{leb, eqb}
+use lib.ListN.{length, getD}
+use Rattle.base.specs.Scan.{allBelow, firstBelow}
+
+-- where b first stands in s; the length of s where it does not
+unfoldable pub findOf : List ℕ → ℕ → ℕ
+findOf s b = firstBelow (λ k. eqb (getD s k 0) b) (length s)
+
+-- s begins with p
+unfoldable pub startsOf : List ℕ → List ℕ → Bool
+startsOf s p = leb (length p) (length s) && allBelow (λ k. eqb (getD s k 0) (getD p k 0)) (length p)
+
+abbrev pub sameOf : List ℕ → List ℕ → Bool
+sameOf s p = startsOf s p && eqb (length s) (length p)
+
+-- table1=, table2=, block=, device=, contents=
+unfoldable pub rareKeyOf : List ℕ → ℕ
+rareKeyOf w =
+    cond (startsOf w (116 ∷ 97 ∷ 98 ∷ 108 ∷ 101 ∷ 49 ∷ 61 ∷ [])) 10
+    (cond (startsOf w (116 ∷ 97 ∷ 98 ∷ 108 ∷ 101 ∷ 50 ∷ 61 ∷ [])) 11
+    (cond (startsOf w (98 ∷ 108 ∷ 111 ∷ 99 ∷ 107 ∷ 61 ∷ [])) 12
+    (cond (startsOf w (100 ∷ 101 ∷ 118 ∷ 105 ∷ 99 ∷ 101 ∷ 61 ∷ [])) 13
+    (cond (startsOf w (99 ∷ 111 ∷ 110 ∷ 116 ∷ 101 ∷ 110 ∷ 116 ∷ 115 ∷ 61 ∷ [])) 14
+    0))))
+
+-- ref=, v=, vloc=, uiop=, d=, id=, loc=, node=, table=
+unfoldable pub keyOf : List ℕ → ℕ
+keyOf w =
+    cond (startsOf w (114 ∷ 101 ∷ 102 ∷ 61 ∷ [])) 1
+    (cond (startsOf w (118 ∷ 61 ∷ [])) 2
+    (cond (startsOf w (118 ∷ 108 ∷ 111 ∷ 99 ∷ 61 ∷ [])) 3
+    (cond (startsOf w (117 ∷ 105 ∷ 111 ∷ 112 ∷ 61 ∷ [])) 4
+    (cond (startsOf w (100 ∷ 61 ∷ [])) 5
+    (cond (startsOf w (105 ∷ 100 ∷ 61 ∷ [])) 6
+    (cond (startsOf w (108 ∷ 111 ∷ 99 ∷ 61 ∷ [])) 7
+    (cond (startsOf w (110 ∷ 111 ∷ 100 ∷ 101 ∷ 61 ∷ [])) 8
+    (cond (startsOf w (116 ∷ 97 ∷ 98 ∷ 108 ∷ 101 ∷ 61 ∷ [])) 9
+    (rareKeyOf w)))))))))

@@ -1,0 +1,91 @@
+// What kind of line it is.
+use crate::digits::Digits;
+use crate::digits::number;
+use crate::digits::number_word;
+use crate::text::FORMAT_FIRST;
+use crate::text::FORMAT_LAST;
+use crate::text::after;
+use crate::text::find;
+use crate::text::front;
+use crate::text::same;
+use crate::text::starts;
+use crate::text::word;
+use crate::text::words_fit;
+
+// A line is at most this long, without its line feed.
+pub const MOST: usize = 4096;
+
+pub enum Line {
+    // Empty, or a comment.
+    Skip,
+    // `format`, with the device and the root's contents.
+    Format(u64, u64),
+    // `step`, with its number; its words are yet to be read.
+    Step(u64),
+    Audit,
+    Show,
+    // Not of the form.
+    Bad,
+}
+
+// What follows a line's first word.
+pub fn rest(s: &[u8]) -> &[u8] {
+    let at = find(s, b' ');
+    after(s, at)
+}
+
+// A `format` line, from what follows its first word: both words, in either order.
+fn format_of(rest: &[u8]) -> Line {
+    let fit = words_fit(rest, FORMAT_FIRST, FORMAT_LAST);
+    let device = word(rest, b"device=");
+    let contents = word(rest, b"contents=");
+    if !fit | (device.len() == 0) | (contents.len() == 0) {
+        return Line::Bad;
+    }
+    let Digits::Value(d) = number_word(rest, b"device=") else {
+        return Line::Bad;
+    };
+    let Digits::Value(c) = number_word(rest, b"contents=") else {
+        return Line::Bad;
+    };
+    Line::Format(d, c)
+}
+
+// A line whose first word stands alone: `audit` and `show`.
+fn alone_of(first: &[u8]) -> Line {
+    if same(first, b"audit") {
+        return Line::Audit;
+    }
+    if same(first, b"show") {
+        return Line::Show;
+    }
+    Line::Bad
+}
+
+// What kind of line s is.
+pub fn line_of(s: &[u8]) -> Line {
+    if s.len() > MOST {
+        return Line::Bad;
+    }
+    if s.len() == 0 {
+        return Line::Skip;
+    }
+    if s[0] == b'#' {
+        return Line::Skip;
+    }
+    let at = find(s, b' ');
+    let first = front(s, at);
+    if same(first, b"format") {
+        return format_of(after(s, at));
+    }
+    if starts(first, b"step=") {
+        let Digits::Value(n) = number(after(first, 5)) else {
+            return Line::Bad;
+        };
+        return Line::Step(n);
+    }
+    if at < s.len() {
+        return Line::Bad;
+    }
+    alone_of(first)
+}

@@ -1,0 +1,105 @@
+// Lists of references, and nodes, written out.
+use crate::digits::Digits;
+use crate::digits::number;
+use crate::digits::small;
+use crate::text::after;
+use crate::text::find;
+use crate::text::front;
+use sector::Node;
+use sector::Succs;
+
+// A list, or zeros where the text is none. (A list has an array, so that no enum holds it.)
+pub struct Listed {
+    pub ok: bool,
+    pub succs: Succs,
+}
+
+pub struct NodeRead {
+    pub ok: bool,
+    pub node: Node,
+}
+
+pub fn empty_list() -> Succs {
+    Succs {
+        count: 0,
+        at: [0; 8],
+    }
+}
+
+fn no_list() -> Listed {
+    Listed {
+        ok: false,
+        succs: empty_list(),
+    }
+}
+
+fn no_node() -> NodeRead {
+    NodeRead {
+        ok: false,
+        node: sector::empty_node(),
+    }
+}
+
+// A list with one reference more. It has at most 8, and each is a byte: from 64 on it is the store that refuses one.
+fn joined(l: Succs, w: &[u8]) -> Listed {
+    let Digits::Value(r) = small(w, 255) else {
+        return no_list();
+    };
+    let count = l.count;
+    if count > 7 {
+        return no_list();
+    }
+    let mut next = l;
+    let at = count as usize;
+    next.at[at] = (r % 256) as u8;
+    next.count = count + 1;
+    Listed {
+        ok: true,
+        succs: next,
+    }
+}
+
+// References joined by commas, perhaps none.
+pub fn list(w: &[u8]) -> Listed {
+    let mut l = Listed {
+        ok: true,
+        succs: empty_list(),
+    };
+    if w.len() == 0 {
+        return l;
+    }
+    let mut from: usize = 0;
+    loop {
+        let tail = after(w, from);
+        let n = find(tail, b',');
+        let before = l.succs;
+        l = joined(before, front(tail, n));
+        if !l.ok {
+            return no_list();
+        }
+        if n == tail.len() {
+            return l;
+        }
+        from = from + n + 1;
+    }
+}
+
+// `CONTENTS:LIST`.
+pub fn node(w: &[u8]) -> NodeRead {
+    let at = find(w, b':');
+    if at == w.len() {
+        return no_node();
+    }
+    let Digits::Value(contents) = number(front(w, at)) else {
+        return no_node();
+    };
+    let l = list(after(w, at + 1));
+    if !l.ok {
+        return no_node();
+    }
+    let succs = l.succs;
+    NodeRead {
+        ok: true,
+        node: Node { contents, succs },
+    }
+}

@@ -1,0 +1,167 @@
+// Bytes, and the words of a line. What follows a line's first word is its rest: each word of it stands behind one space, so a
+// rest is empty or begins with a space, and two spaces, or one at the end, make an empty word, which no key begins.
+
+ghost use lib.ListN.{length, take, drop};
+ghost use mathlib.Core.Path.{_≡_};
+ghost use Prim.Native.Nat.{_-_, _≤_, _<_};
+ghost use Rattle.words.specs.Bytes.{findOf, startsOf, sameOf, keyOf, rareKeyOf};
+
+// The keys by number, as `key_of` gives them: 1 to 9 are those of any step, 10 to 12 a crash's beside them, 13 and 14 those of
+// `format`; 0 is none of these.
+pub const STEP_FIRST: usize = 1;
+
+pub const STEP_LAST: usize = 9;
+
+pub const CRASH_LAST: usize = 12;
+
+pub const FORMAT_FIRST: usize = 13;
+
+pub const FORMAT_LAST: usize = 14;
+
+// The one key that may come more than once.
+const BLOCK: usize = 12;
+
+// Where b first stands in s; the length of s where it does not.
+pub fn find(s: &[u8], b: u8) -> usize
+    ensures { λ r. ⌜ r ≡ findOf (now (s .entry)) b ⌝ }
+    ensures within { λ r. ⌜ r ≤ length (now (s .entry)) ⌝ }
+{
+    let mut i: usize = 0;
+    while i < s.len() {
+        if s[i] == b {
+            return i;
+        }
+        i += 1;
+    }
+    s.len()
+}
+
+// Whether s begins with p.
+pub fn starts(s: &[u8], p: &[u8]) -> bool
+    ensures { λ r. ⌜ r ≡ startsOf (now (s .entry)) (now (p .entry)) ⌝ }
+{
+    if s.len() < p.len() {
+        return false;
+    }
+    let mut i: usize = 0;
+    while i < p.len() {
+        if s[i] != p[i] {
+            return false;
+        }
+        i += 1;
+    }
+    true
+}
+
+// Whether s and p are the same bytes.
+pub fn same(s: &[u8], p: &[u8]) -> bool
+    ensures { λ r. ⌜ r ≡ sameOf (now (s .entry)) (now (p .entry)) ⌝ }
+{
+    let begins = starts(s, p);
+    begins & (s.len() == p.len())
+}
+
+// The first n bytes of w, or all of it where it has fewer.
+pub fn front(w: &[u8], n: usize) -> &[u8]
+    ensures { λ r. ⌜ now r ≡ take n (now (w .entry)) ⌝ }
+{
+    if n <= w.len() { &w[..n] } else { w }
+}
+
+// What stands behind the first n bytes of w: nothing where it has fewer.
+pub fn after(w: &[u8], n: usize) -> &[u8]
+    ensures { λ r. ⌜ now r ≡ drop n (now (w .entry)) ⌝ }
+    ensures size { λ r. ⌜ length (now r) ≡ length (now (w .entry)) - n ⌝ }
+{
+    if n <= w.len() { &w[n..] } else { &w[..0] }
+}
+
+// The first word of a rest that begins with the key, `=` and all; empty where none does.
+pub fn word<'a, 'b>(rest: &'a [u8], key: &'b [u8]) -> &'a [u8] {
+    let mut at: usize = 0;
+    while at < rest.len() {
+        let tail = after(rest, at + 1);
+        let n = find(tail, b' ');
+        let w = front(tail, n);
+        if starts(w, key) {
+            return w;
+        }
+        at = at + 1 + n;
+    }
+    &rest[..0]
+}
+
+// The number of a word's key.
+pub fn key_of(w: &[u8]) -> usize
+    ensures { λ r. ⌜ r ≡ keyOf (now (w .entry)) ⌝ }
+    ensures within { λ r. ⌜ r < 15 ⌝ }
+{
+    if starts(w, b"ref=") {
+        return 1;
+    }
+    if starts(w, b"v=") {
+        return 2;
+    }
+    if starts(w, b"vloc=") {
+        return 3;
+    }
+    if starts(w, b"uiop=") {
+        return 4;
+    }
+    if starts(w, b"d=") {
+        return 5;
+    }
+    if starts(w, b"id=") {
+        return 6;
+    }
+    if starts(w, b"loc=") {
+        return 7;
+    }
+    if starts(w, b"node=") {
+        return 8;
+    }
+    if starts(w, b"table=") {
+        return 9;
+    }
+    key_of_rare(w)
+}
+
+// The same for the words of a crash and of `format`.
+fn key_of_rare(w: &[u8]) -> usize
+    ensures { λ r. ⌜ r ≡ rareKeyOf (now (w .entry)) ⌝ }
+    ensures within { λ r. ⌜ r < 15 ⌝ }
+{
+    if starts(w, b"table1=") {
+        return 10;
+    }
+    if starts(w, b"table2=") {
+        return 11;
+    }
+    if starts(w, b"block=") {
+        return BLOCK;
+    }
+    if starts(w, b"device=") {
+        return 13;
+    }
+    if starts(w, b"contents=") {
+        return 14;
+    }
+    0
+}
+
+// Whether each word of a rest has a key from `first` to `last`, and each but `block` at most once.
+pub fn words_fit(rest: &[u8], first: usize, last: usize) -> bool {
+    let mut seen = [false; 15];
+    let mut good = true;
+    let mut at: usize = 0;
+    while at < rest.len() {
+        let tail = after(rest, at + 1);
+        let n = find(tail, b' ');
+        let k = key_of(front(tail, n));
+        let twice = seen[k] & (k != BLOCK);
+        good = good & (first <= k) & (k <= last) & !twice;
+        seen[k] = true;
+        at = at + 1 + n;
+    }
+    good
+}
