@@ -1,4 +1,6 @@
 // The operations, by the names of upstream's constructors.
+ghost use mathlib.Core.Path.{_≡_};
+ghost use Rattle.script.specs.Operations.{uiopOf, bareVersionOf, versionOf, answerOf, diskOf, uiopWord, versionWord, diskWord};
 use cache::VersionOp;
 use disk::Brought;
 use disk::DiskOp;
@@ -23,7 +25,9 @@ pub enum Uiop {
     Bad,
 }
 
-fn uiop_of(w: &[u8]) -> Uiop {
+fn uiop_of(w: &[u8]) -> Uiop
+    ensures { λ r. ⌜ r ≡ uiopOf (now (w .entry)) ⌝ }
+{
     if same(w, b"NoOp") {
         return Uiop::IsNoOp(true);
     }
@@ -34,7 +38,9 @@ fn uiop_of(w: &[u8]) -> Uiop {
 }
 
 // The version operation of this name, with the location that the two Send operations carry and AdvanceOp's uiop.
-fn version_of(w: &[u8], loc: Location, noop: bool) -> VersionRead {
+fn version_of(w: &[u8], loc: Location, noop: bool) -> VersionRead
+    ensures { λ r. ⌜ r ≡ versionOf (now (w .entry)) loc noop ⌝ }
+{
     if same(w, b"SendPersistentLocOp") {
         return VersionRead::Op(VersionOp::SendPersistentLocOp(loc));
     }
@@ -48,7 +54,9 @@ fn version_of(w: &[u8], loc: Location, noop: bool) -> VersionRead {
 }
 
 // The same of those that carry nothing.
-fn bare_version_of(w: &[u8]) -> VersionRead {
+fn bare_version_of(w: &[u8]) -> VersionRead
+    ensures { λ r. ⌜ r ≡ bareVersionOf (now (w .entry)) ⌝ }
+{
     if same(w, b"StatesInternalOp") {
         return VersionRead::Op(VersionOp::StatesInternalOp);
     }
@@ -74,7 +82,9 @@ fn bare_version_of(w: &[u8]) -> VersionRead {
 }
 
 // The disk operation of this name, with its id and a request's location.
-fn disk_of(w: &[u8], id: u64, loc: Location) -> DiskRead {
+fn disk_of(w: &[u8], id: u64, loc: Location) -> DiskRead
+    ensures { λ r. ⌜ r ≡ diskOf (now (w .entry)) id loc ⌝ }
+{
     if same(w, b"ReqReadIndirectionTableOp") {
         return DiskRead::Op(DiskOp::ReqReadIndirectionTableOp(id, loc));
     }
@@ -91,7 +101,9 @@ fn disk_of(w: &[u8], id: u64, loc: Location) -> DiskRead {
 }
 
 // The same of the answers, and of none. What a read answer brings is known when the call is made: until then it brings nothing.
-fn answer_of(w: &[u8], id: u64) -> DiskRead {
+fn answer_of(w: &[u8], id: u64) -> DiskRead
+    ensures { λ r. ⌜ r ≡ answerOf (now (w .entry)) id ⌝ }
+{
     if same(w, b"RespReadIndirectionTableOp") {
         return DiskRead::Op(DiskOp::RespReadIndirectionTableOp(id, Brought::Nothing));
     }
@@ -111,7 +123,9 @@ fn answer_of(w: &[u8], id: u64) -> DiskRead {
 }
 
 // The three words of a line that say these things, or what holds where a line has none.
-pub fn uiop_word(rest: &[u8]) -> Uiop {
+pub fn uiop_word(rest: &[u8]) -> Uiop
+    ensures { λ r. ⌜ r ≡ uiopWord (now (rest .entry)) ⌝ }
+{
     let w = word(rest, b"uiop=");
     if w.len() == 0 {
         return Uiop::IsNoOp(false);
@@ -119,7 +133,9 @@ pub fn uiop_word(rest: &[u8]) -> Uiop {
     uiop_of(after(w, 5))
 }
 
-pub fn version_word(rest: &[u8], loc: Location, noop: bool) -> VersionRead {
+pub fn version_word(rest: &[u8], loc: Location, noop: bool) -> VersionRead
+    ensures { λ r. ⌜ r ≡ versionWord (now (rest .entry)) loc noop ⌝ }
+{
     let w = word(rest, b"v=");
     if w.len() == 0 {
         return VersionRead::Op(VersionOp::StatesInternalOp);
@@ -127,7 +143,9 @@ pub fn version_word(rest: &[u8], loc: Location, noop: bool) -> VersionRead {
     version_of(after(w, 2), loc, noop)
 }
 
-pub fn disk_word(rest: &[u8], id: u64, loc: Location) -> DiskRead {
+pub fn disk_word(rest: &[u8], id: u64, loc: Location) -> DiskRead
+    ensures { λ r. ⌜ r ≡ diskWord (now (rest .entry)) id loc ⌝ }
+{
     let w = word(rest, b"d=");
     if w.len() == 0 {
         return DiskRead::Op(DiskOp::NoDiskOp);

@@ -1,4 +1,6 @@
 // What a step line asks for, before it is known what the cache and the disk hold.
+ghost use mathlib.Core.Path.{_≡_};
+ghost use Rattle.script.specs.Requests.{nodeFrom, nodeWritten, nodeWordOf, nodeWord, tableFrom, tableWritten, tableWordOf, tableWord, stepWordsFit, noOperations, operationsOf, requestFrom, requestOf};
 use crate::operations::DiskRead;
 use crate::operations::Uiop;
 use crate::operations::VersionRead;
@@ -74,7 +76,9 @@ pub struct Request {
     pub table: TableWord,
 }
 
-fn node_from(source: NodeSource) -> NodeWord {
+fn node_from(source: NodeSource) -> NodeWord
+    ensures { λ r. ⌜ r ≡ nodeFrom source ⌝ }
+{
     let node = sector::empty_node();
     NodeWord {
         ok: true,
@@ -83,7 +87,9 @@ fn node_from(source: NodeSource) -> NodeWord {
     }
 }
 
-fn node_written(w: &[u8]) -> NodeWord {
+fn node_written(w: &[u8]) -> NodeWord
+    ensures { λ r. ⌜ r ≡ nodeWritten (now (w .entry)) ⌝ }
+{
     let read = node(w);
     let ok = read.ok;
     let node = read.node;
@@ -94,7 +100,9 @@ fn node_written(w: &[u8]) -> NodeWord {
     }
 }
 
-fn node_of(w: &[u8]) -> NodeWord {
+fn node_of(w: &[u8]) -> NodeWord
+    ensures { λ r. ⌜ r ≡ nodeWordOf (now (w .entry)) ⌝ }
+{
     if same(w, b"none") {
         return node_from(NodeSource::Nothing);
     }
@@ -107,7 +115,9 @@ fn node_of(w: &[u8]) -> NodeWord {
     node_written(w)
 }
 
-fn table_from(source: TableSource) -> TableWord {
+fn table_from(source: TableSource) -> TableWord
+    ensures { λ r. ⌜ r ≡ tableFrom source ⌝ }
+{
     let table = sector::empty_table();
     TableWord {
         ok: true,
@@ -116,7 +126,9 @@ fn table_from(source: TableSource) -> TableWord {
     }
 }
 
-fn table_written(w: &[u8]) -> TableWord {
+fn table_written(w: &[u8]) -> TableWord
+    ensures { λ r. ⌜ r ≡ tableWritten (now (w .entry)) ⌝ }
+{
     let read = table(w);
     let ok = read.ok;
     let table = read.table;
@@ -127,7 +139,9 @@ fn table_written(w: &[u8]) -> TableWord {
     }
 }
 
-fn table_of(w: &[u8]) -> TableWord {
+fn table_of(w: &[u8]) -> TableWord
+    ensures { λ r. ⌜ r ≡ tableWordOf (now (w .entry)) ⌝ }
+{
     if same(w, b"none") {
         return table_from(TableSource::Nothing);
     }
@@ -149,7 +163,9 @@ fn table_of(w: &[u8]) -> TableWord {
     table_written(w)
 }
 
-fn node_word(rest: &[u8]) -> NodeWord {
+fn node_word(rest: &[u8]) -> NodeWord
+    ensures { λ r. ⌜ r ≡ nodeWord (now (rest .entry)) ⌝ }
+{
     let w = word(rest, b"node=");
     if w.len() == 0 {
         return node_from(NodeSource::Nothing);
@@ -157,7 +173,9 @@ fn node_word(rest: &[u8]) -> NodeWord {
     node_of(after(w, 5))
 }
 
-fn table_word(rest: &[u8]) -> TableWord {
+fn table_word(rest: &[u8]) -> TableWord
+    ensures { λ r. ⌜ r ≡ tableWord (now (rest .entry)) ⌝ }
+{
     let w = word(rest, b"table=");
     if w.len() == 0 {
         return table_from(TableSource::Nothing);
@@ -166,14 +184,18 @@ fn table_word(rest: &[u8]) -> TableWord {
 }
 
 // Whether a step line's words are of the form, each key at most once; `table1`, `table2` and `block` are a crash's alone.
-fn step_words_fit(rest: &[u8], crash: bool) -> bool {
+fn step_words_fit(rest: &[u8], crash: bool) -> bool
+    ensures { λ r. ⌜ r ≡ stepWordsFit (now (rest .entry)) crash ⌝ }
+{
     if crash {
         return words_fit(rest, STEP_FIRST, CRASH_LAST);
     }
     words_fit(rest, STEP_FIRST, STEP_LAST)
 }
 
-fn no_operations() -> Operations {
+fn no_operations() -> Operations
+    ensures { λ r. ⌜ r ≡ noOperations ⌝ }
+{
     Operations {
         ok: false,
         id: 0,
@@ -183,7 +205,9 @@ fn no_operations() -> Operations {
 }
 
 // The two operations of a step line, with all that they carry.
-fn operations_of(rest: &[u8]) -> Operations {
+fn operations_of(rest: &[u8]) -> Operations
+    ensures { λ r. ⌜ r ≡ operationsOf (now (rest .entry)) ⌝ }
+{
     let Digits::Value(id) = number_word(rest, b"id=") else {
         return no_operations();
     };
@@ -216,7 +240,9 @@ fn request_from(
     o: Operations,
     node: NodeWord,
     table: TableWord,
-) -> Request {
+) -> Request
+    ensures { λ r. ⌜ r ≡ requestFrom ok reference o node table ⌝ }
+{
     let vop = o.vop;
     let dop = o.dop;
     Request {
@@ -231,7 +257,9 @@ fn request_from(
 }
 
 // What a step line asks for, from what follows its first word.
-pub fn request_of(rest: &[u8], crash: bool) -> Request {
+pub fn request_of(rest: &[u8], crash: bool) -> Request
+    ensures { λ r. ⌜ r ≡ requestOf (now (rest .entry)) crash ⌝ }
+{
     let fit = step_words_fit(rest, crash);
     let o = operations_of(rest);
     let node = node_word(rest);

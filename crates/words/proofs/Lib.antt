@@ -1,1 +1,3 @@
+-- The laws of numbers as text and of cutting.
+pub mod Cuts
 pub mod Numbers

@@ -14,7 +14,7 @@ findOf s b = firstBelow (λ k. eqb (getD s k 0) b) (length s)
 unfoldable pub startsOf : List ℕ → List ℕ → Bool
 startsOf s p = leb (length p) (length s) && allBelow (λ k. eqb (getD s k 0) (getD p k 0)) (length p)
 
-abbrev pub sameOf : List ℕ → List ℕ → Bool
+unfoldable pub sameOf : List ℕ → List ℕ → Bool
 sameOf s p = startsOf s p && eqb (length s) (length p)
 
 -- table1=, table2=, block=, device=, contents=

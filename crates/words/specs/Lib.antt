@@ -1,2 +1,4 @@
 pub mod Bytes
+pub mod Cut
 pub mod Numbers
+pub mod Parsed

@@ -42,7 +42,7 @@ atMost m (Value n) = cond (leb n m) (Value n) Bad
 atMost m Bad = Bad
 
 -- a number that is at most m
-abbrev pub smallOf : List ℕ → ℕ → Digits
+unfoldable pub smallOf : List ℕ → ℕ → Digits
 smallOf s m = atMost m (numberOf s)
 
 abbrev pub placeFrom : Digits → Digits → Place

@@ -1,5 +1,6 @@
 // Numbers and places.
 ghost use mathlib.Core.Path.{_≡_};
+ghost use Rattle.words.specs.Cut.{numberWord, placeWord};
 ghost use Rattle.words.specs.Numbers.{worthOf, appendedOf, numberOf, smallOf, locationOf};
 use crate::text::after;
 use crate::text::find;
@@ -107,7 +108,9 @@ pub fn location(w: &[u8]) -> Place
 }
 
 // The number that the word with this key has; 0 where there is no such word.
-pub fn number_word(rest: &[u8], key: &[u8]) -> Digits {
+pub fn number_word(rest: &[u8], key: &[u8]) -> Digits
+    ensures { λ r. ⌜ r ≡ numberWord (now (rest .entry)) (now (key .entry)) ⌝ }
+{
     let w = word(rest, key);
     if w.len() == 0 {
         return Digits::Value(0);
@@ -116,7 +119,9 @@ pub fn number_word(rest: &[u8], key: &[u8]) -> Digits {
 }
 
 // The place that the word with this key has; zeros where there is no such word.
-pub fn place_word(rest: &[u8], key: &[u8]) -> Place {
+pub fn place_word(rest: &[u8], key: &[u8]) -> Place
+    ensures { λ r. ⌜ r ≡ placeWord (now (rest .entry)) (now (key .entry)) ⌝ }
+{
     let w = word(rest, key);
     if w.len() == 0 {
         return Place::At(Location { addr: 0, len: 0 });

@@ -1,4 +1,7 @@
 // What kind of line it is.
+ghost use mathlib.Core.Path.{_≡_};
+ghost use Rattle.words.specs.Cut.{restOf};
+ghost use Rattle.words.specs.Parsed.{formatOf, aloneOf, lineOf};
 use crate::digits::Digits;
 use crate::digits::number;
 use crate::digits::number_word;
@@ -29,13 +32,17 @@ pub enum Line {
 }
 
 // What follows a line's first word.
-pub fn rest(s: &[u8]) -> &[u8] {
+pub fn rest(s: &[u8]) -> &[u8]
+    ensures { λ r. ⌜ now r ≡ restOf (now (s .entry)) ⌝ }
+{
     let at = find(s, b' ');
     after(s, at)
 }
 
 // A `format` line, from what follows its first word: both words, in either order.
-fn format_of(rest: &[u8]) -> Line {
+fn format_of(rest: &[u8]) -> Line
+    ensures { λ r. ⌜ r ≡ formatOf (now (rest .entry)) ⌝ }
+{
     let fit = words_fit(rest, FORMAT_FIRST, FORMAT_LAST);
     let device = word(rest, b"device=");
     let contents = word(rest, b"contents=");
@@ -45,14 +52,16 @@ fn format_of(rest: &[u8]) -> Line {
     let Digits::Value(d) = number_word(rest, b"device=") else {
         return Line::Bad;
     };
-    let Digits::Value(c) = number_word(rest, b"contents=") else {
+    let Digits::Value(n) = number_word(rest, b"contents=") else {
         return Line::Bad;
     };
-    Line::Format(d, c)
+    Line::Format(d, n)
 }
 
 // A line whose first word stands alone: `audit` and `show`.
-fn alone_of(first: &[u8]) -> Line {
+fn alone_of(first: &[u8]) -> Line
+    ensures { λ r. ⌜ r ≡ aloneOf (now (first .entry)) ⌝ }
+{
     if same(first, b"audit") {
         return Line::Audit;
     }
@@ -63,7 +72,9 @@ fn alone_of(first: &[u8]) -> Line {
 }
 
 // What kind of line s is.
-pub fn line_of(s: &[u8]) -> Line {
+pub fn line_of(s: &[u8]) -> Line
+    ensures { λ r. ⌜ r ≡ lineOf (now (s .entry)) ⌝ }
+{
     if s.len() > MOST {
         return Line::Bad;
     }

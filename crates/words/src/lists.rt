@@ -1,4 +1,7 @@
 // Lists of references, and nodes, written out.
+ghost use mathlib.Core.Path.{_≡_};
+ghost use Rattle.sector.specs.Form.{zeroSuccs};
+ghost use Rattle.words.specs.Parsed.{noList, noNode, joinedOf, listOf, nodeOf};
 use crate::digits::Digits;
 use crate::digits::number;
 use crate::digits::small;
@@ -19,21 +22,27 @@ pub struct NodeRead {
     pub node: Node,
 }
 
-pub fn empty_list() -> Succs {
+pub fn empty_list() -> Succs
+    ensures { λ r. ⌜ r ≡ zeroSuccs ⌝ }
+{
     Succs {
         count: 0,
         at: [0; 8],
     }
 }
 
-fn no_list() -> Listed {
+fn no_list() -> Listed
+    ensures { λ r. ⌜ r ≡ noList ⌝ }
+{
     Listed {
         ok: false,
         succs: empty_list(),
     }
 }
 
-fn no_node() -> NodeRead {
+fn no_node() -> NodeRead
+    ensures { λ r. ⌜ r ≡ noNode ⌝ }
+{
     NodeRead {
         ok: false,
         node: sector::empty_node(),
@@ -41,7 +50,9 @@ fn no_node() -> NodeRead {
 }
 
 // A list with one reference more. It has at most 8, and each is a byte: from 64 on it is the store that refuses one.
-fn joined(l: Succs, w: &[u8]) -> Listed {
+fn joined(l: Succs, w: &[u8]) -> Listed
+    ensures { λ r. ⌜ r ≡ joinedOf l (now (w .entry)) ⌝ }
+{
     let Digits::Value(r) = small(w, 255) else {
         return no_list();
     };
@@ -60,7 +71,9 @@ fn joined(l: Succs, w: &[u8]) -> Listed {
 }
 
 // References joined by commas, perhaps none.
-pub fn list(w: &[u8]) -> Listed {
+pub fn list(w: &[u8]) -> Listed
+    ensures { λ r. ⌜ r ≡ listOf (now (w .entry)) ⌝ }
+{
     let mut l = Listed {
         ok: true,
         succs: empty_list(),
@@ -85,7 +98,9 @@ pub fn list(w: &[u8]) -> Listed {
 }
 
 // `CONTENTS:LIST`.
-pub fn node(w: &[u8]) -> NodeRead {
+pub fn node(w: &[u8]) -> NodeRead
+    ensures { λ r. ⌜ r ≡ nodeOf (now (w .entry)) ⌝ }
+{
     let at = find(w, b':');
     if at == w.len() {
         return no_node();

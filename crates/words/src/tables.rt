@@ -1,4 +1,6 @@
 // Tables, written out.
+ghost use mathlib.Core.Path.{_≡_};
+ghost use Rattle.words.specs.Parsed.{noEntryRead, noTable, headOf, listOf, entryFrom, entryReadOf, extendedOf, tableReadOf};
 use crate::digits::Digits;
 use crate::digits::Place;
 use crate::digits::location;
@@ -31,7 +33,9 @@ pub struct TableRead {
     pub table: Table,
 }
 
-fn no_entry() -> EntryRead {
+fn no_entry() -> EntryRead
+    ensures { λ r. ⌜ r ≡ noEntryRead ⌝ }
+{
     EntryRead {
         ok: false,
         reference: 0,
@@ -39,7 +43,9 @@ fn no_entry() -> EntryRead {
     }
 }
 
-pub fn no_table() -> TableRead {
+pub fn no_table() -> TableRead
+    ensures { λ r. ⌜ r ≡ noTable ⌝ }
+{
     TableRead {
         ok: false,
         next: 0,
@@ -48,7 +54,9 @@ pub fn no_table() -> TableRead {
 }
 
 // `REF` or `REF@ADDR+LEN`; a table has places for 0 to 63.
-fn head_of(w: &[u8]) -> Head {
+fn head_of(w: &[u8]) -> Head
+    ensures { λ r. ⌜ r ≡ headOf (now (w .entry)) ⌝ }
+{
     let at = find(w, b'@');
     let Digits::Value(r) = small(front(w, at), 63) else {
         return Head::Bad;
@@ -63,7 +71,9 @@ fn head_of(w: &[u8]) -> Head {
 }
 
 // The entry that a head and a list make.
-fn entry_of(h: Head, w: &[u8]) -> EntryRead {
+fn entry_of(h: Head, w: &[u8]) -> EntryRead
+    ensures { λ r. ⌜ r ≡ entryFrom h (listOf (now (w .entry))) ⌝ }
+{
     let l = list(w);
     if !l.ok {
         return no_entry();
@@ -95,7 +105,9 @@ fn entry_of(h: Head, w: &[u8]) -> EntryRead {
 }
 
 // `REF@ADDR+LEN:LIST` or `REF:LIST`.
-fn entry(w: &[u8]) -> EntryRead {
+fn entry(w: &[u8]) -> EntryRead
+    ensures { λ r. ⌜ r ≡ entryReadOf (now (w .entry)) ⌝ }
+{
     let at = find(w, b':');
     if at == w.len() {
         return no_entry();
@@ -105,7 +117,9 @@ fn entry(w: &[u8]) -> EntryRead {
 }
 
 // A table with one entry more, whose reference is above those before it.
-fn extended(t: TableRead, w: &[u8]) -> TableRead {
+fn extended(t: TableRead, w: &[u8]) -> TableRead
+    ensures { λ r. ⌜ r ≡ extendedOf t (now (w .entry)) ⌝ }
+{
     let e = entry(w);
     let r = e.reference;
     let added = e.entry;
@@ -125,7 +139,9 @@ fn extended(t: TableRead, w: &[u8]) -> TableRead {
 }
 
 // Entries by ascending reference joined by `;`, at least one: the empty table is spelled out by another word.
-pub fn table(w: &[u8]) -> TableRead {
+pub fn table(w: &[u8]) -> TableRead
+    ensures { λ r. ⌜ r ≡ tableReadOf (now (w .entry)) ⌝ }
+{
     let mut t = TableRead {
         ok: true,
         next: 0,

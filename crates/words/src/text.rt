@@ -5,6 +5,7 @@ ghost use lib.ListN.{length, take, drop};
 ghost use mathlib.Core.Path.{_≡_};
 ghost use Prim.Native.Nat.{_-_, _≤_, _<_};
 ghost use Rattle.words.specs.Bytes.{findOf, startsOf, sameOf, keyOf, rareKeyOf};
+ghost use Rattle.words.specs.Cut.{wordOf, fitOf};
 
 // The keys by number, as `key_of` gives them: 1 to 9 are those of any step, 10 to 12 a crash's beside them, 13 and 14 those of
 // `format`; 0 is none of these.
@@ -77,7 +78,9 @@ pub fn after(w: &[u8], n: usize) -> &[u8]
 }
 
 // The first word of a rest that begins with the key, `=` and all; empty where none does.
-pub fn word<'a, 'b>(rest: &'a [u8], key: &'b [u8]) -> &'a [u8] {
+pub fn word<'a, 'b>(rest: &'a [u8], key: &'b [u8]) -> &'a [u8]
+    ensures { λ r. ⌜ now r ≡ wordOf (now (rest .entry)) (now (key .entry)) ⌝ }
+{
     let mut at: usize = 0;
     while at < rest.len() {
         let tail = after(rest, at + 1);
@@ -150,7 +153,9 @@ fn key_of_rare(w: &[u8]) -> usize
 }
 
 // Whether each word of a rest has a key from `first` to `last`, and each but `block` at most once.
-pub fn words_fit(rest: &[u8], first: usize, last: usize) -> bool {
+pub fn words_fit(rest: &[u8], first: usize, last: usize) -> bool
+    ensures { λ r. ⌜ r ≡ fitOf (now (rest .entry)) first last ⌝ }
+{
     let mut seen = [false; 15];
     let mut good = true;
     let mut at: usize = 0;

@@ -1,12 +1,17 @@
--- Each turn passes a reference and its comma. Assumes nothing.
+-- What is left of the pieces is stepped over. Assumes nothing.
 use Prim.Native.Nat.{_-_, _≤_}
+use mathlib.Core.Path.{_∙_, _≡_}
 use borrow.Author.Needs.{needs}
-use lib.ListN.{length}
+use borrow.Author.Tests.{eq-eqb, ne-eqb, not-false, not-true}
+use lib.ListN.{drop, length}
+use Rattle.words.proofs.Cuts.{fold-bad, fold-last, fold-turn}
 use Rattle.words.proofs.lists.list.Statement.{statement}
+use Rattle.words.specs.Cut.{foldFrom, piecesOf}
+use Rattle.words.specs.Parsed.{listOf, listOk, listStep, noList}
 use Rattle.words.proofs.lists.list.Tie as tie
 
 abbrev Inv-loop : tie.InvT-loop
-Inv-loop w l₀ from₀ l from = from ≤ length w
+Inv-loop w l₀ from₀ l from = (from ≤ length w) × (foldFrom listOk listStep noList l (piecesOf 44 (drop from w)) ≡ listOf w)
 
 abbrev μ-loop : tie.MeasureT-loop
 μ-loop w l₀ from₀ l from = length w - from
@@ -15,10 +20,12 @@ empty-list-requires : tie.Need-empty-list-requires Inv-loop μ-loop
 empty-list-requires c κs = search needs
 
 returns : tie.Need-returns Inv-loop μ-loop
-returns c = tt
+unfolding listOf
+returns c = simp (eq-eqb _ _ (c .if1 .taken), c .before .empty-list .ensures)
 
 loop-holds : tie.Need-loop-holds Inv-loop μ-loop
-loop-holds c = search needs
+unfolding listOf
+loop-holds c = (search needs, simp (ne-eqb _ _ (c .if1 .left), c .before .empty-list .ensures))
 
 after-requires : tie.Need-after-requires Inv-loop μ-loop
 after-requires c κs = search needs
@@ -36,10 +43,15 @@ no-list-requires : tie.Need-no-list-requires Inv-loop μ-loop
 no-list-requires c κs = search needs
 
 returns-2 : tie.Need-returns-2 Inv-loop μ-loop
-returns-2 c = tt
+returns-2 c =
+    c .no-list .ensures
+    ∙ fold-bad listOk listStep noList 44 ((c .before .before .before .before .before .before .before .before .before .before .before .before .args .w) .now) (c .before .before .before .before .before .before .before .before .loop .from) (c .before .before .before .before .before .before .before .before .loop .l)
+    (rw (c .before .before .before .before .front .ensures, c .before .before .before .before .before .before .find .ensures .0, c .before .before .before .before .before .before .before .after .ensures .0) at (c .before .before .before .joined .ensures)) (c .before .before .before .before .before .before .before .before .loop .inv .1) (not-true (c .before .before .before .joined .result .ok) (c .before .if2 .taken))
 
 returns-3 : tie.Need-returns-3 Inv-loop μ-loop
-returns-3 c = tt
+returns-3 c =
+    fold-last listOk listStep noList 44 ((c .before .before .before .before .before .before .before .before .before .before .before .before .args .w) .now) (c .before .before .before .before .before .before .before .before .loop .from) (c .before .before .before .before .before .before .find .result) (c .before .before .before .before .before .before .before .before .loop .l)
+    (rw (c .before .before .before .before .before .before .before .after .ensures .0) at (c .before .before .before .before .before .before .find .ensures .0)) (rw (c .before .before .before .before .front .ensures, c .before .before .before .before .before .before .find .ensures .0, c .before .before .before .before .before .before .before .after .ensures .0) at (c .before .before .before .joined .ensures)) (c .before .before .before .before .before .before .before .before .loop .inv .1) (not-false (c .before .before .before .joined .result .ok) (c .before .if2 .left)) (rw (c .before .before .before .before .before .before .before .after .ensures .0) at (c .if3 .taken))
 
 add-from : tie.Need-add-from Inv-loop μ-loop
 add-from c = search needs
@@ -51,7 +63,11 @@ loop-less : tie.Need-loop-less Inv-loop μ-loop
 loop-less c = search needs
 
 loop-again : tie.Need-loop-again Inv-loop μ-loop
-loop-again c = search needs
+loop-again c = (
+  search needs,
+  fold-turn listOk listStep noList 44 ((c .before .before .before .before .before .before .before .before .before .before .before .before .args .w) .now) (c .before .before .before .before .before .before .before .before .loop .from) (c .before .before .before .before .before .before .find .result) (c .before .before .before .before .before .before .before .before .loop .l)
+      (rw (c .before .before .before .before .before .before .before .after .ensures .0) at (c .before .before .before .before .before .before .find .ensures .0)) (rw (c .before .before .before .before .front .ensures, c .before .before .before .before .before .before .find .ensures .0, c .before .before .before .before .before .before .before .after .ensures .0) at (c .before .before .before .joined .ensures)) (c .before .before .before .before .before .before .before .before .loop .inv .1) (not-false (c .before .before .before .joined .result .ok) (c .before .if2 .left)) (rw (c .before .before .before .before .before .before .before .after .ensures .0) at (c .if3 .left)),
+)
 
 pub list-spec : {M : Type 1} → statement M
 list-spec =

@@ -1,18 +1,22 @@
--- Each turn passes a word. Assumes nothing.
+-- The word that is looked for is among those not passed. Assumes nothing.
 use Prim.Native.Nat.{_-_, _≤_}
+use mathlib.Core.Path.{_∙_, _≡_, refl, sym}
 use borrow.Author.Needs.{needs}
-use lib.ListN.{length}
+use lib.ListN.{drop, length}
+use Rattle.words.proofs.Cuts.{word-hit, word-miss, word-none}
 use Rattle.words.proofs.text.word.Statement.{statement}
+use Rattle.words.specs.Cut.{firstWith, wordOf, wordsOf}
 use Rattle.words.proofs.text.word.Tie as tie
 
 abbrev Inv-loop : tie.InvT-loop
-Inv-loop rest key at₀ at = at ≤ length rest
+Inv-loop rest key at₀ at = (at ≤ length rest) × (firstWith key (wordsOf (drop at rest)) ≡ wordOf rest key)
 
 abbrev μ-loop : tie.MeasureT-loop
 μ-loop rest key at₀ at = length rest - at
 
 loop-holds : tie.Need-loop-holds Inv-loop μ-loop
-loop-holds c = search needs
+unfolding wordOf
+loop-holds c = (search needs, refl)
 
 add-after : tie.Need-add-after Inv-loop μ-loop
 add-after c = search needs
@@ -30,7 +34,10 @@ starts-requires : tie.Need-starts-requires Inv-loop μ-loop
 starts-requires c κs = search needs
 
 returns : tie.Need-returns Inv-loop μ-loop
-returns c = tt
+returns c =
+    word-hit ((c .before .before .before .before .before .before .before .before .before .args .rest) .now) ((c .before .before .before .before .before .before .before .before .before .args .key) .now) (c .before .before .before .before .before .before .loop .at) (c .before .before .before .before .before .loop-test .taken) (c .before .before .before .before .before .before .loop .inv .1)
+    (rw (c .before .before .before .find .ensures .0, c .before .before .before .before .after .ensures .0) at (c .before .before .front .ensures))
+    (sym (c .before .starts .ensures) ∙ c .if1 .taken)
 
 add-at : tie.Need-add-at Inv-loop μ-loop
 add-at c = search needs
@@ -42,13 +49,19 @@ loop-less : tie.Need-loop-less Inv-loop μ-loop
 loop-less c = search needs
 
 loop-again : tie.Need-loop-again Inv-loop μ-loop
-loop-again c = search needs
+loop-again c = (
+  search needs,
+  rw (c .before .before .before .find .ensures .0, c .before .before .before .before .after .ensures .0)
+      (word-miss ((c .before .before .before .before .before .before .before .before .before .args .rest) .now) ((c .before .before .before .before .before .before .before .before .before .args .key) .now) (c .before .before .before .before .before .before .loop .at) (c .before .before .before .before .before .loop-test .taken) (c .before .before .before .before .before .before .loop .inv .1)
+      (rw (c .before .before .before .find .ensures .0, c .before .before .before .before .after .ensures .0) at (c .before .before .front .ensures))
+      (sym (c .before .starts .ensures) ∙ c .if1 .left)),
+)
 
 slice-aggregate-result : tie.Need-slice-aggregate-result Inv-loop μ-loop
 slice-aggregate-result c = search needs
 
 returns-2 : tie.Need-returns-2 Inv-loop μ-loop
-returns-2 c = tt
+returns-2 c = word-none ((c .before .before .before .before .before .args .rest) .now) ((c .before .before .before .before .before .args .key) .now) (c .before .before .loop .at) (c .before .loop-test .left) (c .before .before .loop .inv .1)
 
 pub word-spec : {M : Type 1} → statement M
 word-spec =

@@ -1,20 +1,24 @@
--- Each turn passes a word. Assumes nothing.
+-- What has been passed fits, and the whole does if the others do. Assumes nothing.
 use Prim.Native.Nat.{_-_, _≤_}
-use mathlib.Core.Path.{_≡_}
+use mathlib.Core.Bool.{_&&_}
+use mathlib.Core.Path.{_≡_, refl}
 use borrow.Author.Needs.{needs}
-use lib.ListN.{length, length-set}
+use lib.ListN.{drop, length, length-set}
 use Rattle.layout.proofs.Devices.{good}
+use Rattle.words.proofs.Cuts.{fit-end, fit-turn}
 use Rattle.words.proofs.text.words_fit.Statement.{statement}
+use Rattle.words.specs.Cut.{fitFrom, fitOf, wordsOf}
 use Rattle.words.proofs.text.words_fit.Tie as tie
 
 abbrev Inv-loop : tie.InvT-loop
-Inv-loop rest first last seen₀ good₀ at₀ seen good at = (at ≤ length rest) × (length seen ≡ 15)
+Inv-loop rest first last seen₀ good₀ at₀ seen good at = (at ≤ length rest) × (length seen ≡ 15) × ((good && fitFrom seen first last (wordsOf (drop at rest))) ≡ fitOf rest first last)
 
 abbrev μ-loop : tie.MeasureT-loop
 μ-loop rest first last seen₀ good₀ at₀ seen good at = length rest - at
 
 loop-holds : tie.Need-loop-holds Inv-loop μ-loop
-loop-holds c = (search needs, search needs)
+unfolding fitOf
+loop-holds c = (search needs, search needs, refl)
 
 add-after : tie.Need-add-after Inv-loop μ-loop
 add-after c = search needs
@@ -47,10 +51,17 @@ loop-less : tie.Need-loop-less Inv-loop μ-loop
 loop-less c = search needs
 
 loop-again : tie.Need-loop-again Inv-loop μ-loop
-loop-again c = (search needs, simp length-set (c .before .before .before .before .before .loop .inv .1))
+loop-again c = (
+  search needs,
+  simp length-set (c .before .before .before .before .before .loop .inv .1),
+  rw (c .before .before .find .ensures .0, c .before .before .before .after .ensures .0)
+      (fit-turn ((c .before .before .before .before .before .before .before .args .rest) .now) (c .before .before .before .before .before .before .before .args .first) (c .before .before .before .before .before .before .before .args .last) (c .before .before .before .before .before .loop .at) (c .key-of .result) (c .before .before .before .before .before .loop .seen) (c .before .before .before .before .before .loop .good) (c .before .before .before .before .loop-test .taken)
+      (rw (c .before .front .ensures, c .before .before .find .ensures .0, c .before .before .before .after .ensures .0) at (c .key-of .ensures .0))
+      (c .before .before .before .before .before .loop .inv .2)),
+)
 
 returns : tie.Need-returns Inv-loop μ-loop
-returns c = tt
+returns c = fit-end ((c .before .before .before .args .rest) .now) (c .before .before .before .args .first) (c .before .before .before .args .last) (c .before .loop .at) (c .before .loop .seen) (c .before .loop .good) (c .loop-test .left) (c .before .loop .inv .2)
 
 pub words-fit-spec : {M : Type 1} → statement M
 words-fit-spec =

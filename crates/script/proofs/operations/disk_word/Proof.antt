@@ -1,0 +1,32 @@
+-- There is such a word, or not. Assumes nothing.
+use borrow.Author.Needs.{needs}
+use borrow.Author.Tests.{eq-eqb, ne-eqb}
+use Rattle.layout.proofs.Cases.{at}
+use Rattle.script.proofs.operations.disk_word.Statement.{statement}
+use Rattle.script.specs.Operations.{diskWord}
+use Rattle.script.proofs.operations.disk_word.Tie as tie
+
+slice-aggregate-word : tie.Need-slice-aggregate-word
+slice-aggregate-word c = search needs
+
+word-requires : tie.Need-word-requires
+word-requires c κs = search needs
+
+returns : tie.Need-returns
+unfolding diskWord
+returns c = simp (eq-eqb _ _ (rw (c .before .word .ensures) at (c .if1 .taken)))
+
+after-requires : tie.Need-after-requires
+after-requires c κs = search needs
+
+disk-of-requires : tie.Need-disk-of-requires
+disk-of-requires c κs = search needs
+
+returns-2 : tie.Need-returns-2
+unfolding diskWord
+returns-2 c = simp (ne-eqb _ _ (rw (c .before .before .before .word .ensures) at (c .before .before .if1 .left))) (rw (c .before .after .ensures .0, c .before .before .before .word .ensures) at (c .disk-of .ensures))
+
+pub disk-word-spec : {M : Type 1} → statement M
+disk-word-spec =
+    tie.close
+    (tie.spec slice-aggregate-word word-requires returns after-requires disk-of-requires returns-2)

@@ -1,0 +1,32 @@
+-- There is such a word, or not. Assumes nothing.
+use borrow.Author.Needs.{needs}
+use borrow.Author.Tests.{eq-eqb, ne-eqb}
+use Rattle.layout.proofs.Cases.{at}
+use Rattle.script.proofs.operations.uiop_word.Statement.{statement}
+use Rattle.script.specs.Operations.{uiopWord}
+use Rattle.script.proofs.operations.uiop_word.Tie as tie
+
+slice-aggregate-word : tie.Need-slice-aggregate-word
+slice-aggregate-word c = search needs
+
+word-requires : tie.Need-word-requires
+word-requires c κs = search needs
+
+returns : tie.Need-returns
+unfolding uiopWord
+returns c = simp (eq-eqb _ _ (rw (c .before .word .ensures) at (c .if1 .taken)))
+
+after-requires : tie.Need-after-requires
+after-requires c κs = search needs
+
+uiop-of-requires : tie.Need-uiop-of-requires
+uiop-of-requires c κs = search needs
+
+returns-2 : tie.Need-returns-2
+unfolding uiopWord
+returns-2 c = simp (ne-eqb _ _ (rw (c .before .before .before .word .ensures) at (c .before .before .if1 .left))) (rw (c .before .after .ensures .0, c .before .before .before .word .ensures) at (c .uiop-of .ensures))
+
+pub uiop-word-spec : {M : Type 1} → statement M
+uiop-word-spec =
+    tie.close
+    (tie.spec slice-aggregate-word word-requires returns after-requires uiop-of-requires returns-2)

@@ -1,0 +1,42 @@
+-- There is such a word, or not. Assumes nothing.
+use borrow.Author.Needs.{needs}
+use borrow.Author.Tests.{eq-eqb, ne-eqb}
+use Rattle.layout.proofs.Cases.{at}
+use Rattle.script.proofs.request.table_word.Statement.{statement}
+use Rattle.script.specs.Requests.{tableWord}
+use Rattle.script.proofs.request.table_word.Tie as tie
+
+slice-aggregate-word : tie.Need-slice-aggregate-word
+slice-aggregate-word c = search needs
+
+word-requires : tie.Need-word-requires
+word-requires c κs = search needs
+
+table-from-requires : tie.Need-table-from-requires
+table-from-requires c κs = search needs
+
+returns : tie.Need-returns
+unfolding tableWord
+returns c = simp (eq-eqb _ _ (rw (c .before .before .word .ensures) at (c .before .if1 .taken))) (c .table-from .ensures)
+
+after-requires : tie.Need-after-requires
+after-requires c κs = search needs
+
+table-of-requires : tie.Need-table-of-requires
+table-of-requires c κs = search needs
+
+returns-2 : tie.Need-returns-2
+unfolding tableWord
+returns-2 c = simp (ne-eqb _ _ (rw (c .before .before .before .word .ensures) at (c .before .before .if1 .left))) (rw (c .before .after .ensures .0, c .before .before .before .word .ensures) at (c .table-of .ensures))
+
+pub table-word-spec : {M : Type 1} → statement M
+table-word-spec =
+    tie.close
+    (tie.spec
+    slice-aggregate-word
+    word-requires
+    table-from-requires
+    returns
+    after-requires
+    table-of-requires
+    returns-2)

@@ -1,0 +1,116 @@
+-- Case by case. Assumes nothing.
+use mathlib.Core.Path.{_∙_, sym}
+use borrow.Author.Needs.{needs}
+use borrow.Author.Tests.{eq-eqb, le-ltb, lt-ltb, ne-eqb}
+use Rattle.layout.proofs.Cases.{at}
+use Rattle.words.proofs.line.line_of.Statement.{statement}
+use Rattle.words.specs.Parsed.{lineOf}
+use Rattle.words.proofs.line.line_of.Tie as tie
+
+returns : tie.Need-returns
+unfolding lineOf
+returns c = simp (lt-ltb _ _ (c .if1 .taken))
+
+returns-2 : tie.Need-returns-2
+unfolding lineOf
+returns-2 c = simp (le-ltb _ _ (c .before .if1 .left), eq-eqb _ _ (c .if2 .taken))
+
+shared-slice-read-if3 : tie.Need-shared-slice-read-if3
+shared-slice-read-if3 c = search needs
+
+returns-3 : tie.Need-returns-3
+unfolding lineOf
+returns-3 c = simp (le-ltb _ _ (c .before .before .before .if1 .left), ne-eqb _ _ (c .before .before .if2 .left), eq-eqb _ _ (c .if3 .taken))
+
+find-requires : tie.Need-find-requires
+find-requires c κs = search needs
+
+front-requires : tie.Need-front-requires
+front-requires c κs = search needs
+
+slice-aggregate-same : tie.Need-slice-aggregate-same
+slice-aggregate-same c = search needs
+
+same-requires : tie.Need-same-requires
+same-requires c κs = search needs
+
+after-requires : tie.Need-after-requires
+after-requires c κs = search needs
+
+format-of-requires : tie.Need-format-of-requires
+format-of-requires c κs = search needs
+
+returns-4 : tie.Need-returns-4
+unfolding lineOf
+returns-4 c =
+    simp (le-ltb _ _ (c .before .before .before .before .before .before .before .before .before .before .if1 .left), ne-eqb _ _ (c .before .before .before .before .before .before .before .before .before .if2 .left), ne-eqb _ _ (c .before .before .before .before .before .before .before .if3 .left), rw (c .before .before .before .before .before .front .ensures, c .before .before .before .before .before .before .find .ensures .0) at (sym (c .before .before .before .same .ensures) ∙ c .before .before .if4 .taken))
+    (rw (c .before .after .ensures .0, c .before .before .before .before .before .before .find .ensures .0) at (c .format-of .ensures))
+
+slice-aggregate-starts : tie.Need-slice-aggregate-starts
+slice-aggregate-starts c = search needs
+
+starts-requires : tie.Need-starts-requires
+starts-requires c κs = search needs
+
+after-requires-2 : tie.Need-after-requires-2
+after-requires-2 c κs = search needs
+
+number-requires : tie.Need-number-requires
+number-requires c κs = search needs
+
+enum-known-n : tie.Need-enum-known-n
+enum-known-n c = search needs
+
+enum-told : tie.Need-enum-told
+enum-told c = search needs
+
+returns-5 : tie.Need-returns-5
+unfolding lineOf
+returns-5 c =
+    simp (le-ltb _ _ (c .before .before .before .before .before .before .before .before .before .before .before .before .before .before .before .if1 .left), ne-eqb _ _ (c .before .before .before .before .before .before .before .before .before .before .before .before .before .before .if2 .left), ne-eqb _ _ (c .before .before .before .before .before .before .before .before .before .before .before .before .if3 .left), rw (c .before .before .before .before .before .before .before .before .before .before .front .ensures, c .before .before .before .before .before .before .before .before .before .before .before .find .ensures .0) at (sym (c .before .before .before .before .before .before .before .before .same .ensures) ∙ c .before .before .before .before .before .before .before .if4 .left), rw (c .before .before .before .before .before .before .before .before .before .before .front .ensures, c .before .before .before .before .before .before .before .before .before .before .before .find .ensures .0) at (sym (c .before .before .before .before .before .starts .ensures) ∙ c .before .before .before .before .if5 .taken), rw (c .before .before .before .after2 .ensures .0, c .before .before .before .before .before .before .before .before .before .before .front .ensures, c .before .before .before .before .before .before .before .before .before .before .before .find .ensures .0) at (sym (c .before .before .number .ensures) ∙ c .enum-told .given .1))
+
+returns-6 : tie.Need-returns-6
+unfolding lineOf
+returns-6 c =
+    simp (le-ltb _ _ (c .before .before .before .before .before .before .before .before .before .before .before .before .before .before .before .before .if1 .left), ne-eqb _ _ (c .before .before .before .before .before .before .before .before .before .before .before .before .before .before .before .if2 .left), ne-eqb _ _ (c .before .before .before .before .before .before .before .before .before .before .before .before .before .if3 .left), rw (c .before .before .before .before .before .before .before .before .before .before .before .front .ensures, c .before .before .before .before .before .before .before .before .before .before .before .before .find .ensures .0) at (sym (c .before .before .before .before .before .before .before .before .before .same .ensures) ∙ c .before .before .before .before .before .before .before .before .if4 .left), rw (c .before .before .before .before .before .before .before .before .before .before .before .front .ensures, c .before .before .before .before .before .before .before .before .before .before .before .before .find .ensures .0) at (sym (c .before .before .before .before .before .before .starts .ensures) ∙ c .before .before .before .before .before .if5 .taken), rw (c .before .before .before .before .after2 .ensures .0, c .before .before .before .before .before .before .before .before .before .before .before .front .ensures, c .before .before .before .before .before .before .before .before .before .before .before .before .find .ensures .0) at (sym (c .before .before .before .number .ensures) ∙ c .before .n .given .1))
+
+returns-7 : tie.Need-returns-7
+unfolding lineOf
+returns-7 c =
+    simp (le-ltb _ _ (c .before .before .before .before .before .before .before .before .before .before .before .before .if1 .left), ne-eqb _ _ (c .before .before .before .before .before .before .before .before .before .before .before .if2 .left), ne-eqb _ _ (c .before .before .before .before .before .before .before .before .before .if3 .left), rw (c .before .before .before .before .before .before .before .front .ensures, c .before .before .before .before .before .before .before .before .find .ensures .0) at (sym (c .before .before .before .before .before .same .ensures) ∙ c .before .before .before .before .if4 .left), rw (c .before .before .before .before .before .before .before .front .ensures, c .before .before .before .before .before .before .before .before .find .ensures .0) at (sym (c .before .before .starts .ensures) ∙ c .before .if5 .left), lt-ltb _ _ (rw (c .before .before .before .before .before .before .before .before .find .ensures .0) at (c .if6 .taken)))
+
+alone-of-requires : tie.Need-alone-of-requires
+alone-of-requires c κs = search needs
+
+returns-8 : tie.Need-returns-8
+unfolding lineOf
+returns-8 c =
+    simp (le-ltb _ _ (c .before .before .before .before .before .before .before .before .before .before .before .before .before .if1 .left), ne-eqb _ _ (c .before .before .before .before .before .before .before .before .before .before .before .before .if2 .left), ne-eqb _ _ (c .before .before .before .before .before .before .before .before .before .before .if3 .left), rw (c .before .before .before .before .before .before .before .before .front .ensures, c .before .before .before .before .before .before .before .before .before .find .ensures .0) at (sym (c .before .before .before .before .before .before .same .ensures) ∙ c .before .before .before .before .before .if4 .left), rw (c .before .before .before .before .before .before .before .before .front .ensures, c .before .before .before .before .before .before .before .before .before .find .ensures .0) at (sym (c .before .before .before .starts .ensures) ∙ c .before .before .if5 .left), le-ltb _ _ (rw (c .before .before .before .before .before .before .before .before .before .find .ensures .0) at (c .before .if6 .left)))
+    (rw (c .before .before .before .before .before .before .before .before .front .ensures, c .before .before .before .before .before .before .before .before .before .find .ensures .0) at (c .alone-of .ensures))
+
+pub line-of-spec : {M : Type 1} → statement M
+line-of-spec =
+    tie.close
+    (tie.spec
+    returns
+    returns-2
+    shared-slice-read-if3
+    returns-3
+    find-requires
+    front-requires
+    slice-aggregate-same
+    same-requires
+    after-requires
+    format-of-requires
+    returns-4
+    slice-aggregate-starts
+    starts-requires
+    after-requires-2
+    number-requires
+    enum-known-n
+    enum-told
+    returns-5
+    returns-6
+    returns-7
+    alone-of-requires
+    returns-8)

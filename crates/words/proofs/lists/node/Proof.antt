@@ -1,0 +1,80 @@
+-- By the two sides. Assumes nothing.
+use mathlib.Core.Path.{_∙_, sym}
+use borrow.Author.Needs.{needs}
+use borrow.Author.Tests.{eq-eqb, ne-eqb, not-false, not-true}
+use Rattle.layout.proofs.Cases.{at}
+use Rattle.words.proofs.lists.node.Statement.{statement}
+use Rattle.words.specs.Parsed.{nodeOf}
+use Rattle.words.proofs.lists.node.Tie as tie
+
+find-requires : tie.Need-find-requires
+find-requires c κs = search needs
+
+no-node-requires : tie.Need-no-node-requires
+no-node-requires c κs = search needs
+
+returns : tie.Need-returns
+unfolding nodeOf
+returns c = simp (eq-eqb _ _ (rw (c .before .before .find .ensures .0) at (c .before .if1 .taken))) (c .no-node .ensures)
+
+front-requires : tie.Need-front-requires
+front-requires c κs = search needs
+
+number-requires : tie.Need-number-requires
+number-requires c κs = search needs
+
+enum-known-contents : tie.Need-enum-known-contents
+enum-known-contents c = search needs
+
+enum-told : tie.Need-enum-told
+enum-told c = search needs
+
+no-node-requires-2 : tie.Need-no-node-requires-2
+no-node-requires-2 c κs = search needs
+
+returns-2 : tie.Need-returns-2
+unfolding nodeOf
+returns-2 c =
+    simp (ne-eqb _ _ (rw (c .before .before .before .before .before .before .find .ensures .0) at (c .before .before .before .before .before .if1 .left)), rw (c .before .before .before .before .front .ensures, c .before .before .before .before .before .before .find .ensures .0) at (sym (c .before .before .before .number .ensures) ∙ c .before .enum-told .given .1)) (c .no-node2 .ensures)
+
+add-after : tie.Need-add-after
+add-after c = search needs
+
+after-requires : tie.Need-after-requires
+after-requires c κs = search needs
+
+list-requires : tie.Need-list-requires
+list-requires c κs = search needs
+
+no-node-requires-3 : tie.Need-no-node-requires-3
+no-node-requires-3 c κs = search needs
+
+returns-3 : tie.Need-returns-3
+unfolding nodeOf
+returns-3 c =
+    simp (ne-eqb _ _ (rw (c .before .before .before .before .before .before .before .before .before .before .before .find .ensures .0) at (c .before .before .before .before .before .before .before .before .before .before .if1 .left)), rw (c .before .before .before .before .before .before .before .before .before .front .ensures, c .before .before .before .before .before .before .before .before .before .before .before .find .ensures .0) at (sym (c .before .before .before .before .before .before .before .before .number .ensures) ∙ c .before .before .before .before .before .before .contents .given .1), rw (c .before .before .before .list .ensures, c .before .before .before .before .after .ensures .0, c .before .before .before .before .before .before .before .before .before .before .before .find .ensures .0) at (not-true (c .before .before .before .list .result .ok) (c .before .if2 .taken))) (c .no-node3 .ensures)
+
+returns-4 : tie.Need-returns-4
+unfolding nodeOf
+returns-4 c =
+    simp (ne-eqb _ _ (rw (c .before .before .before .before .before .before .before .before .before .before .before .find .ensures .0) at (c .before .before .before .before .before .before .before .before .before .before .if1 .left)), rw (c .before .before .before .before .before .before .before .before .before .front .ensures, c .before .before .before .before .before .before .before .before .before .before .before .find .ensures .0) at (sym (c .before .before .before .before .before .before .before .before .number .ensures) ∙ c .before .before .before .before .before .before .contents .given .1), rw (c .before .before .before .list .ensures, c .before .before .before .before .after .ensures .0, c .before .before .before .before .before .before .before .before .before .before .before .find .ensures .0) at (not-false (c .before .before .before .list .result .ok) (c .before .if2 .left)), rw (c .before .before .before .before .after .ensures .0, c .before .before .before .before .before .before .before .before .before .before .before .find .ensures .0) at (c .before .before .before .list .ensures))
+
+pub node-spec : {M : Type 1} → statement M
+node-spec =
+    tie.close
+    (tie.spec
+    find-requires
+    no-node-requires
+    returns
+    front-requires
+    number-requires
+    enum-known-contents
+    enum-told
+    no-node-requires-2
+    returns-2
+    add-after
+    after-requires
+    list-requires
+    no-node-requires-3
+    returns-3
+    returns-4)

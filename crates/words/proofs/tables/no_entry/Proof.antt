@@ -1,0 +1,13 @@
+-- By what the callee ensures. Assumes nothing.
+use borrow.Author.Needs.{needs}
+use Rattle.words.proofs.tables.no_entry.Statement.{statement}
+use Rattle.words.proofs.tables.no_entry.Tie as tie
+
+empty-entry-requires : tie.Need-empty-entry-requires
+empty-entry-requires c κs = search needs
+
+returns : tie.Need-returns
+returns c = simp (c .empty-entry .ensures)
+
+pub no-entry-spec : {M : Type 1} → statement M
+no-entry-spec = tie.close (tie.spec empty-entry-requires returns)
