@@ -1,15 +1,15 @@
 // What a round carries, the arguments of a call, and the one place that makes a joined call.
 ghost use mathlib.Core.Path.{_≡_};
-use cache::Cache;
-use cache::Call;
-use cache::VersionOp;
-use disk::Disk;
-use disk::DiskOp;
-use disk::Records;
-use layout::Location;
-use sector::Node;
-use sector::Succs;
-use sector::Table;
+use blockcache::Cache;
+use blockcache::Call;
+use blockcache::VersionOp;
+use blockdisk::Disk;
+use blockdisk::DiskOp;
+use blockdisk::Records;
+use disklayout::Location;
+use sectortype::Node;
+use sectortype::Succs;
+use sectortype::Table;
 
 // The device and the contents number of this round, the counts and the checksum so far, and the store.
 pub struct State {

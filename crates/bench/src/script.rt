@@ -24,10 +24,10 @@ use crate::steps::write_back_node_req;
 use crate::steps::write_back_node_resp;
 use crate::steps::write_back_table_req;
 use crate::steps::write_back_table_resp;
-use cache::VersionOp;
-use disk::Brought;
-use disk::DiskOp;
-use sector::Node;
+use blockcache::VersionOp;
+use blockdisk::Brought;
+use blockdisk::DiskOp;
+use sectortype::Node;
 
 // Reference r as the script first writes it: it names the one before it, and the root.
 fn leaf(s: State, r: u8) -> Node {

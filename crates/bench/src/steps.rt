@@ -7,11 +7,11 @@ use crate::calls::table_place;
 use crate::calls::turn;
 use crate::calls::with_node;
 use crate::calls::with_table;
-use cache::VersionOp;
-use disk::Brought;
-use disk::DiskOp;
-use sector::Node;
-use sector::Table;
+use blockcache::VersionOp;
+use blockdisk::Brought;
+use blockdisk::DiskOp;
+use sectortype::Node;
+use sectortype::Table;
 
 // 1
 pub fn write_back_node_req(s: State, r: u64, id: u64, block: u64, node: Node) -> State {

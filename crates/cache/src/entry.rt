@@ -1,52 +1,70 @@
 // The step entry: any number, any call, on any cache.
 ghost use mathlib.Core.Path.{_≡_};
 ghost use Prim.Native.Nat.{_<_, _≤_};
-ghost use Rattle.cache.specs.Rows.{readRef};
-ghost use Rattle.cache.specs.Step.{obeyed, cacheStep};
-use crate::Cache;
-use crate::CacheOutcome;
-use crate::Call;
+ghost use Rattle.blockcache.specs.Rows.{readRef};
+ghost use Rattle.blockcache.specs.Step.{obeyed, cacheStep};
+use crate::form::cache_form;
 use crate::form::call_form;
+use crate::load::crash;
+use crate::load::page_in_indirection_table_req;
+use crate::load::page_in_indirection_table_resp;
+use crate::load::receive_loc;
+use crate::page::page_in_node_req;
+use crate::page::page_in_node_resp;
+use crate::work::alloc;
+use crate::work::clean_up;
+use crate::work::dirty;
+use crate::work::evict;
+use crate::work::freeze;
+use crate::work::no_op;
+use crate::work::read_step;
+use crate::work::unalloc;
+use crate::write::answered;
+use crate::write::write_back_indirection_table_req;
+use crate::write::write_back_indirection_table_resp;
+use crate::write::write_back_node_req;
+use crate::write::write_back_node_resp;
+use blockcache::Cache;
+use blockcache::CacheOutcome;
+use blockcache::Call;
 
-impl Cache {
-    // The step alone, on a cache and a call in their written form.
-    fn obey(self, device: u64, number: u64, r: usize, q: Call) -> CacheOutcome
-        requires { ⌜ (r < 64) × (readRef device self r q < 64) ⌝ }
-        ensures { λ o. ⌜ o ≡ obeyed device self number r q ⌝ }
-    {
-        match number {
-            1 => self.write_back_node_req(device, r, q),
-            2 => self.write_back_node_resp(device, r, q),
-            3 => self.write_back_indirection_table_req(device, r, q),
-            4 => self.write_back_indirection_table_resp(device, r, q),
-            5 => self.unalloc(device, r, q),
-            6 => self.page_in_node_req(device, r, q),
-            7 => self.page_in_node_resp(device, r, q),
-            8 => self.page_in_indirection_table_req(device, r, q),
-            9 => self.page_in_indirection_table_resp(device, r, q),
-            10 => self.receive_loc(device, r, q),
-            11 => self.evict(device, r, q),
-            12 => self.freeze(device, r, q),
-            13 => self.clean_up(device, r, q),
-            14 => self.no_op(device, r, q),
-            15 => self.dirty(device, r, q),
-            16 => self.alloc(device, r, q),
-            17 => self.read_step(device, r, q),
-            18 => self.crash(device, r, q),
-            _ => self.answered(1),
-        }
+// The step alone, on a cache and a call in their written form.
+fn obey(c: Cache, device: u64, number: u64, r: usize, q: Call) -> CacheOutcome
+    requires { ⌜ (r < 64) × (readRef device c r q < 64) ⌝ }
+    ensures { λ o. ⌜ o ≡ obeyed device c number r q ⌝ }
+{
+    match number {
+        1 => write_back_node_req(c, device, r, q),
+        2 => write_back_node_resp(c, device, r, q),
+        3 => write_back_indirection_table_req(c, device, r, q),
+        4 => write_back_indirection_table_resp(c, device, r, q),
+        5 => unalloc(c, device, r, q),
+        6 => page_in_node_req(c, device, r, q),
+        7 => page_in_node_resp(c, device, r, q),
+        8 => page_in_indirection_table_req(c, device, r, q),
+        9 => page_in_indirection_table_resp(c, device, r, q),
+        10 => receive_loc(c, device, r, q),
+        11 => evict(c, device, r, q),
+        12 => freeze(c, device, r, q),
+        13 => clean_up(c, device, r, q),
+        14 => no_op(c, device, r, q),
+        15 => dirty(c, device, r, q),
+        16 => alloc(c, device, r, q),
+        17 => read_step(c, device, r, q),
+        18 => crash(c, device, r, q),
+        _ => answered(c, 1),
     }
+}
 
-    pub fn step(self, device: u64, number: u64, q: Call) -> CacheOutcome
-        ensures { λ o. ⌜ o ≡ cacheStep device self number q ⌝ }
-    {
-        let form = self.form();
-        let call = call_form(q);
-        let known = device <= 2;
-        let good = known & form & call;
-        if good {
-            return self.obey(device, number, q.reference as usize, q);
-        }
-        self.answered(1)
+pub fn step(c: Cache, device: u64, number: u64, q: Call) -> CacheOutcome
+    ensures { λ o. ⌜ o ≡ cacheStep device c number q ⌝ }
+{
+    let form = cache_form(c);
+    let call = call_form(q);
+    let known = device <= 2;
+    let good = known & form & call;
+    if good {
+        return obey(c, device, number, q.reference as usize, q);
     }
+    answered(c, 1)
 }

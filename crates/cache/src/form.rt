@@ -1,14 +1,14 @@
 // The cache's one written form: what a phase doesn't have is zeros.
 ghost use mathlib.Core.Path.{_≡_};
-ghost use Rattle.cache.specs.Form.{writesForm, readsForm, tablesForm, placesForm, awaitedForm, outstandingForm, idle, phaseForm, cacheForm, callForm, emptyCache, loadingAt};
-use crate::Awaited;
-use crate::Cache;
-use crate::Call;
-use crate::Outstanding;
-use crate::Phase;
-use crate::Places;
-use crate::Tables;
-use layout::Location;
+ghost use Rattle.blockcache.specs.Form.{writesForm, readsForm, tablesForm, placesForm, awaitedForm, outstandingForm, idle, phaseForm, cacheForm, callForm, emptyCache, loadingAt};
+use blockcache::Awaited;
+use blockcache::Cache;
+use blockcache::Call;
+use blockcache::Outstanding;
+use blockcache::Phase;
+use blockcache::Places;
+use blockcache::Tables;
+use disklayout::Location;
 use queue::Requests;
 
 // Each write that is outstanding is of a reference.
@@ -81,61 +81,59 @@ fn outstanding_form(o: Outstanding) -> bool
     a & b
 }
 
-impl Cache {
-    // No table, no frozen place, nothing outstanding, nothing cached.
-    fn idle(self) -> bool
-        ensures { λ b. ⌜ b ≡ idle self ⌝ }
-    {
-        let ts = self.tables;
-        let ps = self.places;
-        let o = self.outstanding;
-        let p = ts.persistent;
-        let e = ts.ephemeral;
-        let w = o.writes;
-        let r = o.reads;
-        let m = self.nodes;
-        (p.count == 0)
-            & (e.count == 0)
-            & !ts.isfrozen
-            & !ps.isfrozen
-            & (w.count == 0)
-            & (r.count == 0)
-            & (m.count == 0)
-    }
+// No table, no frozen place, nothing outstanding, nothing cached.
+fn idle(c: Cache) -> bool
+    ensures { λ b. ⌜ b ≡ idle c ⌝ }
+{
+    let ts = c.tables;
+    let ps = c.places;
+    let o = c.outstanding;
+    let p = ts.persistent;
+    let e = ts.ephemeral;
+    let w = o.writes;
+    let r = o.reads;
+    let m = c.nodes;
+    (p.count == 0)
+        & (e.count == 0)
+        & !ts.isfrozen
+        & !ps.isfrozen
+        & (w.count == 0)
+        & (r.count == 0)
+        & (m.count == 0)
+}
 
-    // What the phase doesn't have is zeros.
-    fn phase_form(self) -> bool
-        ensures { λ b. ⌜ b ≡ phaseForm self ⌝ }
-    {
-        let phase = self.phase;
-        let idle = self.idle();
-        let ps = self.places;
-        let p = ps.persistent;
-        let a = self.awaited;
-        let nowhere = sector::loc_zero(p);
-        match phase {
-            Phase::Unready => idle & nowhere & !a.waiting,
-            Phase::Loading => idle,
-            Phase::Ready => true,
-        }
+// What the phase doesn't have is zeros.
+fn phase_form(c: Cache) -> bool
+    ensures { λ b. ⌜ b ≡ phaseForm c ⌝ }
+{
+    let phase = c.phase;
+    let idle = idle(c);
+    let ps = c.places;
+    let p = ps.persistent;
+    let a = c.awaited;
+    let nowhere = sector::loc_zero(p);
+    match phase {
+        Phase::Unready => idle & nowhere & !a.waiting,
+        Phase::Loading => idle,
+        Phase::Ready => true,
     }
+}
 
-    pub fn form(self) -> bool
-        ensures { λ b. ⌜ b ≡ cacheForm self ⌝ }
-    {
-        let ts = self.tables;
-        let ps = self.places;
-        let a = self.awaited;
-        let o = self.outstanding;
-        let m = self.nodes;
-        let tables = tables_form(ts);
-        let places = places_form(ps);
-        let awaited = awaited_form(a);
-        let outstanding = outstanding_form(o);
-        let nodes = sector::nodes_form(m);
-        let phase = self.phase_form();
-        tables & places & awaited & outstanding & nodes & phase
-    }
+pub fn cache_form(c: Cache) -> bool
+    ensures { λ b. ⌜ b ≡ cacheForm c ⌝ }
+{
+    let ts = c.tables;
+    let ps = c.places;
+    let a = c.awaited;
+    let o = c.outstanding;
+    let m = c.nodes;
+    let tables = tables_form(ts);
+    let places = places_form(ps);
+    let awaited = awaited_form(a);
+    let outstanding = outstanding_form(o);
+    let nodes = sector::nodes_form(m);
+    let phase = phase_form(c);
+    tables & places & awaited & outstanding & nodes & phase
 }
 
 // The reference is one, node and table are in their written form. What a step doesn't use is judged all the same.

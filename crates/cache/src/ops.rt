@@ -1,10 +1,10 @@
 // What the steps ask of a version operation and of a disk operation: its kind as a number, and what it carries.
 ghost use mathlib.Core.Path.{_≡_};
-ghost use Rattle.cache.specs.Ops.{vopKind, vopLoc, vopNoOp, dopKind, dopId, dopLoc, dopBrought};
-use crate::VersionOp;
-use disk::Brought;
-use disk::DiskOp;
-use layout::Location;
+ghost use Rattle.blockcache.specs.Ops.{vopKind, vopLoc, vopNoOp, dopKind, dopId, dopLoc, dopBrought};
+use blockcache::VersionOp;
+use blockdisk::Brought;
+use blockdisk::DiskOp;
+use disklayout::Location;
 
 pub(crate) fn vop_kind(v: VersionOp) -> u64
     ensures { λ r. ⌜ r ≡ vopKind v ⌝ }

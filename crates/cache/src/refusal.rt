@@ -1,6 +1,6 @@
 // The lowest number whose condition holds. A step that lacks a row passes false for it.
 ghost use mathlib.Core.Path.{_≡_};
-ghost use Rattle.cache.specs.Rows.{first};
+ghost use Rattle.blockcache.specs.Rows.{first};
 
 // The version operation, the disk operation, the phase: the three conditions that most steps begin with.
 pub(crate) fn first_three(c2: bool, c3: bool, c4: bool, rest: u64) -> u64

@@ -1,16 +1,16 @@
 // Questions about the whole cache that a step's refusals ask.
 ghost use mathlib.Core.Path.{_≡_};
 ghost use Prim.Native.Nat.{_<_};
-ghost use Rattle.cache.specs.Scan.{writeHolds, reads, writesTo, NoLocation, namesAt, named, heldIn, needsCached, wrongNode, wrongTable};
-use crate::Tables;
-use disk::Brought;
-use layout::Location;
+ghost use Rattle.blockcache.specs.Scan.{writeHolds, reads, writesTo, NoLocation, namesAt, named, heldIn, needsCached, wrongNode, wrongTable};
+use blockcache::Tables;
+use blockdisk::Brought;
+use disklayout::Location;
 use queue::Request;
 use queue::Requests;
-use sector::Entry;
-use sector::Node;
-use sector::Succs;
-use sector::Table;
+use sectortype::Entry;
+use sectortype::Node;
+use sectortype::Succs;
+use sectortype::Table;
 
 // Whether an outstanding write has this address.
 fn write_holds(q: Requests, addr: u64) -> bool

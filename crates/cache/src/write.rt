@@ -2,15 +2,10 @@
 ghost use mathlib.Core.Path.{_≡_};
 ghost use Prim.Native.Nat.{_<_};
 ghost use Rattle.base.specs.Refusals.{answer};
-ghost use Rattle.cache.specs.Form.{isReady};
-ghost use Rattle.cache.specs.Rows.{rows1, rows2, rows3, rows4};
-ghost use Rattle.cache.specs.Next.{assigned, next1, next2, next3, next4};
-ghost use Rattle.cache.specs.Step.{answered, outcome};
-use crate::Awaited;
-use crate::Cache;
-use crate::CacheOutcome;
-use crate::Call;
-use crate::Phase;
+ghost use Rattle.blockcache.specs.Form.{isReady};
+ghost use Rattle.blockcache.specs.Rows.{rows1, rows2, rows3, rows4};
+ghost use Rattle.blockcache.specs.Next.{assigned, next1, next2, next3, next4};
+ghost use Rattle.blockcache.specs.Step.{answered, outcome};
 use crate::ops::dop_id;
 use crate::ops::dop_kind;
 use crate::ops::dop_loc;
@@ -20,10 +15,15 @@ use crate::refusal::first_of;
 use crate::refusal::first_three;
 use crate::scan::held;
 use crate::scan::lacks_location;
-use layout::Location;
+use blockcache::Awaited;
+use blockcache::Cache;
+use blockcache::CacheOutcome;
+use blockcache::Call;
+use blockcache::Phase;
+use disklayout::Location;
 use queue::Request;
-use sector::Entry;
-use sector::Table;
+use sectortype::Entry;
+use sectortype::Table;
 
 // Upstream's assignRefToLocation: a location for a reference that is allocated and has none.
 fn assign_ref_to_location(t: Table, r: usize, loc: Location) -> Table
@@ -45,216 +45,214 @@ fn assign_ref_to_location(t: Table, r: usize, loc: Location) -> Table
     t
 }
 
-impl Cache {
-    pub(crate) fn is_ready(self) -> bool
-        ensures { λ b. ⌜ b ≡ isReady self ⌝ }
-    {
-        let phase = self.phase;
-        match phase {
-            Phase::Unready => false,
-            Phase::Loading => false,
-            Phase::Ready => true,
-        }
+pub(crate) fn is_ready(c: Cache) -> bool
+    ensures { λ b. ⌜ b ≡ isReady c ⌝ }
+{
+    let phase = c.phase;
+    match phase {
+        Phase::Unready => false,
+        Phase::Loading => false,
+        Phase::Ready => true,
     }
+}
 
-    pub(crate) fn answered(self, n: u64) -> CacheOutcome
-        ensures { λ o. ⌜ o ≡ answered n self ⌝ }
-    {
-        let node = sector::empty_node();
-        CacheOutcome {
-            answer: n,
-            node,
-            cache: self,
-        }
+pub(crate) fn answered(c: Cache, n: u64) -> CacheOutcome
+    ensures { λ o. ⌜ o ≡ answered n c ⌝ }
+{
+    let node = sector::empty_node();
+    CacheOutcome {
+        answer: n,
+        node,
+        cache: c,
     }
+}
 
-    fn write_back_node_req_refusal(self, device: u64, r: usize, q: Call) -> u64
-        requires { ⌜ r < 64 ⌝ }
-        ensures { λ n. ⌜ n ≡ answer (rows1 device self r q) ⌝ }
-    {
-        let v = q.vop;
-        let d = q.dop;
-        let vk = vop_kind(v);
-        let dk = dop_kind(d);
-        let ready = self.is_ready();
-        let id = dop_id(d);
-        let loc = dop_loc(d);
-        let ts = self.tables;
-        let a = self.awaited;
-        let o = self.outstanding;
-        let w = o.writes;
-        let m = self.nodes;
-        let slot = m.slots[r];
-        let kept = slot.node;
-        let given = q.node;
-        let known = queue::has(w, id);
-        let valid = layout::valid_node_location(device, loc);
-        let taken = held(ts, w, loc.addr);
-        let same = sector::same_node(kept, given);
-        let n14 = first_of(16 <= w.count, 14, 0);
-        let n10 = first_of(a.waiting, 10, n14);
-        let n9 = first_of(slot.present & !same, 9, n10);
-        let n8 = first_of(!slot.present, 8, n9);
-        let n7 = first_of(taken, 7, n8);
-        let n6 = first_of(!valid.yes | (loc.len == 0), 6, n7);
-        let n5 = first_of(known, 5, n6);
-        first_three(vk != 1, dk != 4, !ready, n5)
-    }
+fn write_back_node_req_refusal(c: Cache, device: u64, r: usize, q: Call) -> u64
+    requires { ⌜ r < 64 ⌝ }
+    ensures { λ n. ⌜ n ≡ answer (rows1 device c r q) ⌝ }
+{
+    let v = q.vop;
+    let d = q.dop;
+    let vk = vop_kind(v);
+    let dk = dop_kind(d);
+    let ready = is_ready(c);
+    let id = dop_id(d);
+    let loc = dop_loc(d);
+    let ts = c.tables;
+    let a = c.awaited;
+    let o = c.outstanding;
+    let w = o.writes;
+    let m = c.nodes;
+    let slot = m.slots[r];
+    let kept = slot.node;
+    let given = q.node;
+    let known = queue::has(w, id);
+    let valid = layout::valid_node_location(device, loc);
+    let taken = held(ts, w, loc.addr);
+    let same = sector::same_node(kept, given);
+    let n14 = first_of(16 <= w.count, 14, 0);
+    let n10 = first_of(a.waiting, 10, n14);
+    let n9 = first_of(slot.present & !same, 9, n10);
+    let n8 = first_of(!slot.present, 8, n9);
+    let n7 = first_of(taken, 7, n8);
+    let n6 = first_of(!valid.yes | (loc.len == 0), 6, n7);
+    let n5 = first_of(known, 5, n6);
+    first_three(vk != 1, dk != 4, !ready, n5)
+}
 
-    pub(crate) fn write_back_node_req(mut self, device: u64, r: usize, q: Call) -> CacheOutcome
-        requires { ⌜ r < 64 ⌝ }
-        ensures { λ o. ⌜ o ≡ outcome (rows1 device self r q) (next1 self r q) self ⌝ }
-    {
-        let n = self.write_back_node_req_refusal(device, r, q);
-        if n != 0 {
-            return self.answered(n);
-        }
-        let d = q.dop;
-        let id = dop_id(d);
-        let loc = dop_loc(d);
-        let mut ts = self.tables;
-        let e = ts.ephemeral;
-        let f = ts.frozen;
-        let e2 = assign_ref_to_location(e, r, loc);
-        let f2 = assign_ref_to_location(f, r, loc);
-        ts.ephemeral = e2;
-        ts.frozen = f2;
-        let mut o = self.outstanding;
-        let w = o.writes;
-        let w2 = queue::insert(
-            w,
-            Request {
-                id,
-                reference: (r % 64) as u8,
-                loc,
-            },
-        );
-        o.writes = w2;
-        self.tables = ts;
-        self.outstanding = o;
-        self.answered(0)
+pub(crate) fn write_back_node_req(mut c: Cache, device: u64, r: usize, q: Call) -> CacheOutcome
+    requires { ⌜ r < 64 ⌝ }
+    ensures { λ o. ⌜ o ≡ outcome (rows1 device c r q) (next1 c r q) c ⌝ }
+{
+    let n = write_back_node_req_refusal(c, device, r, q);
+    if n != 0 {
+        return answered(c, n);
     }
+    let d = q.dop;
+    let id = dop_id(d);
+    let loc = dop_loc(d);
+    let mut ts = c.tables;
+    let e = ts.ephemeral;
+    let f = ts.frozen;
+    let e2 = assign_ref_to_location(e, r, loc);
+    let f2 = assign_ref_to_location(f, r, loc);
+    ts.ephemeral = e2;
+    ts.frozen = f2;
+    let mut o = c.outstanding;
+    let w = o.writes;
+    let w2 = queue::insert(
+        w,
+        Request {
+            id,
+            reference: (r % 64) as u8,
+            loc,
+        },
+    );
+    o.writes = w2;
+    c.tables = ts;
+    c.outstanding = o;
+    answered(c, 0)
+}
 
-    fn write_back_node_resp_refusal(self, device: u64, r: usize, q: Call) -> u64
-        ensures { λ n. ⌜ n ≡ answer (rows2 device self r q) ⌝ }
-    {
-        let v = q.vop;
-        let d = q.dop;
-        let vk = vop_kind(v);
-        let dk = dop_kind(d);
-        let ready = self.is_ready();
-        let id = dop_id(d);
-        let o = self.outstanding;
-        let w = o.writes;
-        let known = queue::has(w, id);
-        let n5 = first_of(!known, 5, 0);
-        first_three(vk != 1, dk != 8, !ready, n5)
-    }
+fn write_back_node_resp_refusal(c: Cache, device: u64, r: usize, q: Call) -> u64
+    ensures { λ n. ⌜ n ≡ answer (rows2 device c r q) ⌝ }
+{
+    let v = q.vop;
+    let d = q.dop;
+    let vk = vop_kind(v);
+    let dk = dop_kind(d);
+    let ready = is_ready(c);
+    let id = dop_id(d);
+    let o = c.outstanding;
+    let w = o.writes;
+    let known = queue::has(w, id);
+    let n5 = first_of(!known, 5, 0);
+    first_three(vk != 1, dk != 8, !ready, n5)
+}
 
-    pub(crate) fn write_back_node_resp(mut self, device: u64, r: usize, q: Call) -> CacheOutcome
-        ensures { λ o. ⌜ o ≡ outcome (rows2 device self r q) (next2 self r q) self ⌝ }
-    {
-        let n = self.write_back_node_resp_refusal(device, r, q);
-        if n != 0 {
-            return self.answered(n);
-        }
-        let d = q.dop;
-        let id = dop_id(d);
-        let mut o = self.outstanding;
-        let w = o.writes;
-        let w2 = queue::remove(w, id);
-        o.writes = w2;
-        self.outstanding = o;
-        self.answered(0)
+pub(crate) fn write_back_node_resp(mut c: Cache, device: u64, r: usize, q: Call) -> CacheOutcome
+    ensures { λ o. ⌜ o ≡ outcome (rows2 device c r q) (next2 c r q) c ⌝ }
+{
+    let n = write_back_node_resp_refusal(c, device, r, q);
+    if n != 0 {
+        return answered(c, n);
     }
+    let d = q.dop;
+    let id = dop_id(d);
+    let mut o = c.outstanding;
+    let w = o.writes;
+    let w2 = queue::remove(w, id);
+    o.writes = w2;
+    c.outstanding = o;
+    answered(c, 0)
+}
 
-    fn write_back_indirection_table_req_refusal(self, device: u64, r: usize, q: Call) -> u64
-        ensures { λ n. ⌜ n ≡ answer (rows3 device self r q) ⌝ }
-    {
-        let v = q.vop;
-        let d = q.dop;
-        let vk = vop_kind(v);
-        let dk = dop_kind(d);
-        let ready = self.is_ready();
-        let loc = dop_loc(d);
-        let ts = self.tables;
-        let ps = self.places;
-        let o = self.outstanding;
-        let w = o.writes;
-        let f = ts.frozen;
-        let given = q.table;
-        let p = ps.persistent;
-        let valid = layout::valid_indirection_table_location(device, loc);
-        let over = layout::overlap(device, loc, p);
-        let same = sector::same_table(f, given);
-        let lacks = lacks_location(f);
-        let n11 = first_of(!ts.isfrozen | lacks | ps.isfrozen, 11, 0);
-        let n10 = first_of(!(w.count == 0), 10, n11);
-        let n9 = first_of(ts.isfrozen & !same, 9, n10);
-        let n6 = first_of(!valid.yes | over.yes, 6, n9);
-        first_three(vk != 1, dk != 3, !ready, n6)
-    }
+fn write_back_indirection_table_req_refusal(c: Cache, device: u64, r: usize, q: Call) -> u64
+    ensures { λ n. ⌜ n ≡ answer (rows3 device c r q) ⌝ }
+{
+    let v = q.vop;
+    let d = q.dop;
+    let vk = vop_kind(v);
+    let dk = dop_kind(d);
+    let ready = is_ready(c);
+    let loc = dop_loc(d);
+    let ts = c.tables;
+    let ps = c.places;
+    let o = c.outstanding;
+    let w = o.writes;
+    let f = ts.frozen;
+    let given = q.table;
+    let p = ps.persistent;
+    let valid = layout::valid_indirection_table_location(device, loc);
+    let over = layout::overlap(device, loc, p);
+    let same = sector::same_table(f, given);
+    let lacks = lacks_location(f);
+    let n11 = first_of(!ts.isfrozen | lacks | ps.isfrozen, 11, 0);
+    let n10 = first_of(!(w.count == 0), 10, n11);
+    let n9 = first_of(ts.isfrozen & !same, 9, n10);
+    let n6 = first_of(!valid.yes | over.yes, 6, n9);
+    first_three(vk != 1, dk != 3, !ready, n6)
+}
 
-    pub(crate) fn write_back_indirection_table_req(
-        mut self,
-        device: u64,
-        r: usize,
-        q: Call,
-    ) -> CacheOutcome
-        ensures { λ o. ⌜ o ≡ outcome (rows3 device self r q) (next3 self r q) self ⌝ }
-    {
-        let n = self.write_back_indirection_table_req_refusal(device, r, q);
-        if n != 0 {
-            return self.answered(n);
-        }
-        let d = q.dop;
-        let id = dop_id(d);
-        let loc = dop_loc(d);
-        let mut ps = self.places;
-        ps.isfrozen = true;
-        ps.frozen = loc;
-        self.places = ps;
-        let a = Awaited { waiting: true, id };
-        self.awaited = a;
-        self.answered(0)
+pub(crate) fn write_back_indirection_table_req(
+    mut c: Cache,
+    device: u64,
+    r: usize,
+    q: Call,
+) -> CacheOutcome
+    ensures { λ o. ⌜ o ≡ outcome (rows3 device c r q) (next3 c r q) c ⌝ }
+{
+    let n = write_back_indirection_table_req_refusal(c, device, r, q);
+    if n != 0 {
+        return answered(c, n);
     }
+    let d = q.dop;
+    let id = dop_id(d);
+    let loc = dop_loc(d);
+    let mut ps = c.places;
+    ps.isfrozen = true;
+    ps.frozen = loc;
+    c.places = ps;
+    let a = Awaited { waiting: true, id };
+    c.awaited = a;
+    answered(c, 0)
+}
 
-    fn write_back_indirection_table_resp_refusal(self, device: u64, r: usize, q: Call) -> u64
-        ensures { λ n. ⌜ n ≡ answer (rows4 device self r q) ⌝ }
-    {
-        let v = q.vop;
-        let d = q.dop;
-        let vk = vop_kind(v);
-        let dk = dop_kind(d);
-        let ready = self.is_ready();
-        let id = dop_id(d);
-        let vloc = vop_loc(v);
-        let a = self.awaited;
-        let ps = self.places;
-        let f = ps.frozen;
-        let same = sector::same_loc(f, vloc);
-        let n6 = first_of(!(ps.isfrozen & same), 6, 0);
-        let n5 = first_of(!(a.waiting & (a.id == id)), 5, n6);
-        first_three(vk != 4, dk != 7, !ready, n5)
-    }
+fn write_back_indirection_table_resp_refusal(c: Cache, device: u64, r: usize, q: Call) -> u64
+    ensures { λ n. ⌜ n ≡ answer (rows4 device c r q) ⌝ }
+{
+    let v = q.vop;
+    let d = q.dop;
+    let vk = vop_kind(v);
+    let dk = dop_kind(d);
+    let ready = is_ready(c);
+    let id = dop_id(d);
+    let vloc = vop_loc(v);
+    let a = c.awaited;
+    let ps = c.places;
+    let f = ps.frozen;
+    let same = sector::same_loc(f, vloc);
+    let n6 = first_of(!(ps.isfrozen & same), 6, 0);
+    let n5 = first_of(!(a.waiting & (a.id == id)), 5, n6);
+    first_three(vk != 4, dk != 7, !ready, n5)
+}
 
-    pub(crate) fn write_back_indirection_table_resp(
-        mut self,
-        device: u64,
-        r: usize,
-        q: Call,
-    ) -> CacheOutcome
-        ensures { λ o. ⌜ o ≡ outcome (rows4 device self r q) (next4 self r q) self ⌝ }
-    {
-        let n = self.write_back_indirection_table_resp_refusal(device, r, q);
-        if n != 0 {
-            return self.answered(n);
-        }
-        let a = Awaited {
-            waiting: false,
-            id: 0,
-        };
-        self.awaited = a;
-        self.answered(0)
+pub(crate) fn write_back_indirection_table_resp(
+    mut c: Cache,
+    device: u64,
+    r: usize,
+    q: Call,
+) -> CacheOutcome
+    ensures { λ o. ⌜ o ≡ outcome (rows4 device c r q) (next4 c r q) c ⌝ }
+{
+    let n = write_back_indirection_table_resp_refusal(c, device, r, q);
+    if n != 0 {
+        return answered(c, n);
     }
+    let a = Awaited {
+        waiting: false,
+        id: 0,
+    };
+    c.awaited = a;
+    answered(c, 0)
 }

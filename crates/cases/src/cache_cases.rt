@@ -17,10 +17,10 @@ use crate::made::with_writes;
 use crate::show::cache_answer;
 use crate::show::internal;
 use crate::show::line;
-use cache::Cache;
-use disk::Brought;
-use disk::DiskOp;
-use sector::Table;
+use blockcache::Cache;
+use blockdisk::Brought;
+use blockdisk::DiskOp;
+use sectortype::Table;
 
 // A Ready cache that awaits, under id 5, the node of this reference.
 fn awaiting(reference: u8) -> Cache {

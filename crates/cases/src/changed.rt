@@ -1,16 +1,16 @@
 // Whether two caches and two disks are the same, part by part.
-use cache::Awaited;
-use cache::Cache;
-use cache::Phase;
-use cache::Places;
-use cache::Tables;
-use disk::Disk;
-use disk::NodeRecord;
-use disk::TableRecord;
+use blockcache::Awaited;
+use blockcache::Cache;
+use blockcache::Phase;
+use blockcache::Places;
+use blockcache::Tables;
+use blockdisk::Disk;
+use blockdisk::NodeRecord;
+use blockdisk::TableRecord;
 use queue::Request;
 use queue::Requests;
-use sector::Nodes;
-use sector::Slot;
+use sectortype::Nodes;
+use sectortype::Slot;
 
 fn same_bool(a: bool, b: bool) -> bool {
     (a & b) | (!a & !b)

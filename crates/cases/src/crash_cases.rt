@@ -16,8 +16,8 @@ use crate::made::two_entries;
 use crate::show::crash_answer;
 use crate::show::line;
 use crate::show::pair;
-use disk::Queues;
-use disk::Records;
+use blockdisk::Queues;
+use blockdisk::Records;
 
 // Block k has a node with these contents at this place.
 fn with_node(r: Records, k: usize, addr: u64, len: u64, contents: u64) -> Records {

@@ -11,15 +11,15 @@ use crate::show::disk_answer;
 use crate::show::disk_brings;
 use crate::show::line;
 use crate::show::pair;
-use disk::Brought;
-use disk::Disk;
-use disk::DiskCall;
-use disk::DiskOp;
-use disk::Queues;
-use layout::Location;
+use blockdisk::Brought;
+use blockdisk::Disk;
+use blockdisk::DiskCall;
+use blockdisk::DiskOp;
+use blockdisk::Queues;
+use disklayout::Location;
 use queue::Request;
 use queue::Requests;
-use sector::Table;
+use sectortype::Table;
 
 fn request_of(kind: u64, id: u64, loc: Location) -> DiskOp {
     match kind {
@@ -200,7 +200,7 @@ fn table_brought(id: u64, table: Table) -> u64 {
     let node = sector::empty_node();
     let op = DiskOp::RespReadIndirectionTableOp(id, Brought::Something);
     let call = DiskCall { op, node, table };
-    let o = s.next(0, call);
+    let o = disk::next(s, 0, call);
     o.answer
 }
 

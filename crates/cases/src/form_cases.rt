@@ -28,15 +28,15 @@ use crate::show::disk_form;
 use crate::show::idle;
 use crate::show::internal;
 use crate::show::pair;
-use disk::Disk;
-use disk::DiskCall;
-use disk::DiskOp;
-use disk::Records;
-use layout::Location;
+use blockdisk::Disk;
+use blockdisk::DiskCall;
+use blockdisk::DiskOp;
+use blockdisk::Records;
+use disklayout::Location;
 use queue::Requests;
-use sector::Node;
-use sector::Succs;
-use sector::Table;
+use sectortype::Node;
+use sectortype::Succs;
+use sectortype::Table;
 
 fn node_in_cache(kind: &[u8], n: Node) {
     let c = ready();
@@ -134,7 +134,7 @@ fn disk_with_table(s: Disk, table: Table) -> u64 {
     let node = sector::empty_node();
     let op = DiskOp::NoDiskOp;
     let call = DiskCall { op, node, table };
-    let o = s.next(0, call);
+    let o = disk::next(s, 0, call);
     o.answer
 }
 

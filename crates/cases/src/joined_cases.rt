@@ -25,16 +25,16 @@ use crate::made::with_writes;
 use crate::show::idle;
 use crate::show::internal;
 use crate::show::pair;
-use cache::Awaited;
-use cache::Cache;
-use cache::Call;
-use cache::Phase;
-use cache::VersionOp;
-use disk::Brought;
-use disk::Disk;
-use disk::DiskOp;
-use disk::Records;
-use layout::Location;
+use blockcache::Awaited;
+use blockcache::Cache;
+use blockcache::Call;
+use blockcache::Phase;
+use blockcache::VersionOp;
+use blockdisk::Brought;
+use blockdisk::Disk;
+use blockdisk::DiskOp;
+use blockdisk::Records;
+use disklayout::Location;
 use queue::Requests;
 
 fn both(name: &[u8], number: u64, q: Call, offered: Records, c: Cache, s: Disk) {

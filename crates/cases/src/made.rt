@@ -1,21 +1,21 @@
 // States made by hand, all for device 0.
-use cache::Cache;
-use cache::Outstanding;
-use cache::Phase;
-use cache::Places;
-use cache::Tables;
-use disk::Disk;
-use disk::NodeRecord;
-use disk::Queues;
-use disk::Records;
-use disk::TableRecord;
-use layout::Location;
+use blockcache::Cache;
+use blockcache::Outstanding;
+use blockcache::Phase;
+use blockcache::Places;
+use blockcache::Tables;
+use blockdisk::Disk;
+use blockdisk::NodeRecord;
+use blockdisk::Queues;
+use blockdisk::Records;
+use blockdisk::TableRecord;
+use disklayout::Location;
 use queue::Request;
 use queue::Requests;
-use sector::Entry;
-use sector::Node;
-use sector::Slot;
-use sector::Table;
+use sectortype::Entry;
+use sectortype::Node;
+use sectortype::Slot;
+use sectortype::Table;
 
 // The two table areas and the first four node blocks of device 0.
 pub(crate) const AREA1: u64 = 73728;

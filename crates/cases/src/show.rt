@@ -1,14 +1,14 @@
 // Printing a case, and asking cache and disk on device 0.
-use cache::Cache;
-use cache::Call;
-use cache::VersionOp;
-use disk::Disk;
-use disk::DiskCall;
-use disk::DiskOp;
-use disk::Queues;
-use disk::Records;
+use blockcache::Cache;
+use blockcache::Call;
+use blockcache::VersionOp;
+use blockdisk::Disk;
+use blockdisk::DiskCall;
+use blockdisk::DiskOp;
+use blockdisk::Queues;
+use blockdisk::Records;
 use libc::STDOUT_FILENO;
-use sector::Node;
+use sectortype::Node;
 
 fn value(answer: u64) {
     io::write_all(STDOUT_FILENO, b" answer=");
@@ -35,7 +35,7 @@ pub(crate) fn pair(place: &[u8], what: &[u8], answer: u64) {
 pub(crate) fn disk_brings(s: Disk, op: DiskOp, node: Node) -> u64 {
     let table = sector::empty_table();
     let call = DiskCall { op, node, table };
-    let o = s.next(0, call);
+    let o = disk::next(s, 0, call);
     o.answer
 }
 
@@ -53,7 +53,7 @@ pub(crate) fn disk_form(s: Disk) -> u64 {
 
 pub(crate) fn crash_answer(records: Records, queues: Queues, offered: Records) -> u64 {
     let s = Disk { records, queues };
-    let o = s.crash(0, offered);
+    let o = disk::crash(s, 0, offered);
     o.answer
 }
 
@@ -78,7 +78,7 @@ pub(crate) fn idle() -> Call {
 }
 
 pub(crate) fn cache_answer(c: Cache, number: u64, q: Call) -> u64 {
-    let o = c.step(0, number, q);
+    let o = cache::step(c, 0, number, q);
     o.answer
 }
 

@@ -28,14 +28,14 @@ use crate::show::idle;
 use crate::show::internal;
 use crate::show::line;
 use crate::show::pair;
-use cache::Awaited;
-use cache::Cache;
-use cache::Phase;
-use disk::DiskCall;
-use disk::DiskOp;
-use disk::NodeRecord;
-use disk::TableRecord;
-use layout::Location;
+use blockcache::Awaited;
+use blockcache::Cache;
+use blockcache::Phase;
+use blockdisk::DiskCall;
+use blockdisk::DiskOp;
+use blockdisk::NodeRecord;
+use blockdisk::TableRecord;
+use disklayout::Location;
 
 fn with_awaited(c: Cache, waiting: bool, id: u64) -> Cache {
     let mut next = c;
@@ -263,9 +263,9 @@ fn devices(name: &[u8], device: u64) {
     let table = sector::empty_table();
     let op = DiskOp::NoDiskOp;
     let call = DiskCall { op, node, table };
-    let a = c.step(device, 14, q);
-    let b = s.next(device, call);
-    let d = s.crash(device, none);
+    let a = cache::step(c, device, 14, q);
+    let b = disk::next(s, device, call);
+    let d = disk::crash(s, device, none);
     pair(b"cache_on", name, a.answer);
     pair(b"disk_on", name, b.answer);
     pair(b"crash_of_the_disk_on", name, d.answer);

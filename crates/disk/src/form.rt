@@ -1,12 +1,12 @@
 // The disk's one written form (number 1): each record in its own form and place, each queue in its form with places that 16 allows.
 ghost use mathlib.Core.Path.{_≡_};
-ghost use Rattle.disk.specs.Form.{tableRecordChecked, nodeRecordChecked, tablesChecked, nodesChecked, recordsChecked, tableRequestOk, nodeRequestOk, tableQueueForm, nodeQueueForm, queuesForm, diskForm};
-use crate::Checked;
-use crate::Disk;
-use crate::NodeRecord;
-use crate::Queues;
-use crate::Records;
-use crate::TableRecord;
+ghost use Rattle.blockdisk.specs.Form.{tableRecordChecked, nodeRecordChecked, tablesChecked, nodesChecked, recordsChecked, tableRequestOk, nodeRequestOk, tableQueueForm, nodeQueueForm, queuesForm, diskForm};
+use blockdisk::Checked;
+use blockdisk::Disk;
+use blockdisk::NodeRecord;
+use blockdisk::Queues;
+use blockdisk::Records;
+use blockdisk::TableRecord;
 use queue::Request;
 use queue::Requests;
 
@@ -148,16 +148,14 @@ fn queues_ok(device: u64, qs: Queues) -> bool
     p & q & r & s
 }
 
-impl Disk {
-    // Whether the disk is in its one written form on this device; on a device that is not made, none is.
-    pub fn form(self, device: u64) -> bool
-        ensures { λ b. ⌜ b ≡ diskForm device self ⌝ }
-    {
-        let records = self.records;
-        let queues = self.queues;
-        let c = records_ok(device, records);
-        let q = queues_ok(device, queues);
-        let known = device <= 2;
-        known & c.form & c.placed & q
-    }
+// Whether the disk is in its one written form on this device; on a device that is not made, none is.
+pub fn disk_form(s: Disk, device: u64) -> bool
+    ensures { λ b. ⌜ b ≡ diskForm device s ⌝ }
+{
+    let records = s.records;
+    let queues = s.queues;
+    let c = records_ok(device, records);
+    let q = queues_ok(device, queues);
+    let known = device <= 2;
+    known & c.form & c.placed & q
 }

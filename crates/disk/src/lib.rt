@@ -1,94 +1,15 @@
-// The disk (upstream's BlockDisk): two table areas, 128 node blocks, and four queues of what is outstanding.
-use layout::Location;
-use queue::Requests;
-use sector::Node;
-use sector::Table;
-
-mod crash;
+// The disk: each call, and a crash, is proved to answer and to leave what `blockdisk` defines.
+mod crashing;
 mod form;
 mod ops;
 mod read;
 
-pub use crash::no_queues;
+pub use crashing::crash;
+pub use crashing::no_queues;
+pub use form::disk_form;
 pub use form::records_ok;
+pub use ops::next;
 pub use read::no_node_record;
 pub use read::no_records;
 pub use read::node_at;
 pub use read::table_at;
-
-// What a table area holds: one table at a place within it, or nothing, all zeros.
-pub struct TableRecord {
-    pub present: bool,
-    pub loc: Location,
-    pub table: Table,
-}
-
-// What a node block holds: one node at a place within it, or nothing, all zeros.
-pub struct NodeRecord {
-    pub present: bool,
-    pub loc: Location,
-    pub node: Node,
-}
-
-// All that is stored.
-pub struct Records {
-    pub tables: [TableRecord; 2],
-    pub nodes: [NodeRecord; 128],
-}
-
-// All that is outstanding: upstream's reqReadIndirectionTables, reqReadNodes, reqWriteIndirectionTables and reqWriteNodes.
-pub struct Queues {
-    pub tablereads: Requests,
-    pub nodereads: Requests,
-    pub tablewrites: Requests,
-    pub nodewrites: Requests,
-}
-
-pub struct Disk {
-    pub records: Records,
-    pub queues: Queues,
-}
-
-// Whether a read answer brings something.
-pub enum Brought {
-    Something,
-    Nothing,
-}
-
-// Upstream's DiskOp: numbers alone; its node or its table stands beside it.
-pub enum DiskOp {
-    ReqReadIndirectionTableOp(u64, Location),
-    ReqReadNodeOp(u64, Location),
-    ReqWriteIndirectionTableOp(u64, Location),
-    ReqWriteNodeOp(u64, Location),
-    RespReadIndirectionTableOp(u64, Brought),
-    RespReadNodeOp(u64, Brought),
-    RespWriteIndirectionTableOp(u64),
-    RespWriteNodeOp(u64),
-    NoDiskOp,
-}
-
-// A call of the disk: the operation with its node and its table.
-pub struct DiskCall {
-    pub op: DiskOp,
-    pub node: Node,
-    pub table: Table,
-}
-
-// What a call of the disk returns: document 01's number, and the disk, unchanged where the number is not 0.
-pub struct DiskOutcome {
-    pub answer: u64,
-    pub disk: Disk,
-}
-
-// What one walk over stored or offered records finds: each record is in its written form; each lies in its own area or block.
-pub struct Checked {
-    pub form: bool,
-    pub placed: bool,
-}
-
-// What a request or an answer does to its queue: document 01's number, and the queue, unchanged where the number is not 0.
-pub struct Turn {
-    pub answer: u64,
-    pub queue: Requests,
-}

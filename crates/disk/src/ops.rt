@@ -1,22 +1,23 @@
 // Upstream's transitions of the disk: four requests, four answers, no operation. The entry judges the written form once, before all.
 ghost use mathlib.Core.Path.{_≡_};
-ghost use Rattle.sector.specs.Form.{zeroNode, emptyTable};
-ghost use Rattle.disk.specs.Ops.{requestOf, requestTurn, answerTurn, somethingIn, wrongTable, wrongNode, obeyedOp, obeyed, diskStep};
-use crate::Brought;
-use crate::Disk;
-use crate::DiskCall;
-use crate::DiskOp;
-use crate::DiskOutcome;
-use crate::Turn;
+ghost use Rattle.sectortype.specs.Form.{zeroNode, emptyTable};
+ghost use Rattle.blockdisk.specs.Ops.{requestOf, requestTurn, answerTurn, somethingIn, wrongTable, wrongNode, obeyedOp, obeyed, diskStep};
+use crate::form::disk_form;
 use crate::read::node_at;
 use crate::read::table_at;
 use crate::read::with_node;
 use crate::read::with_table;
-use layout::Location;
+use blockdisk::Brought;
+use blockdisk::Disk;
+use blockdisk::DiskCall;
+use blockdisk::DiskOp;
+use blockdisk::DiskOutcome;
+use blockdisk::Turn;
+use disklayout::Location;
 use queue::Request;
 use queue::Requests;
-use sector::Node;
-use sector::Table;
+use sectortype::Node;
+use sectortype::Table;
 
 fn request(id: u64, loc: Location) -> Request
     ensures { λ w. ⌜ w ≡ requestOf id loc ⌝ }
@@ -94,300 +95,247 @@ fn brings(b: Brought) -> bool
     true
 }
 
-impl Disk {
-    // Whether a table read answer brings something else than is stored at exactly the place asked for.
-    fn wrong_table(self, device: u64, id: u64, b: Brought, table: Table) -> bool
-        ensures { λ r. ⌜ r ≡ wrongTable device self id b table ⌝ }
-    {
-        let qs = self.queues;
-        let q = qs.tablereads;
-        let w = queue::entry(q, id);
-        let records = self.records;
-        let loc = w.loc;
-        let x = table_at(device, records, loc);
-        let stored = x.table;
-        let same = sector::same_table(stored, table);
-        let some = brings(b);
-        some & !(x.present & same)
-    }
+// Whether a table read answer brings something else than is stored at exactly the place asked for.
+fn wrong_table(s: Disk, device: u64, id: u64, b: Brought, table: Table) -> bool
+    ensures { λ r. ⌜ r ≡ wrongTable device s id b table ⌝ }
+{
+    let qs = s.queues;
+    let q = qs.tablereads;
+    let w = queue::entry(q, id);
+    let records = s.records;
+    let loc = w.loc;
+    let x = table_at(device, records, loc);
+    let stored = x.table;
+    let same = sector::same_table(stored, table);
+    let some = brings(b);
+    some & !(x.present & same)
+}
 
-    // Whether a node read answer brings something else than is stored at exactly the place asked for.
-    fn wrong_node(self, device: u64, id: u64, b: Brought, node: Node) -> bool
-        ensures { λ r. ⌜ r ≡ wrongNode device self id b node ⌝ }
-    {
-        let qs = self.queues;
-        let q = qs.nodereads;
-        let w = queue::entry(q, id);
-        let records = self.records;
-        let loc = w.loc;
-        let x = node_at(device, records, loc);
-        let stored = x.node;
-        let same = sector::same_node(stored, node);
-        let some = brings(b);
-        some & !(x.present & same)
-    }
+// Whether a node read answer brings something else than is stored at exactly the place asked for.
+fn wrong_node(s: Disk, device: u64, id: u64, b: Brought, node: Node) -> bool
+    ensures { λ r. ⌜ r ≡ wrongNode device s id b node ⌝ }
+{
+    let qs = s.queues;
+    let q = qs.nodereads;
+    let w = queue::entry(q, id);
+    let records = s.records;
+    let loc = w.loc;
+    let x = node_at(device, records, loc);
+    let stored = x.node;
+    let same = sector::same_node(stored, node);
+    let some = brings(b);
+    some & !(x.present & same)
+}
 
-    fn recv_read_indirection_table(mut self, device: u64, id: u64, loc: Location) -> DiskOutcome
-        ensures { λ o. ⌜ o ≡ obeyedOp device self (DiskOp.ReqReadIndirectionTableOp id loc) zeroNode emptyTable ⌝ }
-    {
-        let mut qs = self.queues;
-        let q = qs.tablereads;
-        let allowed = layout::valid_indirection_table_location(device, loc);
-        let t = ask(q, id, loc, allowed.yes);
-        let n = t.answer;
-        if n != 0 {
-            return DiskOutcome {
-                answer: n,
-                disk: self,
-            };
-        }
-        let next = t.queue;
-        qs.tablereads = next;
-        self.queues = qs;
-        DiskOutcome {
-            answer: 0,
-            disk: self,
-        }
+fn recv_read_indirection_table(mut s: Disk, device: u64, id: u64, loc: Location) -> DiskOutcome
+    ensures { λ o. ⌜ o ≡ obeyedOp device s (DiskOp.ReqReadIndirectionTableOp id loc) zeroNode emptyTable ⌝ }
+{
+    let mut qs = s.queues;
+    let q = qs.tablereads;
+    let allowed = layout::valid_indirection_table_location(device, loc);
+    let t = ask(q, id, loc, allowed.yes);
+    let n = t.answer;
+    if n != 0 {
+        return DiskOutcome { answer: n, disk: s };
     }
+    let next = t.queue;
+    qs.tablereads = next;
+    s.queues = qs;
+    DiskOutcome { answer: 0, disk: s }
+}
 
-    fn recv_read_node(mut self, device: u64, id: u64, loc: Location) -> DiskOutcome
-        ensures { λ o. ⌜ o ≡ obeyedOp device self (DiskOp.ReqReadNodeOp id loc) zeroNode emptyTable ⌝ }
-    {
-        let mut qs = self.queues;
-        let q = qs.nodereads;
-        let allowed = layout::node_place(device, loc);
-        let t = ask(q, id, loc, allowed.yes);
-        let n = t.answer;
-        if n != 0 {
-            return DiskOutcome {
-                answer: n,
-                disk: self,
-            };
-        }
-        let next = t.queue;
-        qs.nodereads = next;
-        self.queues = qs;
-        DiskOutcome {
-            answer: 0,
-            disk: self,
-        }
+fn recv_read_node(mut s: Disk, device: u64, id: u64, loc: Location) -> DiskOutcome
+    ensures { λ o. ⌜ o ≡ obeyedOp device s (DiskOp.ReqReadNodeOp id loc) zeroNode emptyTable ⌝ }
+{
+    let mut qs = s.queues;
+    let q = qs.nodereads;
+    let allowed = layout::node_place(device, loc);
+    let t = ask(q, id, loc, allowed.yes);
+    let n = t.answer;
+    if n != 0 {
+        return DiskOutcome { answer: n, disk: s };
     }
+    let next = t.queue;
+    qs.nodereads = next;
+    s.queues = qs;
+    DiskOutcome { answer: 0, disk: s }
+}
 
-    // The write takes effect at once: it replaces its area's record and nothing else.
-    fn recv_write_indirection_table(
-        mut self,
-        device: u64,
-        id: u64,
-        loc: Location,
-        table: Table,
-    ) -> DiskOutcome
-        ensures { λ o. ⌜ o ≡ obeyedOp device self (DiskOp.ReqWriteIndirectionTableOp id loc) zeroNode table ⌝ }
-    {
-        let mut qs = self.queues;
-        let q = qs.tablewrites;
-        let allowed = layout::valid_indirection_table_location(device, loc);
-        let t = ask(q, id, loc, allowed.yes);
-        let n = t.answer;
-        if n != 0 {
-            return DiskOutcome {
-                answer: n,
-                disk: self,
-            };
-        }
-        let next = t.queue;
-        qs.tablewrites = next;
-        let old = self.records;
-        let records = with_table(device, old, loc, table);
-        self.queues = qs;
-        self.records = records;
-        DiskOutcome {
-            answer: 0,
-            disk: self,
-        }
+// The write takes effect at once: it replaces its area's record and nothing else.
+fn recv_write_indirection_table(
+    mut s: Disk,
+    device: u64,
+    id: u64,
+    loc: Location,
+    table: Table,
+) -> DiskOutcome
+    ensures { λ o. ⌜ o ≡ obeyedOp device s (DiskOp.ReqWriteIndirectionTableOp id loc) zeroNode table ⌝ }
+{
+    let mut qs = s.queues;
+    let q = qs.tablewrites;
+    let allowed = layout::valid_indirection_table_location(device, loc);
+    let t = ask(q, id, loc, allowed.yes);
+    let n = t.answer;
+    if n != 0 {
+        return DiskOutcome { answer: n, disk: s };
     }
+    let next = t.queue;
+    qs.tablewrites = next;
+    let old = s.records;
+    let records = with_table(device, old, loc, table);
+    s.queues = qs;
+    s.records = records;
+    DiskOutcome { answer: 0, disk: s }
+}
 
-    // The write takes effect at once: it replaces its block's record and nothing else.
-    fn recv_write_node(mut self, device: u64, id: u64, loc: Location, node: Node) -> DiskOutcome
-        ensures { λ o. ⌜ o ≡ obeyedOp device self (DiskOp.ReqWriteNodeOp id loc) node emptyTable ⌝ }
-    {
-        let mut qs = self.queues;
-        let q = qs.nodewrites;
-        let allowed = layout::node_place(device, loc);
-        let t = ask(q, id, loc, allowed.yes);
-        let n = t.answer;
-        if n != 0 {
-            return DiskOutcome {
-                answer: n,
-                disk: self,
-            };
-        }
-        let next = t.queue;
-        qs.nodewrites = next;
-        let old = self.records;
-        let records = with_node(device, old, loc, node);
-        self.queues = qs;
-        self.records = records;
-        DiskOutcome {
-            answer: 0,
-            disk: self,
-        }
+// The write takes effect at once: it replaces its block's record and nothing else.
+fn recv_write_node(mut s: Disk, device: u64, id: u64, loc: Location, node: Node) -> DiskOutcome
+    ensures { λ o. ⌜ o ≡ obeyedOp device s (DiskOp.ReqWriteNodeOp id loc) node emptyTable ⌝ }
+{
+    let mut qs = s.queues;
+    let q = qs.nodewrites;
+    let allowed = layout::node_place(device, loc);
+    let t = ask(q, id, loc, allowed.yes);
+    let n = t.answer;
+    if n != 0 {
+        return DiskOutcome { answer: n, disk: s };
     }
+    let next = t.queue;
+    qs.nodewrites = next;
+    let old = s.records;
+    let records = with_node(device, old, loc, node);
+    s.queues = qs;
+    s.records = records;
+    DiskOutcome { answer: 0, disk: s }
+}
 
-    fn ack_read_indirection_table(
-        mut self,
-        device: u64,
-        id: u64,
-        b: Brought,
-        table: Table,
-    ) -> DiskOutcome
-        ensures { λ o. ⌜ o ≡ obeyedOp device self (DiskOp.RespReadIndirectionTableOp id b) zeroNode table ⌝ }
-    {
-        let wrong = self.wrong_table(device, id, b, table);
-        let mut qs = self.queues;
-        let q = qs.tablereads;
-        let t = take(q, id, wrong);
-        let n = t.answer;
-        if n != 0 {
-            return DiskOutcome {
-                answer: n,
-                disk: self,
-            };
-        }
-        let next = t.queue;
-        qs.tablereads = next;
-        self.queues = qs;
-        DiskOutcome {
-            answer: 0,
-            disk: self,
-        }
+fn ack_read_indirection_table(
+    mut s: Disk,
+    device: u64,
+    id: u64,
+    b: Brought,
+    table: Table,
+) -> DiskOutcome
+    ensures { λ o. ⌜ o ≡ obeyedOp device s (DiskOp.RespReadIndirectionTableOp id b) zeroNode table ⌝ }
+{
+    let wrong = wrong_table(s, device, id, b, table);
+    let mut qs = s.queues;
+    let q = qs.tablereads;
+    let t = take(q, id, wrong);
+    let n = t.answer;
+    if n != 0 {
+        return DiskOutcome { answer: n, disk: s };
     }
+    let next = t.queue;
+    qs.tablereads = next;
+    s.queues = qs;
+    DiskOutcome { answer: 0, disk: s }
+}
 
-    fn ack_read_node(mut self, device: u64, id: u64, b: Brought, node: Node) -> DiskOutcome
-        ensures { λ o. ⌜ o ≡ obeyedOp device self (DiskOp.RespReadNodeOp id b) node emptyTable ⌝ }
-    {
-        let wrong = self.wrong_node(device, id, b, node);
-        let mut qs = self.queues;
-        let q = qs.nodereads;
-        let t = take(q, id, wrong);
-        let n = t.answer;
-        if n != 0 {
-            return DiskOutcome {
-                answer: n,
-                disk: self,
-            };
-        }
-        let next = t.queue;
-        qs.nodereads = next;
-        self.queues = qs;
-        DiskOutcome {
-            answer: 0,
-            disk: self,
-        }
+fn ack_read_node(mut s: Disk, device: u64, id: u64, b: Brought, node: Node) -> DiskOutcome
+    ensures { λ o. ⌜ o ≡ obeyedOp device s (DiskOp.RespReadNodeOp id b) node emptyTable ⌝ }
+{
+    let wrong = wrong_node(s, device, id, b, node);
+    let mut qs = s.queues;
+    let q = qs.nodereads;
+    let t = take(q, id, wrong);
+    let n = t.answer;
+    if n != 0 {
+        return DiskOutcome { answer: n, disk: s };
     }
+    let next = t.queue;
+    qs.nodereads = next;
+    s.queues = qs;
+    DiskOutcome { answer: 0, disk: s }
+}
 
-    fn ack_write_indirection_table(mut self, device: u64, id: u64) -> DiskOutcome
-        ensures { λ o. ⌜ o ≡ obeyedOp device self (DiskOp.RespWriteIndirectionTableOp id) zeroNode emptyTable ⌝ }
-    {
-        let mut qs = self.queues;
-        let q = qs.tablewrites;
-        let t = take(q, id, false);
-        let n = t.answer;
-        if n != 0 {
-            return DiskOutcome {
-                answer: n,
-                disk: self,
-            };
-        }
-        let next = t.queue;
-        qs.tablewrites = next;
-        self.queues = qs;
-        DiskOutcome {
-            answer: 0,
-            disk: self,
-        }
+fn ack_write_indirection_table(mut s: Disk, device: u64, id: u64) -> DiskOutcome
+    ensures { λ o. ⌜ o ≡ obeyedOp device s (DiskOp.RespWriteIndirectionTableOp id) zeroNode emptyTable ⌝ }
+{
+    let mut qs = s.queues;
+    let q = qs.tablewrites;
+    let t = take(q, id, false);
+    let n = t.answer;
+    if n != 0 {
+        return DiskOutcome { answer: n, disk: s };
     }
+    let next = t.queue;
+    qs.tablewrites = next;
+    s.queues = qs;
+    DiskOutcome { answer: 0, disk: s }
+}
 
-    fn ack_write_node(mut self, device: u64, id: u64) -> DiskOutcome
-        ensures { λ o. ⌜ o ≡ obeyedOp device self (DiskOp.RespWriteNodeOp id) zeroNode emptyTable ⌝ }
-    {
-        let mut qs = self.queues;
-        let q = qs.nodewrites;
-        let t = take(q, id, false);
-        let n = t.answer;
-        if n != 0 {
-            return DiskOutcome {
-                answer: n,
-                disk: self,
-            };
-        }
-        let next = t.queue;
-        qs.nodewrites = next;
-        self.queues = qs;
-        DiskOutcome {
-            answer: 0,
-            disk: self,
-        }
+fn ack_write_node(mut s: Disk, device: u64, id: u64) -> DiskOutcome
+    ensures { λ o. ⌜ o ≡ obeyedOp device s (DiskOp.RespWriteNodeOp id) zeroNode emptyTable ⌝ }
+{
+    let mut qs = s.queues;
+    let q = qs.nodewrites;
+    let t = take(q, id, false);
+    let n = t.answer;
+    if n != 0 {
+        return DiskOutcome { answer: n, disk: s };
     }
+    let next = t.queue;
+    qs.nodewrites = next;
+    s.queues = qs;
+    DiskOutcome { answer: 0, disk: s }
+}
 
-    fn stutter(self, device: u64) -> DiskOutcome
-        ensures { λ o. ⌜ o ≡ obeyedOp device self DiskOp.NoDiskOp zeroNode emptyTable ⌝ }
-    {
-        DiskOutcome {
-            answer: 0,
-            disk: self,
-        }
-    }
+fn stutter(s: Disk, device: u64) -> DiskOutcome
+    ensures { λ o. ⌜ o ≡ obeyedOp device s DiskOp.NoDiskOp zeroNode emptyTable ⌝ }
+{
+    DiskOutcome { answer: 0, disk: s }
+}
 
-    // The operation alone, on a disk and a call in their written form.
-    fn obey(self, device: u64, call: DiskCall) -> DiskOutcome
-        ensures { λ o. ⌜ o ≡ obeyed device self call ⌝ }
-    {
-        let op = call.op;
-        let node = call.node;
-        let table = call.table;
-        match op {
-            DiskOp::ReqReadIndirectionTableOp(id, loc) => self.recv_read_indirection_table(
-                device,
-                id,
-                loc,
-            ),
-            DiskOp::ReqReadNodeOp(id, loc) => self.recv_read_node(device, id, loc),
-            DiskOp::ReqWriteIndirectionTableOp(id, loc) => self.recv_write_indirection_table(
-                device,
-                id,
-                loc,
-                table,
-            ),
-            DiskOp::ReqWriteNodeOp(id, loc) => self.recv_write_node(device, id, loc, node),
-            DiskOp::RespReadIndirectionTableOp(id, b) => self.ack_read_indirection_table(
-                device,
-                id,
-                b,
-                table,
-            ),
-            DiskOp::RespReadNodeOp(id, b) => self.ack_read_node(device, id, b, node),
-            DiskOp::RespWriteIndirectionTableOp(id) => self.ack_write_indirection_table(device, id),
-            DiskOp::RespWriteNodeOp(id) => self.ack_write_node(device, id),
-            DiskOp::NoDiskOp => self.stutter(device),
-        }
+// The operation alone, on a disk and a call in their written form.
+fn obey(s: Disk, device: u64, call: DiskCall) -> DiskOutcome
+    ensures { λ o. ⌜ o ≡ obeyed device s call ⌝ }
+{
+    let op = call.op;
+    let node = call.node;
+    let table = call.table;
+    match op {
+        DiskOp::ReqReadIndirectionTableOp(id, loc) => recv_read_indirection_table(
+            s,
+            device,
+            id,
+            loc,
+        ),
+        DiskOp::ReqReadNodeOp(id, loc) => recv_read_node(s, device, id, loc),
+        DiskOp::ReqWriteIndirectionTableOp(id, loc) => recv_write_indirection_table(
+            s,
+            device,
+            id,
+            loc,
+            table,
+        ),
+        DiskOp::ReqWriteNodeOp(id, loc) => recv_write_node(s, device, id, loc, node),
+        DiskOp::RespReadIndirectionTableOp(id, b) => ack_read_indirection_table(
+            s,
+            device,
+            id,
+            b,
+            table,
+        ),
+        DiskOp::RespReadNodeOp(id, b) => ack_read_node(s, device, id, b, node),
+        DiskOp::RespWriteIndirectionTableOp(id) => ack_write_indirection_table(s, device, id),
+        DiskOp::RespWriteNodeOp(id) => ack_write_node(s, device, id),
+        DiskOp::NoDiskOp => stutter(s, device),
     }
+}
 
-    // Any call on any disk.
-    pub fn next(self, device: u64, call: DiskCall) -> DiskOutcome
-        ensures { λ o. ⌜ o ≡ diskStep device self call ⌝ }
-    {
-        let node = call.node;
-        let table = call.table;
-        let form = self.form(device);
-        let noded = sector::node_form(node);
-        let tabled = sector::table_form(table);
-        let good = form & noded & tabled;
-        if good {
-            return self.obey(device, call);
-        }
-        DiskOutcome {
-            answer: 1,
-            disk: self,
-        }
+// Any call on any disk.
+pub fn next(s: Disk, device: u64, call: DiskCall) -> DiskOutcome
+    ensures { λ o. ⌜ o ≡ diskStep device s call ⌝ }
+{
+    let node = call.node;
+    let table = call.table;
+    let form = disk_form(s, device);
+    let noded = sector::node_form(node);
+    let tabled = sector::table_form(table);
+    let good = form & noded & tabled;
+    if good {
+        return obey(s, device, call);
     }
+    DiskOutcome { answer: 1, disk: s }
 }

@@ -1,12 +1,12 @@
 // What is stored at exactly a place, address and length; and the records with another at its place.
 ghost use mathlib.Core.Path.{_≡_};
-ghost use Rattle.disk.specs.Records.{readTable, readNode, withTable, withNode, emptyRecords, zeroTableRecord, zeroNodeRecord};
-use crate::NodeRecord;
-use crate::Records;
-use crate::TableRecord;
-use layout::Location;
-use sector::Node;
-use sector::Table;
+ghost use Rattle.blockdisk.specs.Records.{readTable, readNode, withTable, withNode, emptyRecords, zeroTableRecord, zeroNodeRecord};
+use blockdisk::NodeRecord;
+use blockdisk::Records;
+use blockdisk::TableRecord;
+use disklayout::Location;
+use sectortype::Node;
+use sectortype::Table;
 
 fn no_table_record() -> TableRecord
     ensures { λ r. ⌜ r ≡ zeroTableRecord ⌝ }

@@ -1,8 +1,8 @@
 // A million calls of the disk that do nothing but judge its written form, to be timed: `time target/bin/formspeed`.
 // Prints how many were accepted.
-use disk::Disk;
-use disk::DiskCall;
-use disk::DiskOp;
+use blockdisk::Disk;
+use blockdisk::DiskCall;
+use blockdisk::DiskOp;
 
 fn empty() -> Disk {
     let records = disk::no_records();
@@ -19,7 +19,7 @@ fn turn(s: Disk) -> u64 {
         node,
         table,
     };
-    let o = s.next(0, c);
+    let o = disk::next(s, 0, c);
     if o.answer == 0 { 1 } else { 0 }
 }
 

@@ -1,10 +1,10 @@
 // The forms of a result: 0 with the result where ok holds, else 1 with zeros.
 ghost use mathlib.Core.Path.{_≡_};
-ghost use Rattle.layout.specs.Calls.{numberWhen, flagWhen, placeWhen};
-use crate::Flag;
-use crate::Location;
-use crate::Number;
-use crate::Place;
+ghost use Rattle.disklayout.specs.Calls.{numberWhen, flagWhen, placeWhen};
+use disklayout::Flag;
+use disklayout::Location;
+use disklayout::Number;
+use disklayout::Place;
 
 pub(crate) const NOWHERE: Location = Location { addr: 0, len: 0 };
 

@@ -1,13 +1,13 @@
 // The areas and the kinds of place, over any good row.
 ghost use mathlib.Core.Path.{_≡_};
-ghost use Rattle.layout.specs.Device.{Good};
-ghost use Rattle.layout.specs.Layout.{IndirectionTable1Addr, IndirectionTable2Addr, otherIndirectionTableAddr};
-ghost use Rattle.layout.specs.Layout.{ValidIndirectionTableAddr, ValidNodeAddr, ValidJournalLocation};
-ghost use Rattle.layout.specs.Layout.{ValidIndirectionTableLocation, ValidNodeLocation, ValidLocation, sameLocation};
-ghost use Rattle.layout.specs.Blocks.{FirstNodeAddr};
-use crate::Device;
-use crate::Location;
+ghost use Rattle.disklayout.specs.Device.{Good};
+ghost use Rattle.disklayout.specs.Layout.{IndirectionTable1Addr, IndirectionTable2Addr, otherIndirectionTableAddr};
+ghost use Rattle.disklayout.specs.Layout.{ValidIndirectionTableAddr, ValidNodeAddr, ValidJournalLocation};
+ghost use Rattle.disklayout.specs.Layout.{ValidIndirectionTableLocation, ValidNodeLocation, ValidLocation, sameLocation};
+ghost use Rattle.disklayout.specs.Blocks.{FirstNodeAddr};
 use crate::sums::sum_within;
+use disklayout::Device;
+use disklayout::Location;
 
 pub(crate) const PAGE: u64 = 4096;
 

@@ -1,19 +1,15 @@
 // The calls on addresses, kinds of place, and places against each other.
 ghost use mathlib.Core.Path.{_≡_};
-ghost use Rattle.layout.specs.Calls.{number, flag, place};
-ghost use Rattle.layout.specs.Device.{deviceOf};
-ghost use Rattle.layout.specs.Layout.{NumJournalBlocks, IndirectionTableMaxLength, NodeBlockSize, MinNodeBlockIndex};
-ghost use Rattle.layout.specs.Layout.{IndirectionTable1Addr, IndirectionTable2Addr, JournalStartAddr, JournalEndAddr};
-ghost use Rattle.layout.specs.Layout.{ValidIndirectionTableAddr, ValidNodeAddr, ValidJournalLocation};
-ghost use Rattle.layout.specs.Layout.{ValidIndirectionTableLocation, ValidNodeLocation, ValidLocation};
-ghost use Rattle.layout.specs.Layout.{Superblock1Location, Superblock2Location};
-ghost use Rattle.layout.specs.Layout.{ValidSuperblock1Location, ValidSuperblock2Location, ValidSuperblockLocation};
-ghost use Rattle.layout.specs.Layout.{LocationSub, otherIndirectionTableAddr};
-ghost use Rattle.layout.specs.Layout.{overlap as Layout·overlap};
-use crate::Flag;
-use crate::Location;
-use crate::Number;
-use crate::Place;
+ghost use Rattle.disklayout.specs.Calls.{number, flag, place};
+ghost use Rattle.disklayout.specs.Device.{deviceOf};
+ghost use Rattle.disklayout.specs.Layout.{NumJournalBlocks, IndirectionTableMaxLength, NodeBlockSize, MinNodeBlockIndex};
+ghost use Rattle.disklayout.specs.Layout.{IndirectionTable1Addr, IndirectionTable2Addr, JournalStartAddr, JournalEndAddr};
+ghost use Rattle.disklayout.specs.Layout.{ValidIndirectionTableAddr, ValidNodeAddr, ValidJournalLocation};
+ghost use Rattle.disklayout.specs.Layout.{ValidIndirectionTableLocation, ValidNodeLocation, ValidLocation};
+ghost use Rattle.disklayout.specs.Layout.{Superblock1Location, Superblock2Location};
+ghost use Rattle.disklayout.specs.Layout.{ValidSuperblock1Location, ValidSuperblock2Location, ValidSuperblockLocation};
+ghost use Rattle.disklayout.specs.Layout.{LocationSub, otherIndirectionTableAddr};
+ghost use Rattle.disklayout.specs.Layout.{overlap as Layout·overlap};
 use crate::answers::flag_when;
 use crate::answers::number_when;
 use crate::answers::place_when;
@@ -21,6 +17,10 @@ use crate::areas::*;
 use crate::rows::row;
 use crate::sums::crosses;
 use crate::sums::is_part;
+use disklayout::Flag;
+use disklayout::Location;
+use disklayout::Number;
+use disklayout::Place;
 
 pub fn num_journal_blocks(device: u64) -> Number
     ensures { λ r. ⌜ r ≡ number device (NumJournalBlocks (deviceOf device)) ⌝ }

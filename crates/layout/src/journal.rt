@@ -3,18 +3,12 @@ ghost use mathlib.Core.Path.{_≡_};
 ghost use mathlib.Core.Bool.{true};
 ghost use Prim.Native.Nat.{_+_, _*_, _^_, _<_, _≤_};
 ghost use lib.Dec.{ltb};
-ghost use Rattle.layout.specs.Calls.{numberWhen, numberIf, flagIf, placeIf, placeOptionWhen, placeOptionIf};
-ghost use Rattle.layout.specs.Device.{Good, deviceOf};
-ghost use Rattle.layout.specs.Journal.{JournalPoint, JournalPointRequires, JournalRangeLocation, JournalRangeRequires};
-ghost use Rattle.layout.specs.Journal.{locContainedInCircularJournalRange, locDisjointFromCircularJournalRange, CircularRequires};
-ghost use Rattle.layout.specs.Journal.{JournalPosAdd, JournalBlockIdx, JournalBlockIdxRequires};
-ghost use Rattle.layout.specs.Journal.{JournalFrontLocation, JournalFrontRequires, JournalBackLocation, JournalBackRequires};
-use crate::Device;
-use crate::Flag;
-use crate::Location;
-use crate::Number;
-use crate::Place;
-use crate::PlaceOption;
+ghost use Rattle.disklayout.specs.Calls.{numberWhen, numberIf, flagIf, placeIf, placeOptionWhen, placeOptionIf};
+ghost use Rattle.disklayout.specs.Device.{Good, deviceOf};
+ghost use Rattle.disklayout.specs.Journal.{JournalPoint, JournalPointRequires, JournalRangeLocation, JournalRangeRequires};
+ghost use Rattle.disklayout.specs.Journal.{locContainedInCircularJournalRange, locDisjointFromCircularJournalRange, CircularRequires};
+ghost use Rattle.disklayout.specs.Journal.{JournalPosAdd, JournalBlockIdx, JournalBlockIdxRequires};
+ghost use Rattle.disklayout.specs.Journal.{JournalFrontLocation, JournalFrontRequires, JournalBackLocation, JournalBackRequires};
 use crate::answers::NOWHERE;
 use crate::areas::JOURNAL_START;
 use crate::areas::PAGE;
@@ -24,6 +18,12 @@ use crate::rows::row;
 use crate::sums::lies_in;
 use crate::sums::lies_outside;
 use crate::sums::sum_within;
+use disklayout::Device;
+use disklayout::Flag;
+use disklayout::Location;
+use disklayout::Number;
+use disklayout::Place;
+use disklayout::PlaceOption;
 
 fn point(w: Device, p: u64) -> u64
     requires { ⌜ Good w ⌝ }

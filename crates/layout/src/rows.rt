@@ -1,6 +1,6 @@
 // The devices that are made, and fetching a row.
-ghost use Rattle.layout.specs.Device.{RowOf};
-use crate::Device;
+ghost use Rattle.disklayout.specs.Device.{RowOf};
+use disklayout::Device;
 
 // Document 01's table. A const array of structs is accepted, so the rows stand as 01 has them.
 const DEVICES: [Device; 3] = [

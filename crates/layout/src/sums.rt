@@ -3,9 +3,9 @@ ghost use mathlib.Core.Path.{_≡_};
 ghost use mathlib.Core.Bool.{_&&_, _||_};
 ghost use Prim.Native.Nat.{_+_};
 ghost use lib.Dec.{leb, ltb};
-ghost use Rattle.layout.specs.Layout.{LocationSub};
-ghost use Rattle.layout.specs.Layout.{overlap as Layout·overlap};
-use crate::Location;
+ghost use Rattle.disklayout.specs.Layout.{LocationSub};
+ghost use Rattle.disklayout.specs.Layout.{overlap as Layout·overlap};
+use disklayout::Location;
 
 // a + b > x
 pub(crate) fn sum_passes(a: u64, b: u64, x: u64) -> bool

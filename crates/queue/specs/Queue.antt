@@ -6,7 +6,7 @@ use lib.ListN.{getD, replicate}
 use lib.Dec.{leb, eqb}
 use Rattle.base.specs.Maps.{Map}
 use Rattle.base.specs.Queue.{hasIn, findIn, spotIn, insertIn, removeIn, lookupIn, spotOk, queueForm}
-use Rattle.layout.specs.declared.Location.{Location}
+use Rattle.disklayout.specs.declared.Location.{Location}
 use Rattle.queue.specs.declared.Request.{Request}
 use Rattle.queue.specs.declared.Requests.{Requests}
 

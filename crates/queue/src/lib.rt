@@ -6,7 +6,7 @@ ghost use mathlib.Core.Path.{_≡_};
 ghost use Prim.Native.Nat.{_<_, _≤_};
 ghost use Rattle.base.specs.Lists.{opened, closed};
 ghost use Rattle.queue.specs.Queue.{zeroRequest, requestForm, requestsForm, hasOf, findOf, placeOf, entryOf, insertOf, removeOf, noRequests};
-use layout::Location;
+use disklayout::Location;
 
 // An outstanding request: its id, the reference that it is for, its place. A queue that has no use for one of these keeps it zero.
 pub struct Request {

@@ -1,9 +1,9 @@
 // What is printed.
-use layout::Location;
+use blocksystem::Counts;
+use disklayout::Location;
 use libc::STDOUT_FILENO;
-use sector::Node;
-use sector::Succs;
-use system::Counts;
+use sectortype::Node;
+use sectortype::Succs;
 use words::digits::wide;
 
 // The lines passed, and how many of them were calls, accepted, refused and errors.

@@ -3,13 +3,13 @@
 use crate::print;
 use crate::print::Tally;
 use crate::show;
-use cache::Cache;
-use cache::Call;
-use disk::Disk;
-use disk::Records;
-use system::Named;
-use system::Outcome;
-use system::Story;
+use blockcache::Cache;
+use blockcache::Call;
+use blockdisk::Disk;
+use blockdisk::Records;
+use blocksystem::Named;
+use blocksystem::Outcome;
+use blocksystem::Story;
 use words::line::Line;
 
 // A sequence of calls on one device: where it stands, and its names and pictures.
@@ -148,7 +148,7 @@ impl Session {
         let mut next = self.counted(answer);
         if answer == 0 {
             let before = store.story;
-            let story = before.after(number, call);
+            let story = system::story_after(before, number, call);
             let after = moved(store.device, o, story);
             next.store = after;
         }

@@ -1,11 +1,11 @@
 // The two lines of `show`.
 use crate::print;
-use cache::Cache;
-use cache::Phase;
-use disk::Disk;
+use blockcache::Cache;
+use blockcache::Phase;
+use blockdisk::Disk;
 use queue::Requests;
 use script::calls::is_ready;
-use sector::Table;
+use sectortype::Table;
 use words::digits::wide;
 
 fn phase_name(phase: Phase) {

@@ -4,12 +4,12 @@ use mathlib.Core.Bool.{Bool, true, false, _&&_, cond}
 use mathlib.Core.List.{List, [], _∷_}
 use lib.Dec.{eqb}
 use lib.ListN.{length, drop}
-use Rattle.layout.specs.declared.Location.{Location}
-use Rattle.sector.specs.Form.{zeroNode, emptyTable}
-use Rattle.disk.specs.declared.DiskOp.{DiskOp}
-use Rattle.disk.specs.declared.DiskOp.the-variants.{NoDiskOp}
-use Rattle.cache.specs.declared.VersionOp.{VersionOp}
-use Rattle.cache.specs.declared.VersionOp.the-variants.{StatesInternalOp}
+use Rattle.disklayout.specs.declared.Location.{Location}
+use Rattle.sectortype.specs.Form.{zeroNode, emptyTable}
+use Rattle.blockdisk.specs.declared.DiskOp.{DiskOp}
+use Rattle.blockdisk.specs.declared.DiskOp.the-variants.{NoDiskOp}
+use Rattle.blockcache.specs.declared.VersionOp.{VersionOp}
+use Rattle.blockcache.specs.declared.VersionOp.the-variants.{StatesInternalOp}
 use Rattle.words.specs.Bytes.{sameOf}
 use Rattle.words.specs.Cut.{wordOf, fitOf, numberWord, placeWord}
 use Rattle.words.specs.Parsed.{nodeOf, tableReadOf}

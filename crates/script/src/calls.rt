@@ -4,14 +4,14 @@ use crate::request::NodeWord;
 use crate::request::Request;
 use crate::request::TableSource;
 use crate::request::TableWord;
-use cache::Cache;
-use cache::Call;
-use cache::Phase;
-use disk::Brought;
-use disk::Disk;
-use disk::DiskOp;
-use sector::Node;
-use sector::Table;
+use blockcache::Cache;
+use blockcache::Call;
+use blockcache::Phase;
+use blockdisk::Brought;
+use blockdisk::Disk;
+use blockdisk::DiskOp;
+use sectortype::Node;
+use sectortype::Table;
 
 // A node or nothing, which is zeros.
 pub struct BroughtNode {

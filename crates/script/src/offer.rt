@@ -1,8 +1,8 @@
 // The records that a crash line offers: what is stored, but where a word of the line says otherwise.
-use disk::NodeRecord;
-use disk::Records;
-use disk::TableRecord;
-use layout::Location;
+use blockdisk::NodeRecord;
+use blockdisk::Records;
+use blockdisk::TableRecord;
+use disklayout::Location;
 use words::digits::Digits;
 use words::digits::Place;
 use words::digits::location;

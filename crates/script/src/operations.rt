@@ -1,10 +1,10 @@
 // The operations, by the names of upstream's constructors.
 ghost use mathlib.Core.Path.{_≡_};
 ghost use Rattle.script.specs.Operations.{uiopOf, bareVersionOf, versionOf, answerOf, diskOf, uiopWord, versionWord, diskWord};
-use cache::VersionOp;
-use disk::Brought;
-use disk::DiskOp;
-use layout::Location;
+use blockcache::VersionOp;
+use blockdisk::Brought;
+use blockdisk::DiskOp;
+use disklayout::Location;
 use words::text::after;
 use words::text::same;
 use words::text::word;

@@ -2,14 +2,14 @@
 // zeros, and a count is the number of places in use.
 ghost use mathlib.Core.Path.{_≡_};
 ghost use Rattle.base.specs.Scan.{bit, countBelow};
-ghost use Rattle.sector.specs.Form.{succOk, succsForm, succsZero, locZero, nodeForm, nodeZero, entryForm, tableForm, slotForm, nodesForm, allocatedAt, presentAt};
-use crate::Entry;
-use crate::Node;
-use crate::Nodes;
-use crate::Slot;
-use crate::Succs;
-use crate::Table;
-use layout::Location;
+ghost use Rattle.sectortype.specs.Form.{succOk, succsForm, succsZero, locZero, nodeForm, nodeZero, entryForm, tableForm, slotForm, nodesForm, allocatedAt, presentAt};
+use disklayout::Location;
+use sectortype::Entry;
+use sectortype::Node;
+use sectortype::Nodes;
+use sectortype::Slot;
+use sectortype::Succs;
+use sectortype::Table;
 
 // Place k of a list of `count` holds r.
 fn succ_ok(count: u8, k: usize, r: u8) -> bool

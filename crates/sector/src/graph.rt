@@ -1,10 +1,10 @@
 // A table's graph: lists as sets, references that are allocated, addresses that are held.
 ghost use mathlib.Core.Path.{_≡_};
 ghost use Prim.Native.Nat.{ℕ};
-ghost use Rattle.sector.specs.Graph.{hasSucc, subset, sameSet, withinAt, within, closedAt, GraphClosed, holdsAddr, apartAt, apartFrom, DistinctAddrs};
-use crate::Entry;
-use crate::Succs;
-use crate::Table;
+ghost use Rattle.sectortype.specs.Graph.{hasSucc, subset, sameSet, withinAt, within, closedAt, GraphClosed, holdsAddr, apartAt, apartFrom, DistinctAddrs};
+use sectortype::Entry;
+use sectortype::Succs;
+use sectortype::Table;
 
 fn index(r: u8) -> usize
     ensures { λ n. ⌜ n ≡ r ⌝ }

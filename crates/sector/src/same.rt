@@ -1,11 +1,11 @@
 // Equality: contents and list equal, order and repeats counted.
 ghost use mathlib.Core.Path.{_≡_};
-ghost use Rattle.sector.specs.Same.{sameBool, sameLoc, sameSuccs, sameNode, sameEntry, sameTable};
-use crate::Entry;
-use crate::Node;
-use crate::Succs;
-use crate::Table;
-use layout::Location;
+ghost use Rattle.sectortype.specs.Same.{sameBool, sameLoc, sameSuccs, sameNode, sameEntry, sameTable};
+use disklayout::Location;
+use sectortype::Entry;
+use sectortype::Node;
+use sectortype::Succs;
+use sectortype::Table;
 
 fn same_bool(a: bool, b: bool) -> bool
     ensures { λ r. ⌜ r ≡ sameBool a b ⌝ }

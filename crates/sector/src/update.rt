@@ -1,16 +1,16 @@
 // The empty records, and a table or a map of nodes with one place set. The count is taken anew, so that it is the count whatever it was.
 ghost use lib.ListN.{set};
 ghost use mathlib.Core.Path.{_≡_};
-ghost use Rattle.sector.specs.Form.{zeroSuccs, zeroLoc, zeroNode, zeroEntry, zeroSlot, emptyTable, emptyNodes, withEntry, withSlot};
-use crate::Entry;
-use crate::Node;
-use crate::Nodes;
-use crate::Slot;
-use crate::Succs;
-use crate::Table;
+ghost use Rattle.sectortype.specs.Form.{zeroSuccs, zeroLoc, zeroNode, zeroEntry, zeroSlot, emptyTable, emptyNodes, withEntry, withSlot};
 use crate::form::count_allocated;
 use crate::form::count_present;
-use layout::Location;
+use disklayout::Location;
+use sectortype::Entry;
+use sectortype::Node;
+use sectortype::Nodes;
+use sectortype::Slot;
+use sectortype::Succs;
+use sectortype::Table;
 
 fn empty_succs() -> Succs
     ensures { λ r. ⌜ r ≡ zeroSuccs ⌝ }

@@ -1,9 +1,9 @@
 // Whether a table is well formed on a device (upstream's WFIndirectionTable and WFCompleteIndirectionTable).
 ghost use mathlib.Core.Path.{_≡_};
-ghost use Rattle.sector.specs.Graph.{locOk, LocsValid, LocsInGraph, LocsComplete, WFIndirectionTable, WFCompleteIndirectionTable};
-use crate::Entry;
-use crate::Table;
+ghost use Rattle.sectortype.specs.Graph.{locOk, LocsValid, LocsInGraph, LocsComplete, WFIndirectionTable, WFCompleteIndirectionTable};
 use crate::graph::graph_closed;
+use sectortype::Entry;
+use sectortype::Table;
 
 fn loc_ok(device: u64, e: Entry) -> bool
     ensures { λ b. ⌜ b ≡ locOk device e ⌝ }

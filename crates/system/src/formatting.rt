@@ -1,20 +1,20 @@
 // Formatting: the root in the first node block, its table in area 1, all else empty; and the names and pictures at first.
 ghost use mathlib.Core.Path.{_≡_};
-ghost use Rattle.system.specs.Format.{rootNode, rootPlace, tablePlaceOf, rootTable, formattedRecords, emptyDisk, formatted};
-ghost use Rattle.system.specs.Names.{noName, withRoot, firstStory};
-use crate::Named;
-use crate::Outcome;
-use crate::Story;
-use disk::Disk;
-use disk::NodeRecord;
-use disk::Records;
-use disk::TableRecord;
-use layout::Location;
-use sector::Entry;
-use sector::Node;
-use sector::Nodes;
-use sector::Slot;
-use sector::Table;
+ghost use Rattle.blocksystem.specs.Format.{rootNode, rootPlace, tablePlaceOf, rootTable, formattedRecords, emptyDisk, formatted};
+ghost use Rattle.blocksystem.specs.Names.{noName, withRoot, firstStory};
+use blockdisk::Disk;
+use blockdisk::NodeRecord;
+use blockdisk::Records;
+use blockdisk::TableRecord;
+use blocksystem::Named;
+use blocksystem::Outcome;
+use blocksystem::Story;
+use disklayout::Location;
+use sectortype::Entry;
+use sectortype::Node;
+use sectortype::Nodes;
+use sectortype::Slot;
+use sectortype::Table;
 
 fn root_node(contents: u64) -> Node
     ensures { λ n. ⌜ n ≡ rootNode contents ⌝ }

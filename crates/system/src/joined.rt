@@ -1,16 +1,16 @@
 // The joined call: any step number, any arguments, on any cache and disk.
 ghost use mathlib.Core.Path.{_≡_};
 ghost use Rattle.base.specs.Refusals.{answer, lowest};
-ghost use Rattle.system.specs.Joined.{diskCall, diskAsked, startRows, joined};
-use crate::Outcome;
+ghost use Rattle.blocksystem.specs.Joined.{diskCall, diskAsked, startRows, joined};
 use crate::start::wf_succs;
-use cache::Cache;
-use cache::Call;
-use disk::Disk;
-use disk::DiskCall;
-use disk::DiskOp;
-use disk::DiskOutcome;
-use disk::Records;
+use blockcache::Cache;
+use blockcache::Call;
+use blockdisk::Disk;
+use blockdisk::DiskCall;
+use blockdisk::DiskOp;
+use blockdisk::DiskOutcome;
+use blockdisk::Records;
+use blocksystem::Outcome;
 
 // The lower of two answers, of which 0 is no refusal.
 fn lower(a: u64, b: u64) -> u64
@@ -50,10 +50,10 @@ fn ask_disk(device: u64, number: u64, q: Call, offered: Records, s: Disk) -> Dis
     ensures { λ o. ⌜ o ≡ diskAsked device number q offered s ⌝ }
 {
     if number == 18 {
-        return s.crash(device, offered);
+        return disk::crash(s, device, offered);
     }
     let c = disk_call(number, q);
-    s.next(device, c)
+    disk::next(s, device, c)
 }
 
 // A start asks for a whole graph at the place given; no other step does.
@@ -76,7 +76,7 @@ fn ask_start(device: u64, number: u64, q: Call, s: Disk) -> u64
 pub fn step(device: u64, number: u64, q: Call, offered: Records, c: Cache, s: Disk) -> Outcome
     ensures { λ o. ⌜ o ≡ joined device number q offered c s ⌝ }
 {
-    let a = c.step(device, number, q);
+    let a = cache::step(c, device, number, q);
     let b = ask_disk(device, number, q, offered, s);
     let n20 = ask_start(device, number, q, s);
     let both = lower(a.answer, b.answer);

@@ -1,16 +1,16 @@
 // What an accepted call does to names and pictures.
 ghost use mathlib.Core.Path.{_≡_};
-ghost use Rattle.cache.specs.Next.{cachedSlot};
-ghost use Rattle.sector.specs.Form.{withSlot, zeroSlot};
-ghost use Rattle.system.specs.Names.{names, pictureOf, drawn, naming, frozenNamed, startedAt, froze, cleaned, told};
-use crate::Named;
-use crate::Story;
+ghost use Rattle.blockcache.specs.Next.{cachedSlot};
+ghost use Rattle.sectortype.specs.Form.{withSlot, zeroSlot};
+ghost use Rattle.blocksystem.specs.Names.{names, pictureOf, drawn, naming, frozenNamed, startedAt, froze, cleaned, told};
 use crate::formatting::no_name;
-use cache::Call;
-use layout::Location;
-use sector::Node;
-use sector::Nodes;
-use sector::Slot;
+use blockcache::Call;
+use blocksystem::Named;
+use blocksystem::Story;
+use disklayout::Location;
+use sectortype::Node;
+use sectortype::Nodes;
+use sectortype::Slot;
 
 fn names_place(m: Named, l: Location) -> bool
     ensures { λ b. ⌜ b ≡ names m l ⌝ }
@@ -30,110 +30,108 @@ fn naming_place(place: Location, picture: Nodes) -> Named
     }
 }
 
-impl Story {
-    // The picture that belongs to a place; the empty one where it is not named.
-    fn picture_of(self, l: Location) -> Nodes
-        ensures { λ p. ⌜ p ≡ pictureOf self l ⌝ }
-    {
-        let a = self.first;
-        let b = self.second;
-        let one = names_place(a, l);
-        let two = names_place(b, l);
-        if one {
-            return a.picture;
-        }
-        if two {
-            return b.picture;
-        }
-        sector::empty_nodes()
+// The picture that belongs to a place; the empty one where it is not named.
+fn picture_of(t: Story, l: Location) -> Nodes
+    ensures { λ p. ⌜ p ≡ pictureOf t l ⌝ }
+{
+    let a = t.first;
+    let b = t.second;
+    let one = names_place(a, l);
+    let two = names_place(b, l);
+    if one {
+        return a.picture;
     }
-
-    fn with_working(mut self, w: Nodes) -> Story
-        ensures { λ t. ⌜ t ≡ drawn self w ⌝ }
-    {
-        self.working = w;
-        self
+    if two {
+        return b.picture;
     }
+    sector::empty_nodes()
+}
 
-    fn frozen_named(mut self, l: Location) -> Story
-        ensures { λ t. ⌜ t ≡ frozenNamed self l ⌝ }
-    {
-        let p = self.frozen;
-        let m = naming_place(l, p);
-        self.second = m;
-        self
-    }
+fn with_working(mut t: Story, w: Nodes) -> Story
+    ensures { λ o. ⌜ o ≡ drawn t w ⌝ }
+{
+    t.working = w;
+    t
+}
 
-    fn started_at(mut self, l: Location) -> Story
-        ensures { λ t. ⌜ t ≡ startedAt self l ⌝ }
-    {
-        let p = self.picture_of(l);
-        let m = naming_place(l, p);
-        let none = no_name();
-        self.first = m;
-        self.second = none;
-        self.working = p;
-        self
-    }
+fn frozen_named(mut t: Story, l: Location) -> Story
+    ensures { λ o. ⌜ o ≡ frozenNamed t l ⌝ }
+{
+    let p = t.frozen;
+    let m = naming_place(l, p);
+    t.second = m;
+    t
+}
 
-    fn freeze(mut self) -> Story
-        ensures { λ t. ⌜ t ≡ froze self ⌝ }
-    {
-        let none = no_name();
-        let w = self.working;
-        self.second = none;
-        self.frozen = w;
-        self
-    }
+fn started_at(mut t: Story, l: Location) -> Story
+    ensures { λ o. ⌜ o ≡ startedAt t l ⌝ }
+{
+    let p = picture_of(t, l);
+    let m = naming_place(l, p);
+    let none = no_name();
+    t.first = m;
+    t.second = none;
+    t.working = p;
+    t
+}
 
-    fn clean_up(mut self) -> Story
-        ensures { λ t. ⌜ t ≡ cleaned self ⌝ }
-    {
-        let none = no_name();
-        let m = self.second;
-        self.first = m;
-        self.second = none;
-        self
-    }
+fn freeze(mut t: Story) -> Story
+    ensures { λ o. ⌜ o ≡ froze t ⌝ }
+{
+    let none = no_name();
+    let w = t.working;
+    t.second = none;
+    t.frozen = w;
+    t
+}
 
-    fn removed(self, r: usize) -> Story
-        ensures { λ t. ⌜ t ≡ drawn self (withSlot (self .working) r zeroSlot) ⌝ }
-    {
-        let w = self.working;
-        let s = sector::empty_slot();
-        let w2 = sector::with_slot(w, r, s);
-        self.with_working(w2)
-    }
+fn clean_up(mut t: Story) -> Story
+    ensures { λ o. ⌜ o ≡ cleaned t ⌝ }
+{
+    let none = no_name();
+    let m = t.second;
+    t.first = m;
+    t.second = none;
+    t
+}
 
-    fn set_node(self, r: usize, node: Node) -> Story
-        ensures { λ t. ⌜ t ≡ drawn self (withSlot (self .working) r (cachedSlot node)) ⌝ }
-    {
-        let w = self.working;
-        let s = Slot {
-            present: true,
-            node,
-        };
-        let w2 = sector::with_slot(w, r, s);
-        self.with_working(w2)
-    }
+fn removed(t: Story, r: usize) -> Story
+    ensures { λ o. ⌜ o ≡ drawn t (withSlot (t .working) r zeroSlot) ⌝ }
+{
+    let w = t.working;
+    let s = sector::empty_slot();
+    let w2 = sector::with_slot(w, r, s);
+    with_working(t, w2)
+}
 
-    // Names and pictures after an accepted call. Most steps change none.
-    pub fn after(self, number: u64, q: Call) -> Story
-        ensures { λ t. ⌜ t ≡ told number q self ⌝ }
-    {
-        let v = q.vop;
-        let l = cache::vop_loc(v);
-        let r = q.reference as usize;
-        let node = q.node;
-        match number {
-            4 => self.frozen_named(l),
-            5 => self.removed(r),
-            10 => self.started_at(l),
-            12 => self.freeze(),
-            13 => self.clean_up(),
-            15 => self.set_node(r, node),
-            16 => self.set_node(r, node),
-            _ => self,
-        }
+fn set_node(t: Story, r: usize, node: Node) -> Story
+    ensures { λ o. ⌜ o ≡ drawn t (withSlot (t .working) r (cachedSlot node)) ⌝ }
+{
+    let w = t.working;
+    let s = Slot {
+        present: true,
+        node,
+    };
+    let w2 = sector::with_slot(w, r, s);
+    with_working(t, w2)
+}
+
+// Names and pictures after an accepted call. Most steps change none.
+pub fn story_after(t: Story, number: u64, q: Call) -> Story
+    ensures { λ o. ⌜ o ≡ told number q t ⌝ }
+{
+    let v = q.vop;
+    let l = cache::vop_loc(v);
+    let r = q.reference as usize;
+    let node = q.node;
+    match number {
+        4 => frozen_named(t, l),
+        5 => removed(t, r),
+        10 => started_at(t, l),
+        12 => freeze(t),
+        13 => clean_up(t),
+        15 => set_node(t, r, node),
+        16 => set_node(t, r, node),
+        _ => t,
     }
 }

@@ -1,15 +1,15 @@
 // Reading through a named place, and the count of references lost, added and altered.
 ghost use mathlib.Core.Path.{_≡_};
 ghost use Rattle.base.specs.Scan.{bit};
-ghost use Rattle.system.specs.Audit.{throughTable, isLost, isAdded, isAltered, tally, counted};
-use crate::Counts;
-use crate::Named;
-use disk::Disk;
-use disk::NodeRecord;
-use disk::Records;
-use disk::TableRecord;
-use sector::Entry;
-use sector::Slot;
+ghost use Rattle.blocksystem.specs.Audit.{throughTable, isLost, isAdded, isAltered, tally, counted};
+use blockdisk::Disk;
+use blockdisk::NodeRecord;
+use blockdisk::Records;
+use blockdisk::TableRecord;
+use blocksystem::Counts;
+use blocksystem::Named;
+use sectortype::Entry;
+use sectortype::Slot;
 
 // A reference's node on the disk, through the table that was read; nothing where there is none.
 fn through_table(device: u64, r: Records, x: TableRecord, e: Entry) -> NodeRecord

@@ -1,11 +1,11 @@
 // 20: whether a whole graph is stored at the place that a start is given (upstream's WFSuccs).
 ghost use mathlib.Core.Path.{_≡_};
-ghost use Rattle.system.specs.Start.{nodeAgrees, refAgrees, graphStored, WFSuccs};
-use disk::NodeRecord;
-use disk::Records;
-use layout::Location;
-use sector::Entry;
-use sector::Table;
+ghost use Rattle.blocksystem.specs.Start.{nodeAgrees, refAgrees, graphStored, WFSuccs};
+use blockdisk::NodeRecord;
+use blockdisk::Records;
+use disklayout::Location;
+use sectortype::Entry;
+use sectortype::Table;
 
 fn node_agrees(t: Table, e: Entry, x: NodeRecord) -> bool
     ensures { λ b. ⌜ b ≡ nodeAgrees t e x ⌝ }

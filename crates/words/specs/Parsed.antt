@@ -4,9 +4,9 @@ use mathlib.Core.Bool.{Bool, true, false, _||_, not, cond}
 use mathlib.Core.List.{List, [], _∷_}
 use lib.Dec.{ltb, eqb}
 use lib.ListN.{length, getD, set, take, drop}
-use Rattle.layout.specs.declared.Location.{Location}
-use Rattle.sector.specs.Form.{zeroLoc, zeroSuccs, zeroNode, zeroEntry, emptyTable, withEntry}
-use Rattle.sector.specs.declared.Succs.{Succs}
+use Rattle.disklayout.specs.declared.Location.{Location}
+use Rattle.sectortype.specs.Form.{zeroLoc, zeroSuccs, zeroNode, zeroEntry, emptyTable, withEntry}
+use Rattle.sectortype.specs.declared.Succs.{Succs}
 use Rattle.words.specs.declared.digits.Digits.{Digits}
 use Rattle.words.specs.declared.digits.Digits.the-variants.{Value, Bad}
 use Rattle.words.specs.declared.digits.Place.{Place}

@@ -6,7 +6,7 @@ use crate::text::after;
 use crate::text::find;
 use crate::text::front;
 use crate::text::word;
-use layout::Location;
+use disklayout::Location;
 
 pub enum Digits {
     Value(u64),

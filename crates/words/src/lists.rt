@@ -1,6 +1,6 @@
 // Lists of references, and nodes, written out.
 ghost use mathlib.Core.Path.{_≡_};
-ghost use Rattle.sector.specs.Form.{zeroSuccs};
+ghost use Rattle.sectortype.specs.Form.{zeroSuccs};
 ghost use Rattle.words.specs.Parsed.{noList, noNode, joinedOf, listOf, nodeOf};
 use crate::digits::Digits;
 use crate::digits::number;
@@ -8,8 +8,8 @@ use crate::digits::small;
 use crate::text::after;
 use crate::text::find;
 use crate::text::front;
-use sector::Node;
-use sector::Succs;
+use sectortype::Node;
+use sectortype::Succs;
 
 // A list, or zeros where the text is none. (A list has an array, so that no enum holds it.)
 pub struct Listed {

@@ -9,9 +9,9 @@ use crate::lists::list;
 use crate::text::after;
 use crate::text::find;
 use crate::text::front;
-use layout::Location;
-use sector::Entry;
-use sector::Table;
+use disklayout::Location;
+use sectortype::Entry;
+use sectortype::Table;
 
 // The reference of an entry, and perhaps its location.
 pub enum Head {

@@ -1,7 +1,7 @@
 -- By what the callees ensure. Assumes nothing.
 use borrow.Author.Needs.{needs}
 use Rattle.cache.proofs.scan.held.Statement.{statement}
-use Rattle.cache.specs.Scan.{heldIn}
+use Rattle.blockcache.specs.Scan.{heldIn}
 use Rattle.cache.proofs.scan.held.Tie as tie
 
 holds-addr-requires : tie.Need-holds-addr-requires

@@ -6,8 +6,8 @@ use borrow.Author.Needs.{needs}
 use Rattle.base.proofs.Scan.{some-end, some-none, some-turn}
 use Rattle.base.specs.Scan.{someBelow}
 use Rattle.cache.proofs.scan.lacks_location.Statement.{statement}
-use Rattle.cache.specs.Scan.{NoLocation}
-use Rattle.sector.specs.Graph.{allocatedIn, locatedIn}
+use Rattle.blockcache.specs.Scan.{NoLocation}
+use Rattle.sectortype.specs.Graph.{allocatedIn, locatedIn}
 use Rattle.cache.proofs.scan.lacks_location.Tie as tie
 
 abbrev Inv-loop : tie.InvT-loop

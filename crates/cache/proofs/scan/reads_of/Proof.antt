@@ -7,7 +7,7 @@ use lib.Dec.{eqb, ltb}
 use Rattle.base.proofs.Scan.{some-end, some-none, some-turn}
 use Rattle.base.specs.Scan.{someBelow}
 use Rattle.cache.proofs.scan.reads_of.Statement.{statement}
-use Rattle.cache.specs.Scan.{reads}
+use Rattle.blockcache.specs.Scan.{reads}
 use Rattle.queue.specs.Queue.{requestAt}
 use Rattle.cache.proofs.scan.reads_of.Tie as tie
 

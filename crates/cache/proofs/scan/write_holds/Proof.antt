@@ -7,7 +7,7 @@ use lib.Dec.{eqb, ltb}
 use Rattle.base.proofs.Scan.{some-end, some-none, some-turn}
 use Rattle.base.specs.Scan.{someBelow}
 use Rattle.cache.proofs.scan.write_holds.Statement.{statement}
-use Rattle.cache.specs.Scan.{writeHolds}
+use Rattle.blockcache.specs.Scan.{writeHolds}
 use Rattle.queue.specs.Queue.{requestAt}
 use Rattle.cache.proofs.scan.write_holds.Tie as tie
 

@@ -7,9 +7,9 @@ use lib.Dec.{eqb, ltb}
 use Rattle.base.proofs.Scan.{some-end, some-none, some-turn}
 use Rattle.base.specs.Scan.{someBelow}
 use Rattle.cache.proofs.scan.writes_to.Statement.{statement}
-use Rattle.cache.specs.Scan.{writesTo}
+use Rattle.blockcache.specs.Scan.{writesTo}
 use Rattle.queue.specs.Queue.{requestAt}
-use Rattle.sector.specs.Same.{sameLoc}
+use Rattle.sectortype.specs.Same.{sameLoc}
 use Rattle.cache.proofs.scan.writes_to.Tie as tie
 
 abbrev Inv-loop : tie.InvT-loop

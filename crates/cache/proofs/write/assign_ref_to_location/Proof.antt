@@ -1,7 +1,7 @@
 -- Where the location is lacking, the entry is written anew; else the table is as it was. Assumes nothing.
 use borrow.Author.Needs.{needs}
 use Rattle.cache.proofs.write.assign_ref_to_location.Statement.{statement}
-use Rattle.cache.specs.Next.{assigned}
+use Rattle.blockcache.specs.Next.{assigned}
 use Rattle.cache.proofs.write.assign_ref_to_location.Tie as tie
 
 mul-e : tie.Need-mul-e

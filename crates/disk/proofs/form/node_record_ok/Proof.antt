@@ -1,7 +1,7 @@
 -- By what the callees ensure. Assumes nothing.
 use borrow.Author.Needs.{needs}
 use Rattle.disk.proofs.form.node_record_ok.Statement.{statement}
-use Rattle.disk.specs.Form.{nodeRecordChecked}
+use Rattle.blockdisk.specs.Form.{nodeRecordChecked}
 use Rattle.disk.proofs.form.node_record_ok.Tie as tie
 
 node-form-requires : tie.Need-node-form-requires

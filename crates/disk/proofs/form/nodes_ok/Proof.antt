@@ -6,8 +6,8 @@ use lib.ListN.{getD}
 use Rattle.base.proofs.Scan.{all-end, all-none, all-turn}
 use Rattle.base.specs.Scan.{allBelow}
 use Rattle.disk.proofs.form.nodes_ok.Statement.{statement}
-use Rattle.disk.specs.Form.{nodeRecordChecked, nodesChecked}
-use Rattle.disk.specs.Records.{noNodeRecord}
+use Rattle.blockdisk.specs.Form.{nodeRecordChecked, nodesChecked}
+use Rattle.blockdisk.specs.Records.{noNodeRecord}
 use Rattle.disk.proofs.form.nodes_ok.Tie as tie
 
 abbrev Inv-loop : tie.InvT-loop

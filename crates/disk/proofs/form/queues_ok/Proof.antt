@@ -1,7 +1,7 @@
 -- By what the callees ensure. Assumes nothing.
 use borrow.Author.Needs.{needs}
 use Rattle.disk.proofs.form.queues_ok.Statement.{statement}
-use Rattle.disk.specs.Form.{queuesForm}
+use Rattle.blockdisk.specs.Form.{queuesForm}
 use Rattle.disk.proofs.form.queues_ok.Tie as tie
 
 table-queue-ok-requires : tie.Need-table-queue-ok-requires

@@ -5,7 +5,7 @@ use borrow.Author.Tests.{eq-eqb}
 use lib.ListN.{length}
 use Rattle.base.proofs.Lists.{unmapped}
 use Rattle.disk.proofs.form.records_ok.Statement.{statement}
-use Rattle.disk.specs.Form.{recordsChecked}
+use Rattle.blockdisk.specs.Form.{recordsChecked}
 use Rattle.disk.proofs.form.records_ok.Tie as tie
 
 tables-ok-requires : tie.Need-tables-ok-requires

@@ -1,7 +1,7 @@
 -- By what the callees ensure. Assumes nothing.
 use borrow.Author.Needs.{needs}
 use Rattle.disk.proofs.form.table_record_ok.Statement.{statement}
-use Rattle.disk.specs.Form.{tableRecordChecked}
+use Rattle.blockdisk.specs.Form.{tableRecordChecked}
 use Rattle.disk.proofs.form.table_record_ok.Tie as tie
 
 table-form-requires : tie.Need-table-form-requires

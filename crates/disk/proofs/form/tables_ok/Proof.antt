@@ -1,7 +1,7 @@
 -- By what the callee ensures of each area. Assumes nothing.
 use borrow.Author.Needs.{needs}
 use Rattle.disk.proofs.form.tables_ok.Statement.{statement}
-use Rattle.disk.specs.Form.{tablesChecked}
+use Rattle.blockdisk.specs.Form.{tablesChecked}
 use Rattle.disk.proofs.form.tables_ok.Tie as tie
 
 array-copy-out-first : tie.Need-array-copy-out-first

@@ -4,7 +4,7 @@ use borrow.Author.Needs.{needs}
 use borrow.Author.Tests.{not-false, not-true}
 use Rattle.base.specs.Refusals.{answer}
 use Rattle.disk.proofs.ops.take.Statement.{statement}
-use Rattle.disk.specs.Ops.{answerTurn}
+use Rattle.blockdisk.specs.Ops.{answerTurn}
 use Rattle.disk.proofs.ops.take.Tie as tie
 
 has-requires : tie.Need-has-requires

@@ -1,6 +1,6 @@
 -- The block's number is below 128, so the remainder is the number itself. Assumes nothing.
 use borrow.Author.Needs.{needs}
-use Rattle.disk.proofs.Numbers.{node-found, node-missing}
+use Rattle.blockdisk.proofs.Numbers.{node-found, node-missing}
 use Rattle.disk.proofs.read.node_at.Statement.{statement}
 use Rattle.disk.proofs.read.node_at.Tie as tie
 

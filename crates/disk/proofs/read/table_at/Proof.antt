@@ -1,6 +1,6 @@
 -- The area's number is below 2, so the remainder is the number itself. Assumes nothing.
 use borrow.Author.Needs.{needs}
-use Rattle.disk.proofs.Numbers.{table-found, table-missing}
+use Rattle.blockdisk.proofs.Numbers.{table-found, table-missing}
 use Rattle.disk.proofs.read.table_at.Statement.{statement}
 use Rattle.disk.proofs.read.table_at.Tie as tie
 

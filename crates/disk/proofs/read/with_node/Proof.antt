@@ -1,6 +1,6 @@
 -- The block's number is below 128, so the remainder is the number itself. Assumes nothing.
 use borrow.Author.Needs.{needs}
-use Rattle.disk.proofs.Numbers.{node-set}
+use Rattle.blockdisk.proofs.Numbers.{node-set}
 use Rattle.disk.proofs.read.with_node.Statement.{statement}
 use Rattle.disk.proofs.read.with_node.Tie as tie
 

@@ -1,6 +1,6 @@
 -- The area's number is below 2, so the remainder is the number itself. Assumes nothing.
 use borrow.Author.Needs.{needs}
-use Rattle.disk.proofs.Numbers.{table-set}
+use Rattle.blockdisk.proofs.Numbers.{table-set}
 use Rattle.disk.proofs.read.with_table.Statement.{statement}
 use Rattle.disk.proofs.read.with_table.Tie as tie
 

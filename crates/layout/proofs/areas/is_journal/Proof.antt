@@ -1,4 +1,4 @@
-use Rattle.layout.proofs.Facts.{journal-short}
+use Rattle.disklayout.proofs.Facts.{journal-short}
 use Rattle.layout.proofs.areas.is_journal.Statement.{statement}
 use Rattle.layout.proofs.areas.is_journal.Tie as tie
 

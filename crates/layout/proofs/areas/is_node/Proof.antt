@@ -1,4 +1,4 @@
-use Rattle.layout.specs.Layout.{ValidNodeLocation}
+use Rattle.disklayout.specs.Layout.{ValidNodeLocation}
 use Rattle.layout.proofs.areas.is_node.Statement.{statement}
 use Rattle.layout.proofs.areas.is_node.Tie as tie
 

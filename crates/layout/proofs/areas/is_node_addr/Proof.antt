@@ -1,4 +1,4 @@
-use Rattle.layout.specs.Layout.{ValidNodeAddr}
+use Rattle.disklayout.specs.Layout.{ValidNodeAddr}
 use borrow.Author.Needs.{needs}
 use Rattle.layout.proofs.areas.is_node_addr.Statement.{statement}
 use Rattle.layout.proofs.areas.is_node_addr.Tie as tie

@@ -1,4 +1,4 @@
-use Rattle.layout.specs.Layout.{ValidLocation, ValidSuperblock1Location, ValidSuperblock2Location}
+use Rattle.disklayout.specs.Layout.{ValidLocation, ValidSuperblock1Location, ValidSuperblock2Location}
 use Rattle.layout.proofs.areas.is_place.Statement.{statement}
 use Rattle.layout.proofs.areas.is_place.Tie as tie
 

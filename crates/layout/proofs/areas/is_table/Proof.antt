@@ -1,4 +1,4 @@
-use Rattle.layout.specs.Layout.{ValidIndirectionTableLocation}
+use Rattle.disklayout.specs.Layout.{ValidIndirectionTableLocation}
 use Rattle.layout.proofs.areas.is_table.Statement.{statement}
 use Rattle.layout.proofs.areas.is_table.Tie as tie
 

@@ -1,4 +1,4 @@
-use Rattle.layout.specs.Layout.{ValidIndirectionTableAddr}
+use Rattle.disklayout.specs.Layout.{ValidIndirectionTableAddr}
 use Rattle.layout.proofs.areas.is_table_addr.Statement.{statement}
 use Rattle.layout.proofs.areas.is_table_addr.Tie as tie
 

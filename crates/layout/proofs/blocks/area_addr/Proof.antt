@@ -1,5 +1,5 @@
 use native.Mathlib.Omega.{arith}
-use Rattle.layout.proofs.TableAreas.{area-fits}
+use Rattle.disklayout.proofs.TableAreas.{area-fits}
 use borrow.Author.Needs.{needs}
 use Rattle.layout.proofs.blocks.area_addr.Statement.{statement}
 use Rattle.layout.proofs.blocks.area_addr.Tie as tie

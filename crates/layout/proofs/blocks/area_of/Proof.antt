@@ -1,6 +1,6 @@
 use mathlib.Core.Path.{_∙_}
 use borrow.Author.Tests.{eq-eqb, ne-eqb}
-use Rattle.layout.specs.Blocks.{TableAreaOf}
+use Rattle.disklayout.specs.Blocks.{TableAreaOf}
 use Rattle.layout.proofs.blocks.area_of.Statement.{statement}
 use Rattle.layout.proofs.blocks.area_of.Tie as tie
 

@@ -1,5 +1,5 @@
 use native.Mathlib.Omega.{arith}
-use Rattle.layout.proofs.NodeBlocks.{block-fits}
+use Rattle.disklayout.proofs.NodeBlocks.{block-fits}
 use borrow.Author.Needs.{needs}
 use Rattle.layout.proofs.blocks.block_addr.Statement.{statement}
 use Rattle.layout.proofs.blocks.block_addr.Tie as tie

@@ -1,5 +1,5 @@
 use mathlib.Core.Path.{sym, _∙_}
-use Rattle.layout.proofs.NodeBlocks.{first-le, block-found, block-far, block-invalid}
+use Rattle.disklayout.proofs.NodeBlocks.{first-le, block-found, block-far, block-invalid}
 use borrow.Author.Needs.{needs}
 use Rattle.layout.proofs.blocks.block_of.Statement.{statement}
 use Rattle.layout.proofs.blocks.block_of.Tie as tie

@@ -1,4 +1,4 @@
-use Rattle.layout.specs.Blocks.{NodePlace}
+use Rattle.disklayout.specs.Blocks.{NodePlace}
 use Rattle.layout.proofs.blocks.is_node_place.Statement.{statement}
 use Rattle.layout.proofs.blocks.is_node_place.Tie as tie
 

@@ -1,4 +1,4 @@
-use Rattle.layout.specs.Layout.{ValidSuperblock1Location}
+use Rattle.disklayout.specs.Layout.{ValidSuperblock1Location}
 use Rattle.layout.proofs.calls.valid_superblock1_location.Statement.{statement}
 use Rattle.layout.proofs.calls.valid_superblock1_location.Tie as tie
 

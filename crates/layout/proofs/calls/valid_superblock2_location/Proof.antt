@@ -1,4 +1,4 @@
-use Rattle.layout.specs.Layout.{ValidSuperblock2Location}
+use Rattle.disklayout.specs.Layout.{ValidSuperblock2Location}
 use Rattle.layout.proofs.calls.valid_superblock2_location.Statement.{statement}
 use Rattle.layout.proofs.calls.valid_superblock2_location.Tie as tie
 

@@ -1,4 +1,4 @@
-use Rattle.layout.specs.Layout.{ValidSuperblockLocation}
+use Rattle.disklayout.specs.Layout.{ValidSuperblockLocation}
 use Rattle.layout.proofs.calls.valid_superblock_location.Statement.{statement}
 use Rattle.layout.proofs.calls.valid_superblock_location.Tie as tie
 

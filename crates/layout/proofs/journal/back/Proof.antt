@@ -1,4 +1,4 @@
-use Rattle.layout.proofs.Ranges.{back-none, back-part}
+use Rattle.disklayout.proofs.Ranges.{back-none, back-part}
 use borrow.Author.Needs.{needs}
 use Rattle.layout.proofs.journal.back.Statement.{statement}
 use Rattle.layout.proofs.journal.back.Tie as tie

@@ -1,4 +1,4 @@
-use Rattle.layout.proofs.Ranges.{contained-whole, contained-round}
+use Rattle.disklayout.proofs.Ranges.{contained-whole, contained-round}
 use borrow.Author.Needs.{needs}
 use Rattle.layout.proofs.journal.contained.Statement.{statement}
 use Rattle.layout.proofs.journal.contained.Tie as tie

@@ -1,4 +1,4 @@
-use Rattle.layout.proofs.Ranges.{disjoint-whole, disjoint-round}
+use Rattle.disklayout.proofs.Ranges.{disjoint-whole, disjoint-round}
 use borrow.Author.Needs.{needs}
 use Rattle.layout.proofs.journal.disjoint.Statement.{statement}
 use Rattle.layout.proofs.journal.disjoint.Tie as tie

@@ -1,4 +1,4 @@
-use Rattle.layout.proofs.Ranges.{front-none, front-whole, front-part}
+use Rattle.disklayout.proofs.Ranges.{front-none, front-whole, front-part}
 use borrow.Author.Needs.{needs}
 use Rattle.layout.proofs.journal.front.Statement.{statement}
 use Rattle.layout.proofs.journal.front.Tie as tie

@@ -1,6 +1,6 @@
 use mathlib.Core.Path.{sym, _∙_}
 use Rattle.base.proofs.Tests.{tests}
-use Rattle.layout.proofs.Facts.{journal-iff}
+use Rattle.disklayout.proofs.Facts.{journal-iff}
 use Rattle.layout.proofs.journal.journal_block_idx.Statement.{statement}
 use Rattle.layout.proofs.journal.journal_block_idx.Tie as tie
 

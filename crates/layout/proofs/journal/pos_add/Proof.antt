@@ -1,4 +1,4 @@
-use Rattle.layout.proofs.Ranges.{pos-past, pos-refused, pos-below, pos-round}
+use Rattle.disklayout.proofs.Ranges.{pos-past, pos-refused, pos-below, pos-round}
 use borrow.Author.Needs.{needs}
 use Rattle.layout.proofs.journal.pos_add.Statement.{statement}
 use Rattle.layout.proofs.journal.pos_add.Tie as tie

@@ -1,6 +1,6 @@
 use native.Mathlib.Omega.{arith}
-use Rattle.layout.specs.Device.{devices}
-use Rattle.layout.proofs.Devices.{read-within, read-past}
+use Rattle.disklayout.specs.Device.{devices}
+use Rattle.disklayout.proofs.Devices.{read-within, read-past}
 use borrow.Author.Needs.{needs}
 use Rattle.layout.proofs.rows.row.Statement.{statement}
 use Rattle.layout.proofs.rows.row.Tie as tie

@@ -1,4 +1,4 @@
-use Rattle.layout.specs.Layout.{overlap}
+use Rattle.disklayout.specs.Layout.{overlap}
 use Rattle.layout.proofs.sums.crosses.Statement.{statement}
 use Rattle.layout.proofs.sums.crosses.Tie as tie
 

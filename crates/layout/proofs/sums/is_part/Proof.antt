@@ -1,4 +1,4 @@
-use Rattle.layout.specs.Layout.{LocationSub}
+use Rattle.disklayout.specs.Layout.{LocationSub}
 use Rattle.layout.proofs.sums.is_part.Statement.{statement}
 use Rattle.layout.proofs.sums.is_part.Tie as tie
 

@@ -1,4 +1,4 @@
-use Rattle.layout.proofs.Compare.{passes-below, passes-rest}
+use Rattle.disklayout.proofs.Compare.{passes-below, passes-rest}
 use Rattle.layout.proofs.sums.sum_passes.Statement.{statement}
 use Rattle.layout.proofs.sums.sum_passes.Tie as tie
 

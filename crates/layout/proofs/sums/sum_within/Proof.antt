@@ -1,4 +1,4 @@
-use Rattle.layout.proofs.Compare.{within-gap, within-rest, within-short, within-room}
+use Rattle.disklayout.proofs.Compare.{within-gap, within-rest, within-short, within-room}
 use borrow.Author.Needs.{needs}
 use Rattle.layout.proofs.sums.sum_within.Statement.{statement}
 use Rattle.layout.proofs.sums.sum_within.Tie as tie

@@ -7,7 +7,7 @@ use lib.ListN.{getD}
 use Rattle.base.proofs.Scan.{at-end, bit-le, count-le, count-none, count-turn}
 use Rattle.base.specs.Scan.{countBelow}
 use Rattle.sector.proofs.form.count_allocated.Statement.{statement}
-use Rattle.sector.specs.Form.{allocatedAt, noEntry}
+use Rattle.sectortype.specs.Form.{allocatedAt, noEntry}
 use Rattle.sector.proofs.form.count_allocated.Tie as tie
 
 abbrev Inv-loop : tie.InvT-loop

@@ -7,7 +7,7 @@ use lib.ListN.{getD}
 use Rattle.base.proofs.Scan.{at-end, bit-le, count-le, count-none, count-turn}
 use Rattle.base.specs.Scan.{countBelow}
 use Rattle.sector.proofs.form.count_present.Statement.{statement}
-use Rattle.sector.specs.Form.{noSlot, presentAt}
+use Rattle.sectortype.specs.Form.{noSlot, presentAt}
 use Rattle.sector.proofs.form.count_present.Tie as tie
 
 abbrev Inv-loop : tie.InvT-loop

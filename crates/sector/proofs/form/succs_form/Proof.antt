@@ -7,7 +7,7 @@ use lib.ListN.{length}
 use Rattle.base.proofs.Scan.{all-end, all-none, all-turn}
 use Rattle.base.specs.Scan.{allBelow}
 use Rattle.sector.proofs.form.succs_form.Statement.{statement}
-use Rattle.sector.specs.Form.{succAt, succOk, succsForm}
+use Rattle.sectortype.specs.Form.{succAt, succOk, succsForm}
 use Rattle.sector.proofs.form.succs_form.Tie as tie
 
 abbrev Inv-loop : tie.InvT-loop

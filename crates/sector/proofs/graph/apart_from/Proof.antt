@@ -5,8 +5,8 @@ use borrow.Author.Needs.{needs}
 use Rattle.base.proofs.Scan.{all-end, all-none, all-turn}
 use Rattle.base.specs.Scan.{allBelow}
 use Rattle.sector.proofs.graph.apart_from.Statement.{statement}
-use Rattle.sector.specs.Form.{entryAt}
-use Rattle.sector.specs.Graph.{apartAt, apartFrom}
+use Rattle.sectortype.specs.Form.{entryAt}
+use Rattle.sectortype.specs.Graph.{apartAt, apartFrom}
 use Rattle.sector.proofs.graph.apart_from.Tie as tie
 
 abbrev Inv-loop : tie.InvT-loop

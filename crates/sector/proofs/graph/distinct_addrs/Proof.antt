@@ -5,8 +5,8 @@ use borrow.Author.Needs.{needs}
 use Rattle.base.proofs.Scan.{all-end, all-none, all-turn}
 use Rattle.base.specs.Scan.{allBelow}
 use Rattle.sector.proofs.graph.distinct_addrs.Statement.{statement}
-use Rattle.sector.specs.Form.{entryAt}
-use Rattle.sector.specs.Graph.{DistinctAddrs, apartFrom}
+use Rattle.sectortype.specs.Form.{entryAt}
+use Rattle.sectortype.specs.Graph.{DistinctAddrs, apartFrom}
 use Rattle.sector.proofs.graph.distinct_addrs.Tie as tie
 
 abbrev Inv-loop : tie.InvT-loop

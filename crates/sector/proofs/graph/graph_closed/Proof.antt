@@ -5,7 +5,7 @@ use borrow.Author.Needs.{needs}
 use Rattle.base.proofs.Scan.{all-end, all-none, all-turn}
 use Rattle.base.specs.Scan.{allBelow}
 use Rattle.sector.proofs.graph.graph_closed.Statement.{statement}
-use Rattle.sector.specs.Graph.{GraphClosed, closedAt}
+use Rattle.sectortype.specs.Graph.{GraphClosed, closedAt}
 use Rattle.sector.proofs.graph.graph_closed.Tie as tie
 
 abbrev Inv-loop : tie.InvT-loop

@@ -7,8 +7,8 @@ use lib.Dec.{eqb, ltb}
 use Rattle.base.proofs.Scan.{some-end, some-none, some-turn}
 use Rattle.base.specs.Scan.{someBelow}
 use Rattle.sector.proofs.graph.has_succ.Statement.{statement}
-use Rattle.sector.specs.Form.{succAt}
-use Rattle.sector.specs.Graph.{hasSucc}
+use Rattle.sectortype.specs.Form.{succAt}
+use Rattle.sectortype.specs.Graph.{hasSucc}
 use Rattle.sector.proofs.graph.has_succ.Tie as tie
 
 abbrev Inv-loop : tie.InvT-loop

@@ -7,8 +7,8 @@ use lib.Dec.{eqb}
 use Rattle.base.proofs.Scan.{some-end, some-none, some-turn}
 use Rattle.base.specs.Scan.{someBelow}
 use Rattle.sector.proofs.graph.holds_addr.Statement.{statement}
-use Rattle.sector.specs.Form.{entryAt}
-use Rattle.sector.specs.Graph.{holdsAddr, locatedIn}
+use Rattle.sectortype.specs.Form.{entryAt}
+use Rattle.sectortype.specs.Graph.{holdsAddr, locatedIn}
 use Rattle.sector.proofs.graph.holds_addr.Tie as tie
 
 abbrev Inv-loop : tie.InvT-loop

@@ -8,10 +8,10 @@ use lib.ListN.{length}
 use Rattle.base.proofs.Lists.{unmapped}
 use Rattle.base.proofs.Scan.{all-end, all-none, all-turn}
 use Rattle.base.specs.Scan.{allBelow}
-use Rattle.sector.proofs.Turns.{within-turn}
+use Rattle.sectortype.proofs.Turns.{within-turn}
 use Rattle.sector.proofs.graph.points_within.Statement.{statement}
-use Rattle.sector.specs.Form.{succAt}
-use Rattle.sector.specs.Graph.{allocatedIn, within}
+use Rattle.sectortype.specs.Form.{succAt}
+use Rattle.sectortype.specs.Graph.{allocatedIn, within}
 use Rattle.sector.proofs.graph.points_within.Tie as tie
 
 abbrev Inv-loop : tie.InvT-loop

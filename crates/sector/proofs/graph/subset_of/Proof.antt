@@ -7,8 +7,8 @@ use lib.Dec.{ltb}
 use Rattle.base.proofs.Scan.{all-end, all-none, all-turn}
 use Rattle.base.specs.Scan.{allBelow}
 use Rattle.sector.proofs.graph.subset_of.Statement.{statement}
-use Rattle.sector.specs.Form.{succAt}
-use Rattle.sector.specs.Graph.{hasSucc, subset}
+use Rattle.sectortype.specs.Form.{succAt}
+use Rattle.sectortype.specs.Graph.{hasSucc, subset}
 use Rattle.sector.proofs.graph.subset_of.Tie as tie
 
 abbrev Inv-loop : tie.InvT-loop

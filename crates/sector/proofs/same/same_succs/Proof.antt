@@ -6,8 +6,8 @@ use lib.Dec.{eqb}
 use Rattle.base.proofs.Scan.{all-end, all-none, all-turn}
 use Rattle.base.specs.Scan.{allBelow}
 use Rattle.sector.proofs.same.same_succs.Statement.{statement}
-use Rattle.sector.specs.Form.{succAt}
-use Rattle.sector.specs.Same.{sameSuccs}
+use Rattle.sectortype.specs.Form.{succAt}
+use Rattle.sectortype.specs.Same.{sameSuccs}
 use Rattle.sector.proofs.same.same_succs.Tie as tie
 
 abbrev Inv-loop : tie.InvT-loop

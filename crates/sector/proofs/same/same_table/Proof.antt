@@ -5,8 +5,8 @@ use borrow.Author.Needs.{needs}
 use Rattle.base.proofs.Scan.{all-end, all-none, all-turn}
 use Rattle.base.specs.Scan.{allBelow}
 use Rattle.sector.proofs.same.same_table.Statement.{statement}
-use Rattle.sector.specs.Form.{entryAt}
-use Rattle.sector.specs.Same.{sameEntry, sameTable}
+use Rattle.sectortype.specs.Form.{entryAt}
+use Rattle.sectortype.specs.Same.{sameEntry, sameTable}
 use Rattle.sector.proofs.same.same_table.Tie as tie
 
 abbrev Inv-loop : tie.InvT-loop

@@ -1,7 +1,7 @@
 -- The count of the entries as they are then. Assumes nothing.
 use borrow.Author.Needs.{needs}
 use Rattle.sector.proofs.update.with_entry.Statement.{statement}
-use Rattle.sector.specs.Form.{withEntry}
+use Rattle.sectortype.specs.Form.{withEntry}
 use Rattle.sector.proofs.update.with_entry.Tie as tie
 
 set-entry-requires : tie.Need-set-entry-requires

@@ -1,7 +1,7 @@
 -- The count of the slots as they are then. Assumes nothing.
 use borrow.Author.Needs.{needs}
 use Rattle.sector.proofs.update.with_slot.Statement.{statement}
-use Rattle.sector.specs.Form.{withSlot}
+use Rattle.sectortype.specs.Form.{withSlot}
 use Rattle.sector.proofs.update.with_slot.Tie as tie
 
 set-slot-requires : tie.Need-set-slot-requires

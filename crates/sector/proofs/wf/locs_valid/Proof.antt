@@ -4,10 +4,10 @@ use mathlib.Core.Path.{_≡_}
 use borrow.Author.Needs.{needs}
 use Rattle.base.proofs.Scan.{all-end, all-none, all-turn}
 use Rattle.base.specs.Scan.{allBelow}
-use Rattle.layout.proofs.Devices.{good}
+use Rattle.disklayout.proofs.Devices.{good}
 use Rattle.sector.proofs.wf.locs_valid.Statement.{statement}
-use Rattle.sector.specs.Form.{entryAt}
-use Rattle.sector.specs.Graph.{LocsValid, locOk}
+use Rattle.sectortype.specs.Form.{entryAt}
+use Rattle.sectortype.specs.Graph.{LocsValid, locOk}
 use Rattle.sector.proofs.wf.locs_valid.Tie as tie
 
 abbrev Inv-loop : tie.InvT-loop

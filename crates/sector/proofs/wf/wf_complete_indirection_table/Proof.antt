@@ -1,7 +1,7 @@
 -- By what the callees ensure. Assumes nothing.
 use borrow.Author.Needs.{needs}
 use Rattle.sector.proofs.wf.wf_complete_indirection_table.Statement.{statement}
-use Rattle.sector.specs.Graph.{WFCompleteIndirectionTable}
+use Rattle.sectortype.specs.Graph.{WFCompleteIndirectionTable}
 use Rattle.sector.proofs.wf.wf_complete_indirection_table.Tie as tie
 
 wf-indirection-table-requires : tie.Need-wf-indirection-table-requires

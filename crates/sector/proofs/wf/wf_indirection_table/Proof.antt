@@ -1,7 +1,7 @@
 -- By what the callees ensure. Assumes nothing.
 use borrow.Author.Needs.{needs}
 use Rattle.sector.proofs.wf.wf_indirection_table.Statement.{statement}
-use Rattle.sector.specs.Graph.{WFIndirectionTable}
+use Rattle.sectortype.specs.Graph.{WFIndirectionTable}
 use Rattle.sector.proofs.wf.wf_indirection_table.Tie as tie
 
 locs-valid-requires : tie.Need-locs-valid-requires

@@ -2,7 +2,7 @@
 use borrow.Author.Needs.{needs}
 use borrow.Author.Tests.{le-leb, lt-leb}
 use Rattle.system.proofs.formatting.format.Statement.{statement}
-use Rattle.system.specs.Format.{formatted}
+use Rattle.blocksystem.specs.Format.{formatted}
 use Rattle.system.proofs.formatting.format.Tie as tie
 
 empty-node-requires : tie.Need-empty-node-requires

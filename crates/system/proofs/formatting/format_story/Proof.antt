@@ -1,7 +1,7 @@
 -- By what the callees ensure. Assumes nothing.
 use borrow.Author.Needs.{needs}
 use Rattle.system.proofs.formatting.format_story.Statement.{statement}
-use Rattle.system.specs.Names.{firstStory}
+use Rattle.blocksystem.specs.Names.{firstStory}
 use Rattle.system.proofs.formatting.format_story.Tie as tie
 
 indirection-table1-addr-requires : tie.Need-indirection-table1-addr-requires

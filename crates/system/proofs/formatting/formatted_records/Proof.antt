@@ -1,7 +1,7 @@
 -- By what the callees ensure. Assumes nothing.
 use borrow.Author.Needs.{needs}
 use Rattle.system.proofs.formatting.formatted_records.Statement.{statement}
-use Rattle.system.specs.Format.{formattedRecords}
+use Rattle.blocksystem.specs.Format.{formattedRecords}
 use Rattle.system.proofs.formatting.formatted_records.Tie as tie
 
 root-table-requires : tie.Need-root-table-requires

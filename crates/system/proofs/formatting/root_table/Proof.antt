@@ -1,7 +1,7 @@
 -- By what the callees ensure. Assumes nothing.
 use borrow.Author.Needs.{needs}
 use Rattle.system.proofs.formatting.root_table.Statement.{statement}
-use Rattle.system.specs.Format.{rootTable}
+use Rattle.blocksystem.specs.Format.{rootTable}
 use Rattle.system.proofs.formatting.root_table.Tie as tie
 
 empty-table-requires : tie.Need-empty-table-requires

@@ -2,7 +2,7 @@
 use borrow.Author.Needs.{needs}
 use borrow.Author.Tests.{eq-eqb, ne-eqb}
 use Rattle.system.proofs.joined.ask_disk.Statement.{statement}
-use Rattle.system.specs.Joined.{diskAsked}
+use Rattle.blocksystem.specs.Joined.{diskAsked}
 use Rattle.system.proofs.joined.ask_disk.Tie as tie
 
 crash-requires : tie.Need-crash-requires

@@ -2,7 +2,7 @@
 use borrow.Author.Needs.{needs}
 use borrow.Author.Tests.{eq-eqb, ne-eqb}
 use Rattle.system.proofs.joined.step.Statement.{statement}
-use Rattle.system.specs.Joined.{joined, joinedAnswer}
+use Rattle.blocksystem.specs.Joined.{joined, joinedAnswer}
 use Rattle.system.proofs.joined.step.Tie as tie
 
 step-requires : tie.Need-step-requires

@@ -1,7 +1,7 @@
 -- By what the callees ensure. Assumes nothing.
 use borrow.Author.Needs.{needs}
 use Rattle.system.proofs.reading.altered.Statement.{statement}
-use Rattle.system.specs.Audit.{tally}
+use Rattle.blocksystem.specs.Audit.{tally}
 use Rattle.system.proofs.reading.altered.Tie as tie
 
 same-node-requires : tie.Need-same-node-requires

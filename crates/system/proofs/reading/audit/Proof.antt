@@ -5,10 +5,10 @@ use native.Mathlib.Omega.{arith}
 use borrow.Author.Needs.{needs}
 use Rattle.base.proofs.Scan.{count-none, count-turn}
 use Rattle.base.specs.Scan.{countBelow}
-use Rattle.sector.specs.Form.{entryAt, slotAt}
-use Rattle.system.proofs.Tallies.{count-end, count-fits, tally-fits}
+use Rattle.sectortype.specs.Form.{entryAt, slotAt}
+use Rattle.blocksystem.proofs.Tallies.{count-end, count-fits, tally-fits}
 use Rattle.system.proofs.reading.audit.Statement.{statement}
-use Rattle.system.specs.Audit.{counted, isAdded, isAltered, isLost, tally, throughTable}
+use Rattle.blocksystem.specs.Audit.{counted, isAdded, isAltered, isLost, tally, throughTable}
 use Rattle.system.proofs.reading.audit.Tie as tie
 
 abbrev Inv-loop : tie.InvT-loop

@@ -1,7 +1,7 @@
 -- By what the callee ensures. Assumes nothing.
 use borrow.Author.Needs.{needs}
 use Rattle.system.proofs.reading.lost.Statement.{statement}
-use Rattle.system.specs.Audit.{tally}
+use Rattle.blocksystem.specs.Audit.{tally}
 use Rattle.system.proofs.reading.lost.Tie as tie
 
 one-if-requires : tie.Need-one-if-requires

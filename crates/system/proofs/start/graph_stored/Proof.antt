@@ -4,10 +4,10 @@ use mathlib.Core.Path.{_≡_}
 use borrow.Author.Needs.{needs}
 use Rattle.base.proofs.Scan.{all-end, all-none, all-turn}
 use Rattle.base.specs.Scan.{allBelow}
-use Rattle.layout.proofs.Devices.{good}
-use Rattle.sector.specs.Form.{entryAt}
+use Rattle.disklayout.proofs.Devices.{good}
+use Rattle.sectortype.specs.Form.{entryAt}
 use Rattle.system.proofs.start.graph_stored.Statement.{statement}
-use Rattle.system.specs.Start.{graphStored, refAgrees}
+use Rattle.blocksystem.specs.Start.{graphStored, refAgrees}
 use Rattle.system.proofs.start.graph_stored.Tie as tie
 
 abbrev Inv-loop : tie.InvT-loop

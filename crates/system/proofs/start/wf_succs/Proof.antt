@@ -1,7 +1,7 @@
 -- By what the callees ensure. Assumes nothing.
 use borrow.Author.Needs.{needs}
 use Rattle.system.proofs.start.wf_succs.Statement.{statement}
-use Rattle.system.specs.Start.{WFSuccs}
+use Rattle.blocksystem.specs.Start.{WFSuccs}
 use Rattle.system.proofs.start.wf_succs.Tie as tie
 
 table-at-requires : tie.Need-table-at-requires

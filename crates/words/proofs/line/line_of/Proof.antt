@@ -2,7 +2,7 @@
 use mathlib.Core.Path.{_∙_, sym}
 use borrow.Author.Needs.{needs}
 use borrow.Author.Tests.{eq-eqb, le-ltb, lt-ltb, ne-eqb}
-use Rattle.layout.proofs.Cases.{at}
+use Rattle.disklayout.proofs.Cases.{at}
 use Rattle.words.proofs.line.line_of.Statement.{statement}
 use Rattle.words.specs.Parsed.{lineOf}
 use Rattle.words.proofs.line.line_of.Tie as tie

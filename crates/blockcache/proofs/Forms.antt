@@ -1,0 +1,200 @@
+-- What the cache's written form says, part by part, and what it is for a call to be accepted. Assumes nothing.
+use Prim.Native.Nat.{_+_, _<_, _≤_, suc, zero, ℕ}
+use mathlib.Core.Bool.{Bool, _||_, false, false≢true, true}
+use mathlib.Core.Logic.{_↔_}
+use mathlib.Core.Option.{some}
+use mathlib.Core.Path.{_∙_, _≡_, ap, fun-ext, refl, sym}
+use native.Mathlib.Nat.{not-suc-le-zero}
+use native.Mathlib.Omega.{arith}
+use borrow.Author.Tests.{eqb-true, le-leb, leb-true}
+use lib.Dec.{eqb, leb}
+use Rattle.base.proofs.Scan.{below-or-last}
+use Rattle.base.proofs.Tests.{and-iff, and-left, clash, eqb-iff, never, not-true-iff, or-true-iff, split}
+use Rattle.base.specs.Maps.{empty}
+use Rattle.base.specs.Scan.{countBelow}
+use Rattle.blockcache.specs.Form.{awaitedForm, cacheForm, formIn, idle, isReady, loadingPhase, phaseForm, placesForm, readOk, readsForm, readyPhase, writeOk, writesForm}
+use Rattle.blockcache.specs.Step.{wellFormed}
+use Rattle.blockcache.specs.declared.Cache.{Cache}
+use Rattle.blockcache.specs.declared.Call.{Call}
+use Rattle.blockcache.specs.declared.Phase.{Phase}
+use Rattle.blockcache.specs.declared.Phase.the-variants.{Loading as PhaseLoading, Ready as PhaseReady, Unready as PhaseUnready}
+use Rattle.blockdisk.proofs.Outstanding.{queue-iff, queue-insert, queue-remove}
+use Rattle.disklayout.specs.Device.{made}
+use Rattle.queue.proofs.Laws.{entry-map, none-form, none-map}
+use Rattle.queue.specs.Queue.{entryOf, hasOf, insertOf, noRequests, removeOf, requestsForm, requestsMap}
+use Rattle.queue.specs.declared.Request.{Request}
+use Rattle.queue.specs.declared.Requests.{Requests}
+use Rattle.sectortype.proofs.Forms.{nodes-iff}
+use Rattle.sectortype.proofs.Maps.{nodes-at, nodes-bounded}
+use Rattle.sectortype.specs.Abstract.{nodesMap}
+use Rattle.sectortype.specs.Form.{locZero, nodeForm, nodesForm, presentAt, slotAt, tableForm}
+use Rattle.sectortype.specs.declared.Nodes.{Nodes}
+
+pub record CacheForm (c : Cache) : Type 0 where
+  pub persistent : tableForm (c .tables .persistent) ≡ true
+  pub ephemeral : tableForm (c .tables .ephemeral) ≡ true
+  pub frozen : tableForm (c .tables .frozen) ≡ true
+  pub frozen-absent : (c .tables .isfrozen || eqb (c .tables .frozen .count) 0) ≡ true
+  pub place : placesForm (c .places) ≡ true
+  pub awaited : awaitedForm (c .awaited) ≡ true
+  pub writes : writesForm (c .outstanding .writes) ≡ true
+  pub reading : readsForm (c .outstanding .reads) ≡ true
+  pub nodes : nodesForm (c .nodes) ≡ true
+  pub phase : phaseForm c ≡ true
+
+pub cache-form-iff : (c : Cache) → (cacheForm c ≡ true) ↔ CacheForm c
+unfolding cacheForm
+cache-form-iff c = (
+  (λ e. let h = simp and-iff at e in
+      record {
+        persistent = h .0 .0 .0 .0 .0 .0 .0 .0;
+        ephemeral = h .0 .0 .0 .0 .0 .0 .0 .1;
+        frozen = h .0 .0 .0 .0 .0 .0 .1;
+        frozen-absent = h .0 .0 .0 .0 .0 .1;
+        place = h .0 .0 .0 .0 .1;
+        awaited = h .0 .0 .0 .1;
+        writes = h .0 .0 .1 .0;
+        reading = h .0 .0 .1 .1;
+        nodes = h .0 .1;
+        phase = h .1;
+      }),
+  (λ f. simp and-iff ((((((((f .persistent, f .ephemeral), f .frozen), f .frozen-absent), f .place), f .awaited), (f .writes, f .reading)), f .nodes), f .phase)),
+)
+
+-- THE QUEUES
+
+pub writes-form-iff : (q : Requests) → (writesForm q ≡ true) ↔ ((requestsForm q ≡ true) × ((id : ℕ) (w : Request) → requestsMap q id ≡ some w → writeOk w ≡ true))
+unfolding writesForm
+writes-form-iff q = queue-iff writeOk q
+
+pub reads-form-iff : (q : Requests) → (readsForm q ≡ true) ↔ ((requestsForm q ≡ true) × ((id : ℕ) (w : Request) → requestsMap q id ≡ some w → readOk w ≡ true))
+unfolding readsForm
+reads-form-iff q = queue-iff readOk q
+
+pub writes-insert-form : (q : Requests) (w : Request) → writesForm q ≡ true → q .count < 16 → hasOf q (w .id) ≡ false → writeOk w ≡ true → writesForm (insertOf q w) ≡ true
+unfolding writesForm
+writes-insert-form q w = queue-insert writeOk q w
+
+pub reads-insert-form : (q : Requests) (w : Request) → readsForm q ≡ true → q .count < 16 → hasOf q (w .id) ≡ false → readOk w ≡ true → readsForm (insertOf q w) ≡ true
+unfolding readsForm
+reads-insert-form q w = queue-insert readOk q w
+
+pub writes-remove-form : (q : Requests) (id : ℕ) → writesForm q ≡ true → hasOf q id ≡ true → writesForm (removeOf q id) ≡ true
+unfolding writesForm
+writes-remove-form q id = queue-remove writeOk q id
+
+pub reads-remove-form : (q : Requests) (id : ℕ) → readsForm q ≡ true → hasOf q id ≡ true → readsForm (removeOf q id) ≡ true
+unfolding readsForm
+reads-remove-form q id = queue-remove readOk q id
+
+pub no-writes-form : writesForm noRequests ≡ true
+unfolding writesForm
+no-writes-form = queue-iff writeOk noRequests .1 (none-form, λ id w m. never (sym (ap (λ f. f id) none-map) ∙ m))
+
+pub no-reads-form : readsForm noRequests ≡ true
+unfolding readsForm
+no-reads-form = queue-iff readOk noRequests .1 (none-form, λ id w m. never (sym (ap (λ f. f id) none-map) ∙ m))
+
+-- an awaited read is of one of the 64 references
+pub read-ref-bounded : (q : Requests) (id : ℕ) → readsForm q ≡ true → hasOf q id ≡ true → entryOf q id .reference < 64
+read-ref-bounded q id f h =
+    let e : requestsMap q id ≡ some (entryOf q id) = entry-map q id ∙ rw h in
+    let k = and-left (leb (entryOf q id .reference) 63) (locZero (entryOf q id .loc)) (reads-form-iff q .0 f .1 id (entryOf q id) e) in
+    omega (arith, leb-true (entryOf q id .reference) 63 k)
+
+module _ (c : Cache) (f : CacheForm c) where
+  pub writes-requests : requestsForm (c .outstanding .writes) ≡ true
+  writes-requests = writes-form-iff (c .outstanding .writes) .0 (f .writes) .0
+
+  pub reads-requests : requestsForm (c .outstanding .reads) ≡ true
+  reads-requests = reads-form-iff (c .outstanding .reads) .0 (f .reading) .0
+
+  pub frozen-empty : c .tables .isfrozen ≡ false → c .tables .frozen .count ≡ 0
+  frozen-empty e = eqb-true _ _ (or-true-iff (c .tables .isfrozen) (eqb (c .tables .frozen .count) 0) .0 (f .frozen-absent) e)
+
+-- BEFORE READY
+
+-- no table, no frozen place, nothing outstanding, nothing cached
+pub record Idle (c : Cache) : Type 0 where
+  pub no-persistent : c .tables .persistent .count ≡ 0
+  pub no-ephemeral : c .tables .ephemeral .count ≡ 0
+  pub no-frozen : c .tables .isfrozen ≡ false
+  pub no-place : c .places .isfrozen ≡ false
+  pub no-writes : c .outstanding .writes .count ≡ 0
+  pub no-reads : c .outstanding .reads .count ≡ 0
+  pub no-nodes : c .nodes .count ≡ 0
+
+pub idle-iff : (c : Cache) → (idle c ≡ true) ↔ Idle c
+unfolding idle
+idle-iff c = (
+  (λ e. let h = simp (and-iff, not-true-iff, eqb-iff) at e in
+      record {
+        no-persistent = h .0 .0 .0 .0 .0 .0;
+        no-ephemeral = h .0 .0 .0 .0 .0 .1;
+        no-frozen = h .0 .0 .0 .0 .1;
+        no-place = h .0 .0 .0 .1;
+        no-writes = h .0 .0 .1;
+        no-reads = h .0 .1;
+        no-nodes = h .1;
+      }),
+  (λ i. simp (and-iff, not-true-iff, eqb-iff) ((((((i .no-persistent, i .no-ephemeral), i .no-frozen), i .no-place), i .no-writes), i .no-reads), i .no-nodes)),
+)
+
+pub loading-idle : (c : Cache) → phaseForm c ≡ true → loadingPhase (c .phase) ≡ true → Idle c
+unfolding phaseForm
+loading-idle c f l = idle-iff c .0 (go (c .phase) f l)
+  where
+    go : (p : Phase) → formIn p c ≡ true → loadingPhase p ≡ true → idle c ≡ true
+    go PhaseUnready f l = absurd (false≢true l)
+    go PhaseLoading f l = f
+    go PhaseReady f l = absurd (false≢true l)
+
+pub ready-form : (c : Cache) → isReady c ≡ true → phaseForm c ≡ true
+unfolding phaseForm
+ready-form c r = go (c .phase) r
+  where
+    go : (p : Phase) → readyPhase p ≡ true → formIn p c ≡ true
+    go PhaseUnready r = absurd (false≢true r)
+    go PhaseLoading r = absurd (false≢true r)
+    go PhaseReady r = refl
+
+-- a count of 0 counts nothing
+pub count-none-at : (g : ℕ → Bool) (n : ℕ) → countBelow g n ≡ 0 → (k : ℕ) → k < n → g k ≡ false
+unfolding countBelow
+count-none-at g zero e k b = absurd (not-suc-le-zero b)
+count-none-at g (suc n) e k b =
+    let z : countBelow g n ≡ 0 = omega arith in
+    below-or-last k n b (λ t. count-none-at g n z k t)
+    (λ h. rw h (split (g n) (λ t. absurd (let w : countBelow g n + 1 ≡ 0 = rw t at e in omega arith)) (λ t. t)))
+
+-- nothing is cached
+pub no-nodes-map : (m : Nodes) → nodesForm m ≡ true → m .count ≡ 0 → nodesMap m ≡ empty
+unfolding nodesMap
+no-nodes-map m f z =
+    fun-ext
+    (λ r. split (slotAt m r .present)
+    (λ t. let u = nodes-iff m .0 f in
+    let b : r < 64 = nodes-bounded m f r (slotAt m r .node) (nodes-at m r t) in
+    clash {b = slotAt m r .present} t (count-none-at (presentAt (m .slots)) 64 (sym (u .1 .0) ∙ z) r b))
+    (λ t. rw t))
+
+-- A CALL
+
+pub record CallForm (q : Call) : Type 0 where
+  pub reference : q .reference < 64
+  pub node : nodeForm (q .node) ≡ true
+  pub table : tableForm (q .table) ≡ true
+
+pub record WellFormed (d : ℕ) (c : Cache) (q : Call) : Type 0 where
+  pub on : made d ≡ true
+  pub form : CacheForm c
+  pub call : CallForm q
+
+pub well-formed-iff : (d : ℕ) (c : Cache) (q : Call) → (wellFormed d c q ≡ true) ↔ WellFormed d c q
+well-formed-iff d c q = (
+  (λ e. let h = simp (cache-form-iff, and-iff) at e in
+      let b : q .reference ≤ 63 = leb-true (q .reference) 63 (h .1 .0 .0) in
+      record { on = h .0 .0; form = h .0 .1; call = record { reference = omega arith; node = h .1 .0 .1; table = h .1 .1 } }),
+  (λ w. let b : q .reference < 64 = w .call .reference in
+      simp (cache-form-iff, and-iff) ((w .on, w .form), ((le-leb (q .reference) 63 (omega arith), w .call .node), w .call .table))),
+)

@@ -1,0 +1,186 @@
+-- Steps 6, 7, 9, 12 and 13 keep upstream's Inv. Assumes nothing.
+use Prim.Native.Nat.{ℕ}
+use mathlib.Core.Bool.{true}
+use mathlib.Core.Logic.{inl, inr, ⊎-elim}
+use mathlib.Core.Option.{Option, none, some}
+use mathlib.Core.Path.{_∙_, _≡_, ap, subst, sym}
+use Rattle.base.proofs.Maps.{del-some, put-some}
+use Rattle.base.proofs.Tests.{never}
+use Rattle.base.specs.Maps.{Map, del, empty, put}
+use Rattle.blockcache.proofs.InvLaws.{in-put, put-none, ready-ext}
+use Rattle.blockcache.specs.Upstream.{AllLocationsForDifferentRefsDontOverlap, CleanUp, PageInIndirectionTableResp, PageInNodeReq, PageInNodeResp, Ready, WFCompleteIndirectionTable, setCache, setLocs, setReads, setTables}
+use Rattle.blockcache.specs.UpstreamInv.{CacheConsistentWithSuccessors, InvFrozen, InvReady, OutstandingReadRefsUnique}
+use Rattle.disklayout.specs.Device.{deviceOf}
+use Rattle.disklayout.specs.Layout.{ValidIndirectionTableLocation}
+use Rattle.disklayout.specs.declared.Location.{Location}
+use Rattle.sectortype.specs.Abstract.{IndirectionTable}
+use Rattle.sectortype.specs.Graph.{hasSucc}
+use Rattle.sectortype.specs.declared.Node.{Node}
+
+-- PageInNodeReq
+
+pub page-in-kept : (d : ℕ) (s s' : Ready) (id : ℕ) (loc : Location) (ref : ℕ) → InvReady d s → PageInNodeReq s s' id loc ref → InvReady d (setReads s (put (s .outstandingBlockReads) id ref))
+page-in-kept d s s' id loc ref v u =
+    record {
+      persistent = v .persistent;
+      ephemeral = v .ephemeral;
+      consistent = v .consistent;
+      successors = v .successors;
+      not-written = v .not-written;
+      reads-unique = unique;
+      ephemeral-overlapping = v .ephemeral-overlapping;
+      persistent-overlapping = v .persistent-overlapping;
+      writes-valid = v .writes-valid;
+      writes-apart = v .writes-apart;
+      distinct = v .distinct;
+      persistent-distinct = v .persistent-distinct;
+      frozen = v .frozen;
+      table-write = v .table-write;
+      persistent-valid = v .persistent-valid;
+      frozen-loc = v .frozen-loc;
+    }
+  where
+    unique : OutstandingReadRefsUnique (put (s .outstandingBlockReads) id ref)
+    unique i j r e k =
+        ⊎-elim
+        (λ x. ⊎-elim (λ y. x .0 ∙ sym (y .0)) (λ y. absurd (u .not-read j (y .1 ∙ ap some (sym (x .1))))) (put-some (s .outstandingBlockReads) id ref j k))
+        (λ x. ⊎-elim (λ y. absurd (u .not-read i (x .1 ∙ ap some (sym (y .1))))) (λ y. v .reads-unique i j r (x .1) (y .1)) (put-some (s .outstandingBlockReads) id ref j k))
+        (put-some (s .outstandingBlockReads) id ref i e)
+
+-- PageInNodeResp
+
+module _ (d : ℕ) (s s' : Ready) (id : ℕ) (node : Option Node) (v : InvReady d s) (u : PageInNodeResp s s' id node) where
+  abbrev nodes : Map Node
+  nodes = put (s .cache) (u .ref) (u .block)
+
+  -- the node brought has the graph's successors
+  successors-after : CacheConsistentWithSuccessors nodes (s .ephemeralIndirectionTable .graph)
+  successors-after j n l m e k =
+      ⊎-elim
+      (λ x. let a : some l ≡ some (u .list) = sym e ∙ ap (s .ephemeralIndirectionTable .graph) (x .0) ∙ u .allocated in
+      let q : l ≡ u .list = cc in
+      ap (λ z. hasSucc z k) q ∙ u .succs k ∙ ap (λ (z : Node). hasSucc (z .succs) k) (x .1))
+      (λ x. v .successors j n l (x .1) e k)
+      (put-some (s .cache) (u .ref) (u .block) j m)
+
+  pub paged-in-kept : InvReady d (setReads (setCache s nodes) (del (s .outstandingBlockReads) id))
+  paged-in-kept =
+      record {
+        persistent = v .persistent;
+        ephemeral = v .ephemeral;
+        consistent = λ j i. ⊎-elim (λ x. inl (in-put (s .cache) (u .ref) (u .block) j x)) (λ x. inr x) (v .consistent j i);
+        successors = successors-after;
+        not-written = λ j i a. v .not-written j i (put-none (s .cache) (u .ref) (u .block) j a .1);
+        reads-unique = λ i j r e k. v .reads-unique i j r (del-some (s .outstandingBlockReads) id i e .1) (del-some (s .outstandingBlockReads) id j k .1);
+        ephemeral-overlapping = v .ephemeral-overlapping;
+        persistent-overlapping = v .persistent-overlapping;
+        writes-valid = v .writes-valid;
+        writes-apart = v .writes-apart;
+        distinct = v .distinct;
+        persistent-distinct = v .persistent-distinct;
+        frozen = λ t e. let i = v .frozen t e in
+            record {
+              wf = i .wf;
+              consistent = λ j g. ⊎-elim (λ x. inl (in-put (s .cache) (u .ref) (u .block) j x)) (λ x. inr x) (i .consistent j g);
+              overlapping = i .overlapping;
+              distinct = i .distinct;
+            };
+        table-write = v .table-write;
+        persistent-valid = v .persistent-valid;
+        frozen-loc = v .frozen-loc;
+      }
+
+-- PageInIndirectionTableResp: one table, nothing cached, nothing outstanding
+
+abbrev pub loaded : IndirectionTable → Location → Ready
+loaded t at =
+    record {
+      persistentIndirectionTable = t;
+      frozenIndirectionTable = none;
+      ephemeralIndirectionTable = t;
+      persistentIndirectionTableLoc = at;
+      frozenIndirectionTableLoc = none;
+      outstandingIndirectionTableWrite = none;
+      outstandingBlockWrites = empty;
+      outstandingBlockReads = empty;
+      cache = empty;
+    }
+
+pub loaded-fixed : (d : ℕ) (at : Location) (read : Option ℕ) (s' : Ready) (id : ℕ) (o : Option IndirectionTable) (u : PageInIndirectionTableResp d at read s' id o) → s' ≡ loaded (u .t) at
+loaded-fixed d at read s' id o u =
+    ready-ext (u .persistentIndirectionTable') (u .frozenIndirectionTable') (u .ephemeralIndirectionTable') (u .persistentIndirectionTableLoc')
+    (u .frozenIndirectionTableLoc') (u .outstandingIndirectionTableWrite') (u .outstandingBlockWrites') (u .outstandingBlockReads') (u .cache')
+
+pub loaded-inv : (d : ℕ) (t : IndirectionTable) (at : Location) → WFCompleteIndirectionTable d t → AllLocationsForDifferentRefsDontOverlap t → ValidIndirectionTableLocation (deviceOf d) at ≡ true → InvReady d (loaded t at)
+loaded-inv d t at w h ok =
+    record {
+      persistent = w;
+      ephemeral = record { valid = w .valid; keys = λ r i. w .keys r ∙ i; root = w .root; graphClosed = w .graphClosed };
+      consistent = λ r i. inr (sym (w .keys r) ∙ i);
+      successors = λ r n l m e. never m;
+      not-written = λ r i a k x m. never m;
+      reads-unique = λ i j r e k. never e;
+      ephemeral-overlapping = λ r l e k x m. never m;
+      persistent-overlapping = λ r l e k x m. never m;
+      writes-valid = λ i x m. never m;
+      writes-apart = λ i j x y m k. never m;
+      distinct = h;
+      persistent-distinct = h;
+      frozen = λ x e. never e;
+      table-write = λ i e. never e;
+      persistent-valid = ok;
+      frozen-loc = λ l e. never e;
+    }
+
+-- Freeze: the frozen table is the ephemeral one
+
+pub freeze-kept : (d : ℕ) (s : Ready) → InvReady d s → s .outstandingIndirectionTableWrite ≡ none →
+    InvReady d (setLocs (setTables s (s .persistentIndirectionTable) (some (s .ephemeralIndirectionTable))) (s .persistentIndirectionTableLoc) none)
+freeze-kept d s v idle =
+    record {
+      persistent = v .persistent;
+      ephemeral = v .ephemeral;
+      consistent = v .consistent;
+      successors = v .successors;
+      not-written = v .not-written;
+      reads-unique = v .reads-unique;
+      ephemeral-overlapping = v .ephemeral-overlapping;
+      persistent-overlapping = v .persistent-overlapping;
+      writes-valid = v .writes-valid;
+      writes-apart = v .writes-apart;
+      distinct = v .distinct;
+      persistent-distinct = v .persistent-distinct;
+      frozen = λ t e. let q : s .ephemeralIndirectionTable ≡ t = cc in
+          subst (λ z. InvFrozen d z (s .cache) (s .outstandingBlockWrites)) q
+          (record { wf = v .ephemeral; consistent = v .consistent; overlapping = v .ephemeral-overlapping; distinct = v .distinct });
+      table-write = λ i e. never (sym idle ∙ e);
+      persistent-valid = v .persistent-valid;
+      frozen-loc = λ l e. never e;
+    }
+
+-- CleanUp: the persistent table is the frozen one, which has all its locations
+
+pub clean-up-kept : (d : ℕ) (s s' : Ready) → InvReady d s → (u : CleanUp s s') → InvReady d (setLocs (setTables s (u .table) none) (u .loc) none)
+clean-up-kept d s s' v u =
+    let i = v .frozen-loc (u .loc) (u .frozen-loc) in
+    let k = v .frozen (u .table) (u .frozen) in
+    let one : some (i .table) ≡ some (u .table) = sym (i .is) ∙ u .frozen in
+    let q : i .table ≡ u .table = cc in
+    record {
+      persistent = subst (λ z. WFCompleteIndirectionTable d z) q (i .wf);
+      ephemeral = v .ephemeral;
+      consistent = v .consistent;
+      successors = v .successors;
+      not-written = v .not-written;
+      reads-unique = v .reads-unique;
+      ephemeral-overlapping = v .ephemeral-overlapping;
+      persistent-overlapping = k .overlapping;
+      writes-valid = v .writes-valid;
+      writes-apart = v .writes-apart;
+      distinct = v .distinct;
+      persistent-distinct = k .distinct;
+      frozen = λ t e. never e;
+      table-write = λ j e. never (sym (u .no-table-write) ∙ e);
+      persistent-valid = i .valid;
+      frozen-loc = λ l e. never e;
+    }

@@ -1,0 +1,149 @@
+-- The outstanding writes and reads as upstream's maps, and what the tests of them say. Assumes nothing.
+use Prim.Native.Nat.{_<_, ℕ}
+use mathlib.Core.Bool.{Bool, _&&_, and-assoc, false, true}
+use mathlib.Core.Logic.{_↔_}
+use mathlib.Core.Option.{Option, Option·map, map-eq-some-iff, none, some}
+use mathlib.Core.Path.{_∙_, _≡_, ap, fun-ext, refl, sym}
+use borrow.Author.Tests.{eq-eqb, eqb-false, eqb-true, ne-eqb}
+use lib.Dec.{eqb, ltb}
+use Rattle.base.proofs.Scan.{some-same}
+use Rattle.base.proofs.Tests.{and-left, and-right, clash, none-iff, split}
+use Rattle.base.specs.Maps.{Map, del, empty, isSome, put}
+use Rattle.base.specs.Scan.{someBelow}
+use Rattle.blockcache.specs.Scan.{reads, writeHolds, writesTo}
+use Rattle.blockcache.specs.Steps.{readsMap, writeOf, writesMap}
+use Rattle.blockcache.specs.Upstream.{OutstandingBlockReadsDoesNotHaveRef, OutstandingWrite}
+use Rattle.disklayout.specs.declared.Location.{Location}
+use Rattle.queue.proofs.Laws.{count-iff, entry-map, has-map, insert-map, remove-map, scan-iff}
+use Rattle.queue.specs.Queue.{entryOf, hasOf, insertOf, removeOf, requestAt, requestsForm, requestsMap}
+use Rattle.queue.specs.declared.Request.{Request}
+use Rattle.queue.specs.declared.Requests.{Requests}
+use Rattle.sectortype.proofs.Equal.{same-loc-iff}
+use Rattle.sectortype.specs.Same.{sameLoc}
+
+-- ANY MAP OF WHAT REQUESTS STAND FOR
+
+module _ {A : Type 0} (f : Request → A) where
+  abbrev mapped : Requests → Map A
+  mapped q = λ id. Option·map f (requestsMap q id)
+
+  mapped-has : (q : Requests) (id : ℕ) → isSome (mapped q id) ≡ hasOf q id
+  mapped-has q id = go (requestsMap q id) ∙ has-map q id
+    where
+      go : (o : Option Request) → isSome (Option·map f o) ≡ isSome o
+      go none = refl
+      go (some w) = refl
+
+  mapped-at : (q : Requests) (id : ℕ) → hasOf q id ≡ true → mapped q id ≡ some (f (entryOf q id))
+  mapped-at q id h = rw (entry-map q id, h)
+
+  mapped-some : (q : Requests) (id : ℕ) {a : A} → mapped q id ≡ some a → (w : Request) × (requestsMap q id ≡ some w) × (f w ≡ a)
+  mapped-some q id e = map-eq-some-iff f (requestsMap q id) .0 e
+
+  mapped-of : (q : Requests) (id : ℕ) (w : Request) → requestsMap q id ≡ some w → mapped q id ≡ some (f w)
+  mapped-of q id w e = rw e
+
+  module _ (q : Requests) (form : requestsForm q ≡ true) where
+    mapped-insert : (w : Request) → q .count < 16 → hasOf q (w .id) ≡ false → mapped (insertOf q w) ≡ put (mapped q) (w .id) (f w)
+    unfolding put
+    mapped-insert w room new =
+        ap (λ (m : Map Request). λ id. Option·map f (m id)) (insert-map q form w room new) ∙ fun-ext (λ j. split (eqb j (w .id)) (λ t. rw t) (λ t. rw t))
+
+    mapped-remove : (id : ℕ) → hasOf q id ≡ true → mapped (removeOf q id) ≡ del (mapped q) id
+    unfolding del
+    mapped-remove id there =
+        ap (λ (m : Map Request). λ id. Option·map f (m id)) (remove-map q form id there) ∙ fun-ext (λ j. split (eqb j id) (λ t. rw t) (λ t. rw t))
+
+    -- a test that no request in use passes
+    mapped-none-iff : (p : A → Bool) → (someBelow (λ k. ltb k (q .count) && p (f (requestAt q k))) 16 ≡ false) ↔ ((id : ℕ) (a : A) → mapped q id ≡ some a → p a ≡ false)
+    mapped-none-iff p = (
+      (λ e id a h. let w = mapped-some q id h in rw (w .2) at (scan-iff q form (λ w. p (f w)) .0 e id (w .0) (w .1))),
+      (λ h. scan-iff q form (λ w. p (f w)) .1 (λ id w e. h id (f w) (mapped-of q id w e))),
+    )
+
+    mapped-empty-iff : (q .count ≡ 0) ↔ (mapped q ≡ empty)
+    mapped-empty-iff = (
+      (λ e. fun-ext (λ id. rw (count-iff q form .0 e id))),
+      (λ e. count-iff q form .1 (λ id. none-iff (requestsMap q id) .0 (has-map q id ∙ sym (mapped-has q id) ∙ ap (λ m. isSome (m id)) e))),
+    )
+
+-- THE WRITES
+
+pub writes-has : (q : Requests) (id : ℕ) → isSome (writesMap q id) ≡ hasOf q id
+unfolding writesMap
+writes-has q id = mapped-has writeOf q id
+
+module _ (q : Requests) (form : requestsForm q ≡ true) where
+  pub writes-insert : (w : Request) → q .count < 16 → hasOf q (w .id) ≡ false → writesMap (insertOf q w) ≡ put (writesMap q) (w .id) (writeOf w)
+  unfolding writesMap
+  writes-insert = mapped-insert writeOf q form
+
+  pub writes-remove : (id : ℕ) → hasOf q id ≡ true → writesMap (removeOf q id) ≡ del (writesMap q) id
+  unfolding writesMap
+  writes-remove = mapped-remove writeOf q form
+
+  pub writes-empty-iff : (q .count ≡ 0) ↔ (writesMap q ≡ empty)
+  unfolding writesMap
+  writes-empty-iff = mapped-empty-iff writeOf q form
+
+  -- no outstanding write has the address
+  pub write-holds-iff : (a : ℕ) → (writeHolds q a ≡ false) ↔ ((id : ℕ) (w : OutstandingWrite) → writesMap q id ≡ some w → w .loc .addr ≡ a → ⊥)
+  unfolding writesMap writeHolds
+  write-holds-iff a =
+      let h = mapped-none-iff writeOf q form (λ w. eqb (w .loc .addr) a) in
+      ((λ e id w m. eqb-false (w .loc .addr) a (h .0 e id w m)), (λ k. h .1 (λ id w m. ne-eqb (w .loc .addr) a (k id w m))))
+
+  -- no write of the reference to this very location is outstanding
+  pub writes-to-iff : (r : ℕ) (l : Location) → (writesTo q r l ≡ false) ↔ ((id : ℕ) → writesMap q id ≡ some (record { ref = r; loc = l }) → ⊥)
+  unfolding writesMap writesTo
+  writes-to-iff r l =
+      let p : OutstandingWrite → Bool = λ w. eqb (w .ref) r && sameLoc (w .loc) l in
+      let h = mapped-none-iff writeOf q form p in
+      let same = some-same (λ k. ltb k (q .count) && eqb (requestAt q k .reference) r && sameLoc (requestAt q k .loc) l) (λ k. ltb k (q .count) && p (writeOf (requestAt q k))) 16
+      (λ k b. and-assoc (ltb k (q .count)) (eqb (requestAt q k .reference) r) (sameLoc (requestAt q k .loc) l)) in (
+        (λ e id m. clash {b = p (record { ref = r; loc = l })} (rw (eq-eqb r r refl) (same-loc-iff l l .1 refl)) (h .0 (sym same ∙ e) id (record { ref = r; loc = l }) m)),
+        (λ k. same ∙ h .1 (λ id w m. split (p w) (λ t. absurd (k id (m ∙ ap some (is w t)))) (λ t. t))),
+      )
+    where
+      is : (w : OutstandingWrite) → (eqb (w .ref) r && sameLoc (w .loc) l) ≡ true → w ≡ record { ref = r; loc = l }
+      is w t =
+          let a : w .ref ≡ r = eqb-true _ _ (and-left (eqb (w .ref) r) (sameLoc (w .loc) l) t) in
+          let b : w .loc ≡ l = same-loc-iff (w .loc) l .0 (and-right (eqb (w .ref) r) (sameLoc (w .loc) l) t) in
+          λ i. record { ref = a i; loc = b i }
+
+-- THE READS
+
+pub reads-has : (q : Requests) (id : ℕ) → isSome (readsMap q id) ≡ hasOf q id
+unfolding readsMap
+reads-has q id = mapped-has (λ w. w .reference) q id
+
+pub reads-at : (q : Requests) (id : ℕ) → hasOf q id ≡ true → readsMap q id ≡ some (entryOf q id .reference)
+unfolding readsMap
+reads-at q id h = mapped-at (λ w. w .reference) q id h
+
+module _ (q : Requests) (form : requestsForm q ≡ true) where
+  pub reads-insert : (w : Request) → q .count < 16 → hasOf q (w .id) ≡ false → readsMap (insertOf q w) ≡ put (readsMap q) (w .id) (w .reference)
+  unfolding readsMap
+  reads-insert = mapped-insert (λ w. w .reference) q form
+
+  pub reads-remove : (id : ℕ) → hasOf q id ≡ true → readsMap (removeOf q id) ≡ del (readsMap q) id
+  unfolding readsMap
+  reads-remove = mapped-remove (λ w. w .reference) q form
+
+  pub reads-empty-iff : (q .count ≡ 0) ↔ (readsMap q ≡ empty)
+  unfolding readsMap
+  reads-empty-iff = mapped-empty-iff (λ w. w .reference) q form
+
+  -- no read of the reference is outstanding
+  pub reads-iff : (r : ℕ) → (reads q r ≡ false) ↔ OutstandingBlockReadsDoesNotHaveRef (readsMap q) r
+  unfolding readsMap reads
+  reads-iff r =
+      let h = mapped-none-iff (λ w. w .reference) q form (λ x. eqb x r) in
+      ((λ e id x m. eqb-false x r (h .0 e id x m)), (λ k. h .1 (λ id x m. ne-eqb x r (k id x m))))
+
+  -- OutstandingRead(ref) !in outstandingBlockReads.Values
+  pub not-read-iff : (r : ℕ) → (reads q r ≡ false) ↔ ((j : ℕ) → readsMap q j ≡ some r → ⊥)
+  not-read-iff r = (
+    (λ e j m. reads-iff r .0 e j r m refl),
+    (λ h. reads-iff r .1 (λ id x m s. h id (m ∙ ap some s))),
+  )

@@ -1,0 +1,142 @@
+-- The next cache of each step: only what a step sets; every other part goes through a setter, one for each group of fields.
+use Prim.Native.Nat.{ℕ}
+use mathlib.Core.Bool.{_&&_, cond, false, not, true}
+use Rattle.blockcache.specs.Form.{loadingAt, notWaiting}
+use Rattle.blockcache.specs.Ops.{dopId, dopLoc, vopLoc}
+use Rattle.blockcache.specs.Scan.{reads}
+use Rattle.blockcache.specs.declared.Awaited.{Awaited}
+use Rattle.blockcache.specs.declared.Cache.{Cache}
+use Rattle.blockcache.specs.declared.Call.{Call}
+use Rattle.blockcache.specs.declared.Outstanding.{Outstanding}
+use Rattle.blockcache.specs.declared.Phase.the-variants.{Loading, Ready}
+use Rattle.blockcache.specs.declared.Places.{Places}
+use Rattle.blockcache.specs.declared.Tables.{Tables}
+use Rattle.disklayout.specs.declared.Location.{Location}
+use Rattle.queue.specs.Queue.{entryOf, insertOf, removeOf}
+use Rattle.queue.specs.declared.Requests.{Requests}
+use Rattle.sectortype.specs.Form.{emptyTable, entryAt, withEntry, withSlot, zeroEntry, zeroLoc, zeroSlot}
+use Rattle.sectortype.specs.declared.Entry.{Entry}
+use Rattle.sectortype.specs.declared.Node.{Node}
+use Rattle.sectortype.specs.declared.Nodes.{Nodes}
+use Rattle.sectortype.specs.declared.Slot.{Slot}
+use Rattle.sectortype.specs.declared.Succs.{Succs}
+use Rattle.sectortype.specs.declared.Table.{Table}
+
+-- THE SETTERS
+
+abbrev pub withTables : Cache → Tables → Cache
+withTables c ts = record { phase = c .phase; tables = ts; places = c .places; awaited = c .awaited; outstanding = c .outstanding; nodes = c .nodes }
+
+abbrev pub withPlaces : Cache → Places → Cache
+withPlaces c ps = record { phase = c .phase; tables = c .tables; places = ps; awaited = c .awaited; outstanding = c .outstanding; nodes = c .nodes }
+
+abbrev pub withAwaited : Cache → Awaited → Cache
+withAwaited c a = record { phase = c .phase; tables = c .tables; places = c .places; awaited = a; outstanding = c .outstanding; nodes = c .nodes }
+
+abbrev pub withOutstanding : Cache → Outstanding → Cache
+withOutstanding c o = record { phase = c .phase; tables = c .tables; places = c .places; awaited = c .awaited; outstanding = o; nodes = c .nodes }
+
+abbrev pub withNodes : Cache → Nodes → Cache
+withNodes c m = record { phase = c .phase; tables = c .tables; places = c .places; awaited = c .awaited; outstanding = c .outstanding; nodes = m }
+
+abbrev pub withEphemeral : Cache → Table → Cache
+withEphemeral c t =
+    withTables c (record { persistent = c .tables .persistent; ephemeral = t; isfrozen = c .tables .isfrozen; frozen = c .tables .frozen })
+
+abbrev pub withWrites : Cache → Requests → Cache
+withWrites c w = withOutstanding c (record { writes = w; reads = c .outstanding .reads })
+
+abbrev pub withReads : Cache → Requests → Cache
+withReads c r = withOutstanding c (record { writes = c .outstanding .writes; reads = r })
+
+-- WHAT IS SET
+
+-- assignRefToLocation
+unfoldable pub assigned : Table → ℕ → Location → Table
+assigned t r l =
+    cond (entryAt t r .allocated && not (entryAt t r .located))
+    (withEntry t r (record { allocated = true; located = true; loc = l; succs = entryAt t r .succs }))
+    t
+
+abbrev pub waitingFor : ℕ → Awaited
+waitingFor id = record { waiting = true; id = id }
+
+-- a reference's node set: its own list into the graph, order and repeats kept, and no location
+abbrev pub unlocated : Succs → Entry
+unlocated s = record { allocated = true; located = false; loc = zeroLoc; succs = s }
+
+abbrev pub cachedSlot : Node → Slot
+cachedSlot n = record { present = true; node = n }
+
+-- THE STEPS
+
+module _ (c : Cache) (r : ℕ) (q : Call) where
+  abbrev id : ℕ
+  id = dopId (q .dop)
+
+  abbrev loc : Location
+  loc = dopLoc (q .dop)
+
+  abbrev pub next1 : Cache
+  next1 =
+      withWrites
+      (withTables c
+      (record { persistent = c .tables .persistent; ephemeral = assigned (c .tables .ephemeral) r loc; isfrozen = c .tables .isfrozen; frozen = assigned (c .tables .frozen) r loc }))
+      (insertOf (c .outstanding .writes) (record { id = id; reference = r; loc = loc }))
+
+  abbrev pub next2 : Cache
+  next2 = withWrites c (removeOf (c .outstanding .writes) id)
+
+  abbrev pub next3 : Cache
+  next3 = withAwaited (withPlaces c (record { persistent = c .places .persistent; isfrozen = true; frozen = loc })) (waitingFor id)
+
+  abbrev pub next4 : Cache
+  next4 = withAwaited c notWaiting
+
+  abbrev pub next5 : Cache
+  next5 = withNodes (withEphemeral c (withEntry (c .tables .ephemeral) r zeroEntry)) (withSlot (c .nodes) r zeroSlot)
+
+  abbrev pub next6 : Cache
+  next6 = withReads c (insertOf (c .outstanding .reads) (record { id = id; reference = r; loc = zeroLoc }))
+
+  abbrev pub next7 : Cache
+  next7 =
+      withReads (withNodes c (withSlot (c .nodes) (entryOf (c .outstanding .reads) id .reference) (cachedSlot (q .node))))
+      (removeOf (c .outstanding .reads) id)
+
+  abbrev pub next8 : Cache
+  next8 = withAwaited c (waitingFor id)
+
+  abbrev pub next9 : Cache
+  next9 =
+      record {
+        phase = Ready;
+        tables = record { persistent = q .table; ephemeral = q .table; isfrozen = false; frozen = emptyTable };
+        places = c .places;
+        awaited = notWaiting;
+        outstanding = c .outstanding;
+        nodes = c .nodes;
+      }
+
+  abbrev pub next10 : Cache
+  next10 = loadingAt Loading (vopLoc (q .vop))
+
+  abbrev pub next11 : Cache
+  next11 = withNodes c (withSlot (c .nodes) r zeroSlot)
+
+  -- a frozen place, if set, is dropped
+  abbrev pub next12 : Cache
+  next12 =
+      withPlaces
+      (withTables c (record { persistent = c .tables .persistent; ephemeral = c .tables .ephemeral; isfrozen = true; frozen = c .tables .ephemeral }))
+      (record { persistent = c .places .persistent; isfrozen = false; frozen = zeroLoc })
+
+  abbrev pub next13 : Cache
+  next13 =
+      withPlaces
+      (withTables c (record { persistent = c .tables .frozen; ephemeral = c .tables .ephemeral; isfrozen = false; frozen = emptyTable }))
+      (record { persistent = c .places .frozen; isfrozen = false; frozen = zeroLoc })
+
+  -- Dirty and Alloc
+  abbrev pub next15 : Cache
+  next15 = withNodes (withEphemeral c (withEntry (c .tables .ephemeral) r (unlocated (q .node .succs)))) (withSlot (c .nodes) r (cachedSlot (q .node)))

@@ -1,0 +1,62 @@
+-- What a step's refusals ask of the whole cache.
+use Prim.Native.Nat.{ℕ}
+use mathlib.Core.Bool.{Bool, _&&_, _||_, not, true}
+use lib.Dec.{eqb, ltb}
+use Rattle.base.specs.Scan.{someBelow}
+use Rattle.blockcache.specs.declared.Tables.{Tables}
+use Rattle.blockdisk.specs.declared.Brought.{Brought}
+use Rattle.blockdisk.specs.declared.Brought.the-variants.{Nothing, Something}
+use Rattle.disklayout.specs.declared.Location.{Location}
+use Rattle.queue.specs.Queue.{requestAt}
+use Rattle.queue.specs.declared.Requests.{Requests}
+use Rattle.sectortype.specs.Form.{entryAt, succAt}
+use Rattle.sectortype.specs.Graph.{DistinctAddrs, WFCompleteIndirectionTable, allocatedIn, holdsAddr, locatedIn, sameSet}
+use Rattle.sectortype.specs.Same.{sameLoc}
+use Rattle.sectortype.specs.declared.Entry.{Entry}
+use Rattle.sectortype.specs.declared.Node.{Node}
+use Rattle.sectortype.specs.declared.Table.{Table}
+
+-- an outstanding write has the address
+unfoldable pub writeHolds : Requests → ℕ → Bool
+writeHolds q a = someBelow (λ k. ltb k (q .count) && eqb (requestAt q k .loc .addr) a) 16
+
+-- a read of the reference is outstanding
+unfoldable pub reads : Requests → ℕ → Bool
+reads q r = someBelow (λ k. ltb k (q .count) && eqb (requestAt q k .reference) r) 16
+
+-- a write of the reference to this very location is outstanding
+unfoldable pub writesTo : Requests → ℕ → Location → Bool
+writesTo q r l = someBelow (λ k. ltb k (q .count) && eqb (requestAt q k .reference) r && sameLoc (requestAt q k .loc) l) 16
+
+-- some allocated reference lacks a location
+unfoldable pub NoLocation : Table → Bool
+NoLocation t = someBelow (λ r. allocatedIn t r && not (locatedIn t r)) 64
+
+-- place j of a list of n, which holds s, is in use and names r
+abbrev pub namesAt : ℕ → ℕ → ℕ → ℕ → Bool
+namesAt n j s r = ltb j n && eqb s r
+
+abbrev pub listNames : Entry → ℕ → Bool
+listNames e r = someBelow (λ j. e .allocated && namesAt (e .succs .count) j (succAt (e .succs) j) r) 8
+
+-- some list in the graph names r, its own included
+unfoldable pub named : Table → ℕ → Bool
+named t r = someBelow (λ i. listNames (entryAt t i) r) 64
+
+-- 7: the address is held by the persistent, ephemeral or frozen table or an outstanding write
+unfoldable pub heldIn : Tables → Requests → ℕ → Bool
+heldIn ts q a = holdsAddr (ts .persistent) a || holdsAddr (ts .ephemeral) a || (ts .isfrozen && holdsAddr (ts .frozen) a) || writeHolds q a
+
+-- FZ: the frozen table has the reference in its graph without a location
+abbrev pub needsCached : Tables → ℕ → Bool
+needsCached ts r = ts .isfrozen && entryAt (ts .frozen) r .allocated && not (entryAt (ts .frozen) r .located)
+
+-- 9 of a node's page-in: nothing brought, or its successors differ from the graph's as sets
+abbrev pub wrongNode : Brought → Bool → Entry → Node → Bool
+wrongNode Something known e n = known && e .allocated && not (sameSet (e .succs) (n .succs))
+wrongNode Nothing known e n = true
+
+-- 9 of a table's page-in: nothing brought, not WFCompleteIndirectionTable, or two references at one address
+abbrev pub wrongTable : Brought → ℕ → Table → Bool
+wrongTable Something d t = not (WFCompleteIndirectionTable d t) || not (DistinctAddrs t)
+wrongTable Nothing d t = true

@@ -1,0 +1,81 @@
+// Upstream's BlockCache as definitions: phases, three tables, what is outstanding and the cached nodes; what each of steps 1 to 18
+// answers and leaves, upstream's predicates, and the theorem of demand 2. No code: `cache` has the step.
+use blockdisk::DiskOp;
+use disklayout::Location;
+use queue::Requests;
+use sectortype::Node;
+use sectortype::Nodes;
+use sectortype::Table;
+
+pub enum Phase {
+    Unready,
+    Loading,
+    Ready,
+}
+
+// The three tables of a Ready cache; the frozen one with a flag beside it.
+pub struct Tables {
+    pub persistent: Table,
+    pub ephemeral: Table,
+    pub isfrozen: bool,
+    pub frozen: Table,
+}
+
+// The persistent table's place (while Loading, the place being loaded) and the frozen table's, with a flag beside it.
+pub struct Places {
+    pub persistent: Location,
+    pub isfrozen: bool,
+    pub frozen: Location,
+}
+
+// The id of the table request that is waited for: while Loading a read, while Ready a write.
+pub struct Awaited {
+    pub waiting: bool,
+    pub id: u64,
+}
+
+// The node requests that are waited for: writes with reference and location, reads with the reference alone.
+pub struct Outstanding {
+    pub writes: Requests,
+    pub reads: Requests,
+}
+
+pub struct Cache {
+    pub phase: Phase,
+    pub tables: Tables,
+    pub places: Places,
+    pub awaited: Awaited,
+    pub outstanding: Outstanding,
+    pub nodes: Nodes,
+}
+
+// Upstream's VOp. An AdvanceOp tells whether its uiop is NoOp; the two Send operations carry a location.
+pub enum VersionOp {
+    StatesInternalOp,
+    JournalInternalOp,
+    SendPersistentLocOp(Location),
+    SendFrozenLocOp(Location),
+    AdvanceOp(bool),
+    FreezeOp,
+    CleanUpOp,
+    PushSyncOp,
+    PopSyncOp,
+    CrashOp,
+}
+
+// A step's arguments: the reference, the version operation, the disk operation with its node and its table.
+pub struct Call {
+    pub reference: u64,
+    pub vop: VersionOp,
+    pub dop: DiskOp,
+    pub node: Node,
+    pub table: Table,
+}
+
+// What a step of the cache returns: document 01's number, the node of a read (zeros with every other answer), and the cache,
+// unchanged where the number is not 0.
+pub struct CacheOutcome {
+    pub answer: u64,
+    pub node: Node,
+    pub cache: Cache,
+}

@@ -1,0 +1,80 @@
+-- The disk's one written form on device d.
+use Prim.Native.Nat.{ℕ}
+use mathlib.Core.Bool.{Bool, _&&_, _||_, not}
+use mathlib.Core.List.{List}
+use lib.Dec.{eqb, ltb}
+use lib.ListN.{getD, length}
+use Rattle.base.specs.Scan.{allBelow}
+use Rattle.blockdisk.specs.Records.{noNodeRecord, noTableRecord}
+use Rattle.blockdisk.specs.declared.Checked.{Checked}
+use Rattle.blockdisk.specs.declared.Disk.{Disk}
+use Rattle.blockdisk.specs.declared.NodeRecord.{NodeRecord}
+use Rattle.blockdisk.specs.declared.Queues.{Queues}
+use Rattle.blockdisk.specs.declared.Records.{Records}
+use Rattle.blockdisk.specs.declared.TableRecord.{TableRecord}
+use Rattle.disklayout.specs.Blocks.{NodePlace, NodePlaceIn, TablePlaceIn}
+use Rattle.disklayout.specs.Calls.{flag}
+use Rattle.disklayout.specs.Device.{deviceOf, made}
+use Rattle.disklayout.specs.Layout.{ValidIndirectionTableLocation}
+use Rattle.queue.specs.Queue.{requestAt, requestsForm}
+use Rattle.queue.specs.declared.Request.{Request}
+use Rattle.queue.specs.declared.Requests.{Requests}
+use Rattle.sectortype.specs.Form.{locZero, nodeForm, nodeZero, tableForm}
+
+-- an absent record is zeros; one that is there lies in area k
+unfoldable pub tableRecordChecked : ℕ → ℕ → TableRecord → Checked
+tableRecordChecked d k r =
+    record {
+      form = tableForm (r .table) && (r .present || (locZero (r .loc) && eqb (r .table .count) 0));
+      placed = not (r .present) || flag d (TablePlaceIn (deviceOf d) k (r .loc)) .yes;
+    }
+
+-- an absent record is zeros; one that is there lies in block k
+unfoldable pub nodeRecordChecked : ℕ → ℕ → NodeRecord → Checked
+nodeRecordChecked d k r =
+    record {
+      form = nodeForm (r .node) && (r .present || (locZero (r .loc) && nodeZero (r .node)));
+      placed = not (r .present) || flag d (NodePlaceIn (deviceOf d) k (r .loc)) .yes;
+    }
+
+unfoldable pub tablesChecked : ℕ → List TableRecord → Checked
+tablesChecked d l =
+    record {
+      form = tableRecordChecked d 0 (getD l 0 noTableRecord) .form && tableRecordChecked d 1 (getD l 1 noTableRecord) .form;
+      placed = tableRecordChecked d 0 (getD l 0 noTableRecord) .placed && tableRecordChecked d 1 (getD l 1 noTableRecord) .placed;
+    }
+
+unfoldable pub nodesChecked : ℕ → List NodeRecord → Checked
+nodesChecked d l =
+    record {
+      form = allBelow (λ k. nodeRecordChecked d k (getD l k noNodeRecord) .form) 128;
+      placed = allBelow (λ k. nodeRecordChecked d k (getD l k noNodeRecord) .placed) 128;
+    }
+
+-- form: two areas and 128 blocks, each record in its own form. placed: each in its own area or block
+unfoldable pub recordsChecked : ℕ → Records → Checked
+recordsChecked d r =
+    record {
+      form = eqb (length (r .tables)) 2 && eqb (length (r .nodes)) 128 && (tablesChecked d (r .tables) .form && nodesChecked d (r .nodes) .form);
+      placed = tablesChecked d (r .tables) .placed && nodesChecked d (r .nodes) .placed;
+    }
+
+-- a queued request has no reference, and a place that 16 allows
+abbrev pub tableRequestOk : ℕ → Request → Bool
+tableRequestOk d w = eqb (w .reference) 0 && flag d (ValidIndirectionTableLocation (deviceOf d) (w .loc)) .yes
+
+abbrev pub nodeRequestOk : ℕ → Request → Bool
+nodeRequestOk d w = eqb (w .reference) 0 && flag d (NodePlace (deviceOf d) (w .loc)) .yes
+
+unfoldable pub tableQueueForm : ℕ → Requests → Bool
+tableQueueForm d q = requestsForm q && allBelow (λ k. not (ltb k (q .count)) || tableRequestOk d (requestAt q k)) 16
+
+unfoldable pub nodeQueueForm : ℕ → Requests → Bool
+nodeQueueForm d q = requestsForm q && allBelow (λ k. not (ltb k (q .count)) || nodeRequestOk d (requestAt q k)) 16
+
+unfoldable pub queuesForm : ℕ → Queues → Bool
+queuesForm d qs =
+    tableQueueForm d (qs .tablereads) && nodeQueueForm d (qs .nodereads) && tableQueueForm d (qs .tablewrites) && nodeQueueForm d (qs .nodewrites)
+
+unfoldable pub diskForm : ℕ → Disk → Bool
+diskForm d s = made d && recordsChecked d (s .records) .form && recordsChecked d (s .records) .placed && queuesForm d (s .queues)

@@ -1,0 +1,144 @@
+-- A call of the disk as document 01 says it: refusals as rows, ascending, and the next disk.
+use Prim.Native.Nat.{ℕ}
+use mathlib.Core.Bool.{Bool, _&&_, cond, false, not, true}
+use mathlib.Core.List.{List, [], _∷_}
+use lib.Dec.{eqb, leb}
+use Rattle.base.specs.Refusals.{Row, _when_, answer}
+use Rattle.blockdisk.specs.Form.{diskForm}
+use Rattle.blockdisk.specs.Records.{readNode, readTable, withNode, withTable}
+use Rattle.blockdisk.specs.declared.Brought.{Brought}
+use Rattle.blockdisk.specs.declared.Brought.the-variants.{Nothing, Something}
+use Rattle.blockdisk.specs.declared.Disk.{Disk}
+use Rattle.blockdisk.specs.declared.DiskCall.{DiskCall}
+use Rattle.blockdisk.specs.declared.DiskOp.{DiskOp}
+use Rattle.blockdisk.specs.declared.DiskOp.the-variants.{NoDiskOp, ReqReadIndirectionTableOp, ReqReadNodeOp, ReqWriteIndirectionTableOp, ReqWriteNodeOp, RespReadIndirectionTableOp, RespReadNodeOp, RespWriteIndirectionTableOp, RespWriteNodeOp}
+use Rattle.blockdisk.specs.declared.DiskOutcome.{DiskOutcome}
+use Rattle.blockdisk.specs.declared.Records.{Records}
+use Rattle.blockdisk.specs.declared.Turn.{Turn}
+use Rattle.disklayout.specs.Blocks.{NodePlace}
+use Rattle.disklayout.specs.Calls.{flag}
+use Rattle.disklayout.specs.Device.{deviceOf}
+use Rattle.disklayout.specs.Layout.{ValidIndirectionTableLocation}
+use Rattle.disklayout.specs.declared.Location.{Location}
+use Rattle.queue.specs.Queue.{entryOf, hasOf, insertOf, removeOf}
+use Rattle.queue.specs.declared.Request.{Request}
+use Rattle.queue.specs.declared.Requests.{Requests}
+use Rattle.sectortype.specs.Form.{nodeForm, tableForm}
+use Rattle.sectortype.specs.Same.{sameNode, sameTable}
+use Rattle.sectortype.specs.declared.Node.{Node}
+use Rattle.sectortype.specs.declared.Table.{Table}
+
+-- WHAT A REQUEST AND AN ANSWER DO TO THEIR QUEUE
+
+abbrev pub requestOf : ℕ → Location → Request
+requestOf id l = record { id = id; reference = 0; loc = l }
+
+abbrev pub requestRows : Requests → ℕ → Bool → List Row
+requestRows q id allowed =
+    (15 when hasOf q id) ∷
+    (16 when not allowed) ∷
+    (18 when leb 16 (q .count)) ∷
+    []
+
+abbrev pub answerRows : Requests → ℕ → Bool → List Row
+answerRows q id wrong =
+    (15 when not (hasOf q id)) ∷
+    (17 when (hasOf q id && wrong)) ∷
+    []
+
+-- accepted: what is next; refused: what was
+abbrev pub settled : {A : Type 0} → List Row → A → A → A
+settled rows next old = cond (eqb (answer rows) 0) next old
+
+unfoldable pub requestTurn : Requests → ℕ → Location → Bool → Turn
+requestTurn q id l allowed =
+    record { answer = answer (requestRows q id allowed); queue = settled (requestRows q id allowed) (insertOf q (requestOf id l)) q }
+
+unfoldable pub answerTurn : Requests → ℕ → Bool → Turn
+answerTurn q id wrong = record { answer = answer (answerRows q id wrong); queue = settled (answerRows q id wrong) (removeOf q id) q }
+
+-- WHAT A READ ANSWER BRINGS
+
+abbrev pub somethingIn : Brought → Bool
+somethingIn Something = true
+somethingIn Nothing = false
+
+-- 17: something other than what is stored at exactly the place asked for
+unfoldable pub wrongTable : ℕ → Disk → ℕ → Brought → Table → Bool
+wrongTable d s id b t =
+    somethingIn b &&
+    not (readTable d (s .records) (entryOf (s .queues .tablereads) id .loc) .present && sameTable (readTable d (s .records) (entryOf (s .queues .tablereads) id .loc) .table) t)
+
+unfoldable pub wrongNode : ℕ → Disk → ℕ → Brought → Node → Bool
+wrongNode d s id b n =
+    somethingIn b &&
+    not (readNode d (s .records) (entryOf (s .queues .nodereads) id .loc) .present && sameNode (readNode d (s .records) (entryOf (s .queues .nodereads) id .loc) .node) n)
+
+-- THE ROWS OF EACH OPERATION
+
+abbrev pub tablePlace : ℕ → Location → Bool
+tablePlace d l = flag d (ValidIndirectionTableLocation (deviceOf d) l) .yes
+
+abbrev pub nodePlace : ℕ → Location → Bool
+nodePlace d l = flag d (NodePlace (deviceOf d) l) .yes
+
+abbrev pub opRows : ℕ → Disk → DiskOp → Node → Table → List Row
+opRows d s (ReqReadIndirectionTableOp id l) n t = requestRows (s .queues .tablereads) id (tablePlace d l)
+opRows d s (ReqReadNodeOp id l) n t = requestRows (s .queues .nodereads) id (nodePlace d l)
+opRows d s (ReqWriteIndirectionTableOp id l) n t = requestRows (s .queues .tablewrites) id (tablePlace d l)
+opRows d s (ReqWriteNodeOp id l) n t = requestRows (s .queues .nodewrites) id (nodePlace d l)
+opRows d s (RespReadIndirectionTableOp id b) n t = answerRows (s .queues .tablereads) id (wrongTable d s id b t)
+opRows d s (RespReadNodeOp id b) n t = answerRows (s .queues .nodereads) id (wrongNode d s id b n)
+opRows d s (RespWriteIndirectionTableOp id) n t = answerRows (s .queues .tablewrites) id false
+opRows d s (RespWriteNodeOp id) n t = answerRows (s .queues .nodewrites) id false
+opRows d s NoDiskOp n t = []
+
+-- THE NEXT DISK OF EACH OPERATION
+
+abbrev pub withTableReads : Disk → Requests → Disk
+withTableReads s q =
+    record { records = s .records; queues = record { tablereads = q; nodereads = s .queues .nodereads; tablewrites = s .queues .tablewrites; nodewrites = s .queues .nodewrites } }
+
+abbrev pub withNodeReads : Disk → Requests → Disk
+withNodeReads s q =
+    record { records = s .records; queues = record { tablereads = s .queues .tablereads; nodereads = q; tablewrites = s .queues .tablewrites; nodewrites = s .queues .nodewrites } }
+
+abbrev pub withTableWrites : Disk → Requests → Disk
+withTableWrites s q =
+    record { records = s .records; queues = record { tablereads = s .queues .tablereads; nodereads = s .queues .nodereads; tablewrites = q; nodewrites = s .queues .nodewrites } }
+
+abbrev pub withNodeWrites : Disk → Requests → Disk
+withNodeWrites s q =
+    record { records = s .records; queues = record { tablereads = s .queues .tablereads; nodereads = s .queues .nodereads; tablewrites = s .queues .tablewrites; nodewrites = q } }
+
+abbrev pub withRecords : Disk → Records → Disk
+withRecords s r = record { records = r; queues = s .queues }
+
+abbrev pub nextDisk : ℕ → Disk → DiskOp → Node → Table → Disk
+nextDisk d s (ReqReadIndirectionTableOp id l) n t = withTableReads s (insertOf (s .queues .tablereads) (requestOf id l))
+nextDisk d s (ReqReadNodeOp id l) n t = withNodeReads s (insertOf (s .queues .nodereads) (requestOf id l))
+nextDisk d s (ReqWriteIndirectionTableOp id l) n t = withRecords (withTableWrites s (insertOf (s .queues .tablewrites) (requestOf id l))) (withTable d (s .records) l t)
+nextDisk d s (ReqWriteNodeOp id l) n t = withRecords (withNodeWrites s (insertOf (s .queues .nodewrites) (requestOf id l))) (withNode d (s .records) l n)
+nextDisk d s (RespReadIndirectionTableOp id b) n t = withTableReads s (removeOf (s .queues .tablereads) id)
+nextDisk d s (RespReadNodeOp id b) n t = withNodeReads s (removeOf (s .queues .nodereads) id)
+nextDisk d s (RespWriteIndirectionTableOp id) n t = withTableWrites s (removeOf (s .queues .tablewrites) id)
+nextDisk d s (RespWriteNodeOp id) n t = withNodeWrites s (removeOf (s .queues .nodewrites) id)
+nextDisk d s NoDiskOp n t = s
+
+-- THE CALL
+
+abbrev pub outcome : List Row → Disk → Disk → DiskOutcome
+outcome rows next old = record { answer = answer rows; disk = settled rows next old }
+
+abbrev pub obeyedOp : ℕ → Disk → DiskOp → Node → Table → DiskOutcome
+obeyedOp d s op n t = outcome (opRows d s op n t) (nextDisk d s op n t) s
+
+-- an operation on a disk in its written form
+unfoldable pub obeyed : ℕ → Disk → DiskCall → DiskOutcome
+obeyed d s c = obeyedOp d s (c .op) (c .node) (c .table)
+
+abbrev pub diskRows : ℕ → Disk → DiskCall → List Row
+diskRows d s c = (1 when not (diskForm d s && nodeForm (c .node) && tableForm (c .table))) ∷ opRows d s (c .op) (c .node) (c .table)
+
+unfoldable pub diskStep : ℕ → Disk → DiskCall → DiskOutcome
+diskStep d s c = outcome (diskRows d s c) (nextDisk d s (c .op) (c .node) (c .table)) s

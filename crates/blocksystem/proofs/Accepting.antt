@@ -1,0 +1,99 @@
+-- What it is for a joined call to be accepted, and the cache and disk that it then hands back. Assumes nothing.
+use Prim.Native.Nat.{ℕ}
+use mathlib.Core.Bool.{false, true}
+use mathlib.Core.Logic.{_↔_}
+use mathlib.Core.Option.{some}
+use mathlib.Core.Path.{_∙_, _≡_, ap, sym}
+use lib.Dec.{eqb}
+use borrow.Author.Tests.{eq-eqb}
+use Rattle.base.proofs.Refusals.{lowest-zero}
+use Rattle.base.proofs.Tests.{never}
+use Rattle.base.specs.Refusals.{answer, lowest}
+use Rattle.blockcache.proofs.Outcomes.{step-answer, step-taken}
+use Rattle.blockcache.specs.Step.{cacheRows, cacheStep, stepNext}
+use Rattle.blockcache.specs.declared.Cache.{Cache}
+use Rattle.blockcache.specs.declared.Call.{Call}
+use Rattle.blockdisk.proofs.Crashing.{crash-keeps-node, crash-keeps-table}
+use Rattle.blockdisk.proofs.Outstanding.{places-none}
+use Rattle.blockdisk.proofs.Reading.{upstream-of, upstream-some}
+use Rattle.blockdisk.specs.Crash.{crashRows, crashed, diskCrash}
+use Rattle.blockdisk.specs.Ops.{diskRows, diskStep, nextDisk}
+use Rattle.blockdisk.specs.Upstream.{diskVars, places}
+use Rattle.blockdisk.specs.declared.Disk.{Disk}
+use Rattle.blockdisk.specs.declared.Records.{Records}
+use Rattle.queue.specs.Queue.{noRequests}
+use Rattle.blocksystem.proofs.Invariant.{NoneQueued}
+use Rattle.blocksystem.proofs.KeepQueues.{Survives}
+use Rattle.blocksystem.specs.Joined.{diskAsked, diskCall, joined, joinedAnswer, startRows}
+
+-- THE DISK'S HALF
+
+module _ (d : ℕ) (n : ℕ) (q : Call) (o : Records) (s : Disk) where
+  module _ (e : eqb n 18 ≡ false) where
+    pub disk-answer : diskAsked d n q o s .answer ≡ answer (diskRows d s (diskCall n q))
+    unfolding diskAsked diskStep
+    disk-answer = rw e
+
+    pub disk-next : answer (diskRows d s (diskCall n q)) ≡ 0 → diskAsked d n q o s .disk ≡ nextDisk d s (diskCall n q .op) (q .node) (q .table)
+    unfolding diskAsked diskStep
+    disk-next z = rw (e, eq-eqb _ _ z)
+
+  module _ (e : eqb n 18 ≡ true) where
+    pub crash-answer : diskAsked d n q o s .answer ≡ answer (crashRows d s o)
+    unfolding diskAsked diskCrash
+    crash-answer = rw e
+
+    pub crash-next : answer (crashRows d s o) ≡ 0 → diskAsked d n q o s .disk ≡ crashed o
+    unfolding diskAsked diskCrash
+    crash-next z = rw (e, eq-eqb _ _ z)
+
+-- a crash leaves what no write was outstanding for
+pub survives : (d : ℕ) (s : Disk) (o : Records) → answer (crashRows d s o) ≡ 0 → Survives (diskVars d s) (diskVars d (crashed o))
+survives d s o e =
+    record {
+      idle = record { no-table-reads = quiet; no-node-reads = quiet; no-table-writes = quiet; no-node-writes = quiet };
+      tables = λ k t h free.
+          let x = upstream-some d (s .records) k h in
+          upstream-of d o k (x .0) (crash-keeps-table d s o e k (x .0) (x .1) free) ∙ ap some (x .2);
+      nodes = λ k n h free. crash-keeps-node d s o e k n h free;
+    }
+  where
+    quiet : NoneQueued (places noRequests)
+    quiet id k h = never (rw places-none at h)
+
+-- BOTH
+
+module _ (d : ℕ) (n : ℕ) (q : Call) (o : Records) (c : Cache) (s : Disk) where
+  -- accepted exactly where cache, disk and the row of a start accept
+  pub joined-zero : (joinedAnswer d n q o c s ≡ 0) ↔ ((answer (cacheRows d c n q) ≡ 0) × (diskAsked d n q o s .answer ≡ 0) × (answer (startRows d n q s) ≡ 0))
+  unfolding joinedAnswer
+  joined-zero =
+      let a = cacheStep d c n q .answer in
+      let b = diskAsked d n q o s .answer in
+      let z = answer (startRows d n q s) in (
+        (λ e. let h = lowest-zero (lowest a b) z .0 e in let g = lowest-zero a b .0 (h .0) in (sym (step-answer d c n q) ∙ g .0, g .1, h .1)),
+        (λ h. lowest-zero (lowest a b) z .1 (lowest-zero a b .1 (step-answer d c n q ∙ h .0, h .1), h .2)),
+      )
+
+  module _ (e : joinedAnswer d n q o c s ≡ 0) where
+    pub joined-cache : joined d n q o c s .cache ≡ stepNext d c n (q .reference) q
+    unfolding joined
+    joined-cache = rw (eq-eqb _ _ e) (step-taken d c n q (joined-zero .0 e .0))
+
+    pub joined-disk : joined d n q o c s .disk ≡ diskAsked d n q o s .disk
+    unfolding joined
+    joined-disk = rw (eq-eqb _ _ e)
+
+    pub joined-node : joined d n q o c s .node ≡ cacheStep d c n q .node
+    unfolding joined
+    joined-node = rw (eq-eqb _ _ e)
+
+  -- refused, nothing moves
+  module _ (e : eqb (joinedAnswer d n q o c s) 0 ≡ false) where
+    pub refused-cache : joined d n q o c s .cache ≡ c
+    unfolding joined
+    refused-cache = rw e
+
+    pub refused-disk : joined d n q o c s .disk ≡ s
+    unfolding joined
+    refused-disk = rw e

@@ -1,0 +1,210 @@
+-- THE invariant: what holds of cache, disk and story after any list of joined calls. It is stated over what they stand for: the cache's and the
+-- disk's upstream variables, and the pictures as maps. Assumes nothing.
+use Prim.Native.Nat.{ℕ}
+use mathlib.Core.Bool.{true}
+use mathlib.Core.Option.{Option, none, some}
+use mathlib.Core.Path.{_≡_}
+use Rattle.base.specs.Maps.{Map, flagged, isSome}
+use Rattle.blockcache.specs.Form.{cacheForm}
+use Rattle.blockcache.specs.Steps.{cacheVars}
+use Rattle.blockcache.specs.Upstream.{AllLocationsForDifferentRefsDontOverlap, In, NoAddr, OutstandingWrite, Ready, SameSuccs, Variables, WFCompleteIndirectionTable, loadingIndirectionTable, ready, unready}
+use Rattle.blockcache.specs.UpstreamInv.{Inv}
+use Rattle.blockdisk.specs.Form.{diskForm}
+use Rattle.blockdisk.specs.Upstream.{Imap, Variables as DVariables, diskVars}
+use Rattle.disklayout.specs.Device.{made}
+use Rattle.disklayout.specs.declared.Location.{Location}
+use Rattle.sectortype.specs.Abstract.{IndirectionTable, nodesMap}
+use Rattle.sectortype.specs.Form.{nodesForm}
+use Rattle.sectortype.specs.declared.Node.{Node}
+use Rattle.sectortype.specs.declared.Succs.{Succs}
+use Rattle.blocksystem.specs.Run.{State}
+use Rattle.blocksystem.specs.declared.Story.{Story}
+
+-- THE STORY AS MAPS
+
+pub record Tale : Type 0 where
+  -- the place that formatting, a start or a clean-up left named, and its picture
+  pub place : Location
+  pub picture : Map Node
+  -- the frozen place that step 4 named, and its picture
+  pub second : Option Location
+  pub secondPicture : Map Node
+  pub working : Map Node
+  pub frozen : Map Node
+
+abbrev pub taleOf : Story → Tale
+taleOf t =
+    record {
+      place = t .first .place;
+      picture = nodesMap (t .first .picture);
+      second = flagged (t .second .present) (t .second .place);
+      secondPicture = nodesMap (t .second .picture);
+      working = nodesMap (t .working);
+      frozen = nodesMap (t .frozen);
+    }
+
+-- A NAMED PLACE
+
+-- nothing is queued
+abbrev pub NoneQueued : Map Location → Type 0
+NoneQueued queue = (id : ℕ) (k : Location) → queue id ≡ some k → ⊥
+
+-- no queued request has the address
+abbrev pub Quiet : Map Location → ℕ → Type 0
+Quiet queue a = (id : ℕ) (k : Location) → queue id ≡ some k → k .addr ≡ a → ⊥
+
+-- what is stored at exactly the location is the picture's node
+pub record Stands (nodes : Imap Node) (l : Location) (pictured : Option Node) : Type 0 where
+  pub node : Node
+  pub stored : nodes l ≡ some node
+  pub drawn : pictured ≡ some node
+
+-- each location of a table has its picture's node on the disk
+abbrev pub Located : Imap Node → Map Location → Map Node → Type 0
+Located nodes locs pic = (ref : ℕ) (l : Location) → locs ref ≡ some l → Stands nodes l (pic ref)
+
+-- a list of the graph is, as a set, the successors of the picture's node
+abbrev pub ListsAgree : Map Succs → Map Node → Type 0
+ListsAgree graph pic = (ref : ℕ) (list : Succs) (n : Node) → graph ref ≡ some list → pic ref ≡ some n → SameSuccs list n
+
+-- a named place l with the picture that belongs to it
+pub record Kept (d : ℕ) (tables : Imap IndirectionTable) (nodes : Imap Node) (tableWrites nodeWrites : Map Location) (l : Location) (pic : Map Node) : Type 0 where
+  -- a table is stored at exactly the place
+  pub table : IndirectionTable
+  pub stored : tables l ≡ some table
+  -- complete and well formed, no two references at one address
+  pub complete : WFCompleteIndirectionTable d table
+  pub distinct : AllLocationsForDifferentRefsDontOverlap table
+  -- each of its locations has the picture's node, and the picture has no other reference
+  pub located : Located nodes (table .locs) pic
+  pub no-more : (ref : ℕ) → table .locs ref ≡ none → pic ref ≡ none
+  pub lists : ListsAgree (table .graph) pic
+  -- no table write is queued in its area, and no node write at an address of the table
+  pub quiet : Quiet tableWrites (l .addr)
+  pub quiet-nodes : (ref : ℕ) (k : Location) → table .locs ref ≡ some k → Quiet nodeWrites (k .addr)
+
+abbrev pub KeptOn : ℕ → DVariables → Location → Map Node → Type 0
+KeptOn d v l pic = Kept d (v .indirectionTables) (v .nodes) (v .reqWriteIndirectionTables) (v .reqWriteNodes) l pic
+
+-- THE PARTS OF A READY STATE
+
+-- two maps have the same keys
+abbrev pub SameKeys : {A B : Type 0} → Map A → Map B → Type 0
+SameKeys a b = (ref : ℕ) → isSome (a ref) ≡ isSome (b ref)
+
+-- a cached reference of the graph has the picture's node
+abbrev pub Cached : Map Succs → Map Node → Map Node → Type 0
+Cached graph cache pic = (ref : ℕ) (n : Node) → In ref graph → cache ref ≡ some n → pic ref ≡ some n
+
+-- upstream's FrozenLoc: a frozen place is one that is set, and whose table write is answered
+abbrev pub frozenNow : Option ℕ → Option Location → Option Location
+frozenNow none loc = loc
+frozenNow (some id) loc = none
+
+-- the frozen table is stored at its place, if that is set
+abbrev pub FrozenStored : Imap IndirectionTable → Option Location → Option IndirectionTable → Type 0
+FrozenStored tables loc frozen = (l : Location) (t : IndirectionTable) → loc ≡ some l → frozen ≡ some t → tables l ≡ some t
+
+-- a queued table write is the one awaited, at the frozen place
+abbrev pub TableWritesAwaited : Map Location → Option ℕ → Option Location → Type 0
+TableWritesAwaited queue awaited loc = (id : ℕ) (k : Location) → queue id ≡ some k → (awaited ≡ some id) × (loc ≡ some k)
+
+-- a queued node write is one that the cache awaits, at the same place
+abbrev pub NodeWritesAwaited : Map Location → Map OutstandingWrite → Type 0
+NodeWritesAwaited queue writes = (id : ℕ) (k : Location) → queue id ≡ some k → (w : OutstandingWrite) × (writes id ≡ some w) × (w .loc ≡ k)
+
+-- a queued node read is one that the cache awaits, at the ephemeral location of its reference
+abbrev pub NodeReadsAwaited : Map Location → Map ℕ → Map Location → Type 0
+NodeReadsAwaited queue reading locs = (id : ℕ) (k : Location) → queue id ≡ some k → (ref : ℕ) × (reading id ≡ some ref) × (locs ref ≡ some k)
+
+-- a reference that is being read is allocated and not cached
+abbrev pub ReadsUncached : Map ℕ → Map Succs → Map Node → Type 0
+ReadsUncached reading graph cache = (id ref : ℕ) → reading id ≡ some ref → In ref graph × (cache ref ≡ none)
+
+-- no outstanding node write has the address of a location of the table
+abbrev pub WritesApart : Map OutstandingWrite → Map Location → Type 0
+WritesApart writes locs = (id : ℕ) (w : OutstandingWrite) → writes id ≡ some w → NoAddr locs (w .loc .addr)
+
+-- the frozen table and the frozen picture
+pub record FrozenOk (nodes : Imap Node) (t : IndirectionTable) (cache pic : Map Node) : Type 0 where
+  pub refs : SameKeys pic (t .graph)
+  pub lists : ListsAgree (t .graph) pic
+  pub located : Located nodes (t .locs) pic
+  -- a reference without a location is cached with the frozen picture's node
+  pub cached : (ref : ℕ) → In ref (t .graph) → t .locs ref ≡ none → (n : Node) × (cache ref ≡ some n) × (pic ref ≡ some n)
+
+-- THE INVARIANT, PHASE BY PHASE
+
+pub record ReadyOk (x : Ready) (v : DVariables) (t : Tale) : Type 0 where
+  -- the first named place is the persistent one, and the persistent table is stored there
+  pub persistent-place : t .place ≡ x .persistentIndirectionTableLoc
+  pub persistent-stored : v .indirectionTables (x .persistentIndirectionTableLoc) ≡ some (x .persistentIndirectionTable)
+  -- the second is the frozen one, while no write of it is outstanding
+  pub frozen-place : t .second ≡ frozenNow (x .outstandingIndirectionTableWrite) (x .frozenIndirectionTableLoc)
+  pub frozen-stored : FrozenStored (v .indirectionTables) (x .frozenIndirectionTableLoc) (x .frozenIndirectionTable)
+  -- the queues
+  pub table-reads : NoneQueued (v .reqReadIndirectionTables)
+  pub table-writes : TableWritesAwaited (v .reqWriteIndirectionTables) (x .outstandingIndirectionTableWrite) (x .frozenIndirectionTableLoc)
+  pub node-writes : NodeWritesAwaited (v .reqWriteNodes) (x .outstandingBlockWrites)
+  pub node-reads : NodeReadsAwaited (v .reqReadNodes) (x .outstandingBlockReads) (x .ephemeralIndirectionTable .locs)
+  pub reads-uncached : ReadsUncached (x .outstandingBlockReads) (x .ephemeralIndirectionTable .graph) (x .cache)
+  -- the working picture: the ephemeral references exactly, each with a node whose successors are its list; a located one has its node on the disk, a cached one in the cache
+  pub working-refs : SameKeys (t .working) (x .ephemeralIndirectionTable .graph)
+  pub working-lists : ListsAgree (x .ephemeralIndirectionTable .graph) (t .working)
+  pub located : Located (v .nodes) (x .ephemeralIndirectionTable .locs) (t .working)
+  pub cached : Cached (x .ephemeralIndirectionTable .graph) (x .cache) (t .working)
+  -- the frozen picture likewise
+  pub frozen : (f : IndirectionTable) → x .frozenIndirectionTable ≡ some f → FrozenOk (v .nodes) f (x .cache) (t .frozen)
+  -- no outstanding node write under the persistent table, nor under a frozen one whose place is set
+  pub persistent-apart : WritesApart (x .outstandingBlockWrites) (x .persistentIndirectionTable .locs)
+  pub frozen-apart : (l : Location) (f : IndirectionTable) → x .frozenIndirectionTableLoc ≡ some l → x .frozenIndirectionTable ≡ some f → WritesApart (x .outstandingBlockWrites) (f .locs)
+
+pub record LoadingOk (at : Location) (read : Option ℕ) (v : DVariables) (t : Tale) : Type 0 where
+  -- only the place being loaded is named, and its picture is the working one
+  pub place : t .place ≡ at
+  pub no-second : t .second ≡ none
+  pub working : t .working ≡ t .picture
+  -- a queued table read is the awaited one, at that place; the other queues are empty
+  pub table-reads : (id : ℕ) (k : Location) → v .reqReadIndirectionTables id ≡ some k → (read ≡ some id) × (k ≡ at)
+  pub no-node-reads : NoneQueued (v .reqReadNodes)
+  pub no-table-writes : NoneQueued (v .reqWriteIndirectionTables)
+  pub no-node-writes : NoneQueued (v .reqWriteNodes)
+
+-- Unready: nothing is queued
+pub record UnreadyOk (v : DVariables) : Type 0 where
+  pub no-table-reads : NoneQueued (v .reqReadIndirectionTables)
+  pub no-node-reads : NoneQueued (v .reqReadNodes)
+  pub no-table-writes : NoneQueued (v .reqWriteIndirectionTables)
+  pub no-node-writes : NoneQueued (v .reqWriteNodes)
+
+abbrev pub InPhase : Variables → DVariables → Tale → Type 0
+InPhase (ready x) v t = ReadyOk x v t
+InPhase (loadingIndirectionTable at read) v t = LoadingOk at read v t
+InPhase unready v t = UnreadyOk v
+
+-- of the abstract states
+pub record Whole (d : ℕ) (s : Variables) (v : DVariables) (t : Tale) : Type 0 where
+  -- upstream's Inv, widened
+  pub inv : Inv d s
+  -- each named place is kept
+  pub first : KeptOn d v (t .place) (t .picture)
+  pub second : (l : Location) → t .second ≡ some l → KeptOn d v l (t .secondPicture)
+  -- two named places lie in different areas
+  pub apart : (l : Location) → t .second ≡ some l → l .addr ≡ t .place .addr → ⊥
+  pub phase : InPhase s v t
+
+-- each picture is in its form
+pub record StoryForm (t : Story) : Type 0 where
+  pub first : nodesForm (t .first .picture) ≡ true
+  pub second : nodesForm (t .second .picture) ≡ true
+  pub working : nodesForm (t .working) ≡ true
+  pub frozen : nodesForm (t .frozen) ≡ true
+
+-- of the structs
+pub record Invariant (d : ℕ) (s : State) : Type 0 where
+  pub made-device : made d ≡ true
+  pub cache-form : cacheForm (s .cache) ≡ true
+  pub disk-form : diskForm d (s .disk) ≡ true
+  pub story-form : StoryForm (s .story)
+  pub first-named : s .story .first .present ≡ true
+  pub whole : Whole d (cacheVars (s .cache)) (diskVars d (s .disk)) (taleOf (s .story))

@@ -1,0 +1,263 @@
+-- The steps that change the cached nodes and the working picture keep the invariant: 7 PageInNodeResp, 11 Evict, 5 Unalloc, 15 Dirty, 16 Alloc. Assumes nothing.
+use Prim.Native.Nat.{ℕ}
+use mathlib.Core.Logic.{⊎-elim}
+use mathlib.Core.Option.{Option, none, some}
+use mathlib.Core.Path.{_∙_, _≡_, ap, refl, sym}
+use Rattle.base.proofs.Maps.{del-other, del-some, put-other, put-same, put-some}
+use Rattle.base.proofs.Tests.{never}
+use Rattle.base.specs.Maps.{Map, del, isSome, put}
+use Rattle.blockcache.specs.Upstream.{Alloc, Dirty, Evict, In, PageInNodeResp, Ready, SameSuccs, Unalloc, ready}
+use Rattle.blockcache.specs.UpstreamInv.{Inv}
+use Rattle.blockdisk.proofs.Moves.{nextVars}
+use Rattle.blockdisk.specs.Upstream.{AckReadNode, Imap, Variables as DVariables, respReadNode}
+use Rattle.disklayout.specs.declared.Location.{Location}
+use Rattle.sectortype.specs.Abstract.{IndirectionTable}
+use Rattle.sectortype.specs.declared.Node.{Node}
+use Rattle.sectortype.specs.declared.Succs.{Succs}
+use Rattle.blocksystem.proofs.Invariant.{FrozenOk, Tale, Whole}
+use Rattle.blocksystem.proofs.KeepTables.{ready-ext}
+use Rattle.blocksystem.proofs.Laws.{del-in, in-del, in-of, in-put, none-del, not-both, put-in, same-del, same-put, some-of}
+
+-- the working picture drawn anew
+abbrev pub drawnTale : Tale → Map Node → Tale
+drawnTale t w = record { place = t .place; picture = t .picture; second = t .second; secondPicture = t .secondPicture; working = w; frozen = t .frozen }
+
+-- the frozen table needs a cached node only of a reference that it doesn't locate
+module _ (nodes : Imap Node) (f : IndirectionTable) (cache pic : Map Node) (o : FrozenOk nodes f cache pic) (ref : ℕ) where
+  -- what is cached of another reference is as it was
+  pub frozen-cache : (cache' : Map Node) → ((k : ℕ) → In k (f .graph) → f .locs k ≡ none → k ≡ ref → ⊥) → ((k : ℕ) → (k ≡ ref → ⊥) → cache' k ≡ cache k) → FrozenOk nodes f cache' pic
+  frozen-cache cache' spared same =
+      record {
+        refs = o .refs;
+        lists = o .lists;
+        located = o .located;
+        cached = λ k g e. let c = o .cached k g e in (c .0, same k (spared k g e) ∙ c .1, c .2);
+      }
+
+  -- FZ: the frozen table has the reference with its location, or not at all
+  pub spared-located : (In ref (f .graph) → In ref (f .locs)) → (k : ℕ) → In k (f .graph) → f .locs k ≡ none → k ≡ ref → ⊥
+  spared-located h k g e q = not-both (f .locs) ref (h (rw q at g)) (rw q at e)
+
+  pub spared-uncached : cache ref ≡ none → (k : ℕ) → In k (f .graph) → f .locs k ≡ none → k ≡ ref → ⊥
+  spared-uncached h k g e q = let c = o .cached k g e in never (sym (rw (← q) at h) ∙ c .1)
+
+-- A NODE PAGED IN
+
+pub keep-page-in : (d : ℕ) (x y : Ready) (v v' : DVariables) (t : Tale) (id : ℕ) (n : Option Node) → Whole d (ready x) v t → Inv d (ready y) → PageInNodeResp x y id n → AckReadNode v v' id n →
+    Whole d (ready y) (nextVars v (respReadNode id n)) t
+keep-page-in d x y v v' t id n w i u a =
+    let p = w .phase in
+    rw (u .next)
+    (record {
+      inv = rw (u .next) at i;
+      first = w .first;
+      second = w .second;
+      apart = w .apart;
+      phase = record {
+        persistent-place = p .persistent-place;
+        persistent-stored = p .persistent-stored;
+        frozen-place = p .frozen-place;
+        frozen-stored = p .frozen-stored;
+        table-reads = p .table-reads;
+        table-writes = p .table-writes;
+        node-writes = p .node-writes;
+        node-reads = λ j k q.
+            let e = del-some (v .reqReadNodes) id j q in
+            let h = p .node-reads j k (e .1) in
+            (h .0, del-other (x .outstandingBlockReads) id j (e .0) ∙ h .1, h .2);
+        reads-uncached = λ j r q.
+            let e = del-some (x .outstandingBlockReads) id j q in
+            let h = p .reads-uncached j r (e .1) in
+            (h .0, put-other (x .cache) (u .ref) (u .block) r (λ z. e .0 (w .inv .reads-unique j id r (e .1) (rw z (u .there)))) ∙ h .1);
+        working-refs = p .working-refs;
+        working-lists = p .working-lists;
+        located = p .located;
+        cached = λ r m g q.
+            ⊎-elim (λ (z : (r ≡ u .ref) × (u .block ≡ m)). rw (z .0) (drawn ∙ ap some (z .1))) (λ z. p .cached r m g (z .1)) (put-some (x .cache) (u .ref) (u .block) r q);
+        frozen = λ f q.
+            let o = p .frozen f q in
+            frozen-cache (v .nodes) f (x .cache) (t .frozen) o (u .ref) (put (x .cache) (u .ref) (u .block)) (spared-uncached (v .nodes) f (x .cache) (t .frozen) o (u .ref) (u .not-cached))
+            (λ k ne. put-other (x .cache) (u .ref) (u .block) k ne);
+        persistent-apart = p .persistent-apart;
+        frozen-apart = p .frozen-apart;
+      };
+    })
+  where
+    -- what is brought is what is stored at the ephemeral location, the picture's node
+    drawn : t .working (u .ref) ≡ some (u .block)
+    drawn =
+        let l = some-of (v .reqReadNodes) id (a .there) in
+        let e = a .brought (l .0) (l .1) (ap isSome (u .brought)) in
+        let h = w .phase .node-reads id (l .0) (l .1) in
+        let same : some (u .ref) ≡ some (h .0) = sym (u .there) ∙ h .1 in
+        let r : u .ref ≡ h .0 = cc in
+        let s = w .phase .located (h .0) (l .0) (h .2) in
+        rw r (s .drawn ∙ sym (s .stored) ∙ sym e ∙ u .brought)
+
+-- A NODE LET GO
+
+pub keep-evict : (d : ℕ) (x y : Ready) (v : DVariables) (t : Tale) (ref : ℕ) → Whole d (ready x) v t → Inv d (ready y) → Evict x y ref → Whole d (ready y) v t
+keep-evict d x y v t ref w i u =
+    let p = w .phase in
+    rw (u .next)
+    (record {
+      inv = rw (u .next) at i;
+      first = w .first;
+      second = w .second;
+      apart = w .apart;
+      phase = record {
+        persistent-place = p .persistent-place;
+        persistent-stored = p .persistent-stored;
+        frozen-place = p .frozen-place;
+        frozen-stored = p .frozen-stored;
+        table-reads = p .table-reads;
+        table-writes = p .table-writes;
+        node-writes = p .node-writes;
+        node-reads = p .node-reads;
+        reads-uncached = λ j r q. let h = p .reads-uncached j r q in (h .0, none-del (x .cache) ref r (h .1));
+        working-refs = p .working-refs;
+        working-lists = p .working-lists;
+        located = p .located;
+        cached = λ r m g q. p .cached r m g (del-some (x .cache) ref r q .1);
+        frozen = λ f q.
+            let o = p .frozen f q in
+            frozen-cache (v .nodes) f (x .cache) (t .frozen) o ref (del (x .cache) ref) (spared-located (v .nodes) f (x .cache) (t .frozen) o ref (u .frozen-located f q)) (λ k ne. del-other (x .cache) ref k ne);
+        persistent-apart = p .persistent-apart;
+        frozen-apart = p .frozen-apart;
+      };
+    })
+
+-- THE WORKING PICTURE DRAWN
+
+-- the ephemeral table and the cached nodes set, all else as it was
+abbrev working : Ready → Map Location → Map Succs → Map Node → Ready
+working x locs graph cache =
+    record {
+      persistentIndirectionTable = x .persistentIndirectionTable;
+      frozenIndirectionTable = x .frozenIndirectionTable;
+      ephemeralIndirectionTable = record { locs = locs; graph = graph };
+      persistentIndirectionTableLoc = x .persistentIndirectionTableLoc;
+      frozenIndirectionTableLoc = x .frozenIndirectionTableLoc;
+      outstandingIndirectionTableWrite = x .outstandingIndirectionTableWrite;
+      outstandingBlockWrites = x .outstandingBlockWrites;
+      outstandingBlockReads = x .outstandingBlockReads;
+      cache = cache;
+    }
+
+table-of : {t : IndirectionTable} {l : Map Location} {g : Map Succs} → t .locs ≡ l → t .graph ≡ g → t ≡ record { locs = l; graph = g }
+table-of a b = λ i. record { locs = a i; graph = b i }
+
+pub keep-unalloc : (d : ℕ) (x y : Ready) (v : DVariables) (t : Tale) (ref : ℕ) → Whole d (ready x) v t → Inv d (ready y) → Unalloc x y ref → Whole d (ready y) v (drawnTale t (del (t .working) ref))
+keep-unalloc d x y v t ref w i u =
+    let p = w .phase in
+    let is : y ≡ working x (del (x .ephemeralIndirectionTable .locs) ref) (del (x .ephemeralIndirectionTable .graph) ref) (del (x .cache) ref) =
+    let e = table-of (u .locs') (u .graph') in search ready-ext in
+    rw is
+    (record {
+      inv = rw is at i;
+      first = w .first;
+      second = w .second;
+      apart = w .apart;
+      phase = record {
+        persistent-place = p .persistent-place;
+        persistent-stored = p .persistent-stored;
+        frozen-place = p .frozen-place;
+        frozen-stored = p .frozen-stored;
+        table-reads = p .table-reads;
+        table-writes = p .table-writes;
+        node-writes = p .node-writes;
+        node-reads = λ j k q.
+            let h = p .node-reads j k q in
+            (h .0, h .1, del-other (x .ephemeralIndirectionTable .locs) ref (h .0) (u .not-read j (h .0) (h .1)) ∙ h .2);
+        reads-uncached = λ j r q.
+            let h = p .reads-uncached j r q in
+            (in-del (x .ephemeralIndirectionTable .graph) ref r (h .0) (u .not-read j r q), none-del (x .cache) ref r (h .1));
+        working-refs = same-del (t .working) (x .ephemeralIndirectionTable .graph) (p .working-refs) ref;
+        working-lists = λ r list n a b. p .working-lists r list n (del-some (x .ephemeralIndirectionTable .graph) ref r a .1) (del-some (t .working) ref r b .1);
+        located = λ r l q.
+            let e = del-some (x .ephemeralIndirectionTable .locs) ref r q in
+            let s = p .located r l (e .1) in
+            record { node = s .node; stored = s .stored; drawn = del-other (t .working) ref r (e .0) ∙ s .drawn };
+        cached = λ r m g q.
+            let e = del-in (x .ephemeralIndirectionTable .graph) ref r g in
+            del-other (t .working) ref r (e .0) ∙ p .cached r m (e .1) (del-some (x .cache) ref r q .1);
+        frozen = λ f q.
+            let o = p .frozen f q in
+            frozen-cache (v .nodes) f (x .cache) (t .frozen) o ref (del (x .cache) ref) (spared-located (v .nodes) f (x .cache) (t .frozen) o ref (u .frozen-located f q)) (λ k ne. del-other (x .cache) ref k ne);
+        persistent-apart = p .persistent-apart;
+        frozen-apart = p .frozen-apart;
+      };
+    })
+
+-- a reference's node set in the cache and the picture, its list in the graph; its location, if it had one, is dropped
+module _ (d : ℕ) (x y : Ready) (v : DVariables) (t : Tale) (ref : ℕ) (n : Node) (list : Succs) (locs : Map Location) (w : Whole d (ready x) v t) (i : Inv d (ready y)) where
+  abbrev put-ready : Ready
+  put-ready = working x locs (put (x .ephemeralIndirectionTable .graph) ref list) (put (x .cache) ref n)
+
+  keep-drawn : y ≡ put-ready → SameSuccs list n →
+      ((k : ℕ) (l : Location) → locs k ≡ some l → (k ≡ ref → ⊥) × (x .ephemeralIndirectionTable .locs k ≡ some l)) →
+      ((k : ℕ) → (k ≡ ref → ⊥) → locs k ≡ x .ephemeralIndirectionTable .locs k) →
+      ((id k : ℕ) → x .outstandingBlockReads id ≡ some k → k ≡ ref → ⊥) →
+      ((f : IndirectionTable) → x .frozenIndirectionTable ≡ some f → (k : ℕ) → In k (f .graph) → f .locs k ≡ none → k ≡ ref → ⊥) →
+      Whole d (ready y) v (drawnTale t (put (t .working) ref n))
+  keep-drawn is succs back there unread spared =
+      let p = w .phase in
+      rw is
+      (record {
+        inv = rw is at i;
+        first = w .first;
+        second = w .second;
+        apart = w .apart;
+        phase = record {
+          persistent-place = p .persistent-place;
+          persistent-stored = p .persistent-stored;
+          frozen-place = p .frozen-place;
+          frozen-stored = p .frozen-stored;
+          table-reads = p .table-reads;
+          table-writes = p .table-writes;
+          node-writes = p .node-writes;
+          node-reads = λ j k q. let h = p .node-reads j k q in (h .0, h .1, there (h .0) (unread j (h .0) (h .1)) ∙ h .2);
+          reads-uncached = λ j r q.
+              let h = p .reads-uncached j r q in
+              (in-put (x .ephemeralIndirectionTable .graph) ref list r (h .0), put-other (x .cache) ref n r (unread j r q) ∙ h .1);
+          working-refs = same-put (t .working) (x .ephemeralIndirectionTable .graph) (p .working-refs) ref n list;
+          working-lists = λ r a m g q.
+              ⊎-elim
+              (λ (z : (r ≡ ref) × (list ≡ a)).
+              ⊎-elim (λ (y : (r ≡ ref) × (n ≡ m)). rw (← (z .1), ← (y .1)) succs) (λ y. absurd (y .0 (z .0))) (put-some (t .working) ref n r q))
+              (λ z. ⊎-elim (λ y. absurd (z .0 (y .0))) (λ y. p .working-lists r a m (z .1) (y .1)) (put-some (t .working) ref n r q))
+              (put-some (x .ephemeralIndirectionTable .graph) ref list r g);
+          located = λ r l q.
+              let e = back r l q in
+              let s = p .located r l (e .1) in
+              record { node = s .node; stored = s .stored; drawn = put-other (t .working) ref n r (e .0) ∙ s .drawn };
+          cached = λ r m g q.
+              ⊎-elim (λ (z : (r ≡ ref) × (n ≡ m)). rw (z .0) (put-same (t .working) ref n ∙ ap some (z .1)))
+              (λ z. put-other (t .working) ref n r (z .0) ∙ p .cached r m (put-in (x .ephemeralIndirectionTable .graph) ref list r g (z .0)) (z .1)) (put-some (x .cache) ref n r q);
+          frozen = λ f q. frozen-cache (v .nodes) f (x .cache) (t .frozen) (p .frozen f q) ref (put (x .cache) ref n) (spared f q) (λ k ne. put-other (x .cache) ref n k ne);
+          persistent-apart = p .persistent-apart;
+          frozen-apart = p .frozen-apart;
+        };
+      })
+
+pub keep-dirty : (d : ℕ) (x y : Ready) (v : DVariables) (t : Tale) (ref : ℕ) (n : Node) → Whole d (ready x) v t → Inv d (ready y) → Dirty x y ref n → Whole d (ready y) v (drawnTale t (put (t .working) ref n))
+keep-dirty d x y v t ref n w i u =
+    let locs = x .ephemeralIndirectionTable .locs in
+    keep-drawn d x y v t ref n (u .list) (del locs ref) w i
+    (let e = table-of (u .locs') (u .graph') in search ready-ext)
+    (u .succs)
+    (λ k l q. del-some locs ref k q)
+    (λ k ne. del-other locs ref k ne)
+    (λ id k q z. not-both (x .cache) ref (u .cached) (rw z at (w .phase .reads-uncached id k q .1)))
+    (λ f q. spared-located (v .nodes) f (x .cache) (t .frozen) (w .phase .frozen f q) ref (u .frozen-located f q))
+
+pub keep-alloc : (d : ℕ) (x y : Ready) (v : DVariables) (t : Tale) (ref : ℕ) (n : Node) → Whole d (ready x) v t → Inv d (ready y) → Alloc x y ref n → Whole d (ready y) v (drawnTale t (put (t .working) ref n))
+keep-alloc d x y v t ref n w i u =
+    let locs = x .ephemeralIndirectionTable .locs in
+    keep-drawn d x y v t ref n (u .list) locs w i
+    (let e = table-of (u .locs') (u .graph') in search ready-ext)
+    (u .succs)
+    (λ k l q. ((λ z. not-both (x .ephemeralIndirectionTable .graph) ref (rw z at (w .inv .ephemeral .keys k (in-of locs k q))) (u .not-allocated)), q))
+    (λ k ne. refl)
+    (λ id k q z. not-both (x .ephemeralIndirectionTable .graph) ref (rw z at (w .phase .reads-uncached id k q .0)) (u .not-allocated))
+    (λ f q. spared-uncached (v .nodes) f (x .cache) (t .frozen) (w .phase .frozen f q) ref (u .not-cached))

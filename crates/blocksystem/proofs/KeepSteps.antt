@@ -1,0 +1,177 @@
+-- Each of the cache's steps, joined with the disk's exact move, keeps the invariant: one law for each of upstream's steps. Assumes nothing.
+use Prim.Native.Nat.{ℕ}
+use mathlib.Core.Option.{some}
+use mathlib.Core.Path.{_∙_, _≡_, sym}
+use Rattle.base.proofs.Tests.{clash}
+use Rattle.base.specs.Maps.{Map, del, put}
+use Rattle.blockcache.specs.Steps.{NextStep, OnBoth, allocStep, cleanUpStep, dirtyStep, evictStep, freezeStep, noOpStep, pageInIndirectionTableReqStep, pageInIndirectionTableRespStep, pageInNodeReqStep, pageInNodeRespStep, readStep, receiveLocStep, unallocStep, writeBackIndirectionTableReqStep, writeBackIndirectionTableRespStep, writeBackNodeReqStep, writeBackNodeRespStep}
+use Rattle.blockcache.specs.Upstream.{Alloc, CleanUp, Dirty, Evict, Freeze, PageInNodeReq, PageInNodeResp, Ready, Unalloc, Variables, WriteBackIndirectionTableReq, WriteBackIndirectionTableResp, WriteBackNodeReq, WriteBackNodeResp, ready}
+use Rattle.blockcache.specs.UpstreamInv.{Inv}
+use Rattle.blockcache.specs.declared.VersionOp.{VersionOp}
+use Rattle.blockcache.specs.declared.VersionOp.the-variants.{SendFrozenLocOp, SendPersistentLocOp}
+use Rattle.blockdisk.proofs.Moves.{nextVars}
+use Rattle.blockdisk.specs.Upstream.{Dop, Next, Variables as DVariables}
+use Rattle.disklayout.proofs.Places.{table-overlap-iff}
+use Rattle.disklayout.specs.Device.{deviceOf}
+use Rattle.disklayout.specs.declared.Location.{Location}
+use Rattle.sectortype.specs.declared.Node.{Node}
+use Rattle.blocksystem.proofs.Invariant.{Tale, Whole}
+use Rattle.blocksystem.proofs.KeepNodes.{drawnTale, keep-alloc, keep-dirty, keep-evict, keep-page-in, keep-unalloc}
+use Rattle.blocksystem.proofs.KeepQueues.{Started, keep-idle, keep-read-req, keep-receive, keep-table-read, keep-write-resp}
+use Rattle.blocksystem.proofs.KeepTables.{cleanedTale, frozeTale, frozen-named, keep-clean-up, keep-freeze, keep-table-page-in, keep-table-resp, keep-table-write, namedTale}
+use Rattle.blocksystem.proofs.KeepWrite.{keep-write-req}
+
+-- both states are Ready
+on-both : {X : Type 0} (s s' : Variables) (P : Ready → Ready → Type 0) → OnBoth s s' P → ((x y : Ready) → s ≡ ready x → s' ≡ ready y → P x y → X) → X
+on-both s s' P h f = f (h .0) (h .2 .0) (h .1) (h .2 .1) (h .2 .2)
+
+module _ (d : ℕ) (s s' : Variables) (v v' : DVariables) (dop : Dop) (vop : VersionOp) (t : Tale) (w : Whole d s v t) (i : Inv d s') (disk : Next v v' dop) (move : v' ≡ nextVars v dop) where
+  pub kept1 : (ref : ℕ) → NextStep d s s' dop vop (writeBackNodeReqStep ref) → Whole d s' v' t
+  kept1 ref g =
+      let id = g .1 .0 in
+      let loc = g .1 .1 in
+      let n = g .1 .2 in
+      let b = g .1 .3 in
+      let h = g .1 .4 in
+      on-both s s' (λ x y. WriteBackNodeReq d x y id loc n ref) h
+      (λ x y ex ey u. rw (ey, move, b) (keep-write-req d x y v t id ref loc n (rw ex at w) u (rw ey at i)))
+
+  pub kept2 : NextStep d s s' dop vop writeBackNodeRespStep → Whole d s' v' t
+  kept2 g =
+      let id = g .1 .0 in
+      let b = g .1 .1 in
+      let h = g .1 .2 in
+      on-both s s' (λ x y. WriteBackNodeResp x y id) h
+      (λ x y ex ey u. rw (ey, move, b) (keep-write-resp d x y v t id (rw ex at w) (rw ey at i) u))
+
+  pub kept3 : NextStep d s s' dop vop writeBackIndirectionTableReqStep → Whole d s' v' t
+  kept3 g =
+      let id = g .1 .0 in
+      let loc = g .1 .1 in
+      let f = g .1 .2 in
+      let b = g .1 .3 in
+      let h = g .1 .4 in
+      on-both s s' (λ x y. WriteBackIndirectionTableReq d x y id loc f) h
+      (λ x y ex ey u. let k = rw ex at w in
+      rw (ey, move, b)
+      (keep-table-write d x y v t id loc f k (rw ey at i) u
+      (λ e. clash (table-overlap-iff (deviceOf d) loc (x .persistentIndirectionTableLoc) (u .valid) (k .inv .persistent-valid) .1 e) (u .apart))))
+
+  pub kept4 : (l : Location) → vop ≡ SendFrozenLocOp l → NextStep d s s' dop vop writeBackIndirectionTableRespStep → Whole d s' v' (namedTale t l)
+  kept4 l q g =
+      let m = g .0 in
+      let a = g .1 in
+      let id = g .2 .0 in
+      let b = g .2 .1 in
+      let h = g .2 .2 in
+      on-both s s' (λ x y. WriteBackIndirectionTableResp x y id m) h
+      (λ x y ex ey u. let h : SendFrozenLocOp m ≡ SendFrozenLocOp l = sym a ∙ q in
+      let e : m ≡ l = cc in
+      rw (ey, move, b) (rw e at (keep-table-resp d x y v t id m (rw ex at w) (rw ey at i) u)))
+
+  pub kept5 : (ref : ℕ) → NextStep d s s' dop vop (unallocStep ref) → Whole d s' v' (drawnTale t (del (t .working) ref))
+  kept5 ref g =
+      let b = g .1 in
+      let h = g .2 in
+      on-both s s' (λ x y. Unalloc x y ref) h
+      (λ x y ex ey u. rw (ey, move, b) (keep-unalloc d x y v t ref (rw ex at w) (rw ey at i) u))
+
+  pub kept6 : (ref : ℕ) → NextStep d s s' dop vop (pageInNodeReqStep ref) → Whole d s' v' t
+  kept6 ref g =
+      let id = g .1 .0 in
+      let loc = g .1 .1 in
+      let b = g .1 .2 in
+      let h = g .1 .3 in
+      on-both s s' (λ x y. PageInNodeReq x y id loc ref) h
+      (λ x y ex ey u. rw (ey, move, b) (keep-read-req d x y v t id ref loc (rw ex at w) (rw ey at i) u))
+
+  pub kept7 : NextStep d s s' dop vop pageInNodeRespStep → Whole d s' v' t
+  kept7 g =
+      let id = g .1 .0 in
+      let n = g .1 .1 in
+      let b = g .1 .2 in
+      let h = g .1 .3 in
+      on-both s s' (λ x y. PageInNodeResp x y id n) h
+      (λ x y ex ey u. let k = rw b at disk in rw (ey, move, b) (keep-page-in d x y v v' t id n (rw ex at w) (rw ey at i) u k))
+
+  pub kept8 : NextStep d s s' dop vop pageInIndirectionTableReqStep → Whole d s' v' t
+  kept8 g =
+      let id = g .1 .0 in
+      let loc = g .1 .1 in
+      let b = g .1 .2 in
+      let at = g .1 .3 .0 in
+      let read = g .1 .3 .1 in
+      let ex = g .1 .3 .2 in
+      let u = g .1 .3 .3 in
+      rw (move, b) (keep-table-read d at read s' v t id loc (rw ex at w) i u)
+
+  pub kept9 : NextStep d s s' dop vop pageInIndirectionTableRespStep → Whole d s' v' t
+  kept9 g =
+      let id = g .1 .0 in
+      let f = g .1 .1 in
+      let b = g .1 .2 in
+      let at = g .1 .3 .0 in
+      let read = g .1 .3 .1 in
+      let ex = g .1 .3 .2 in
+      let y = g .1 .3 .3 .0 in
+      let ey = g .1 .3 .3 .1 in
+      let u = g .1 .3 .3 .2 in
+      let k = rw b at disk in rw (ey, move, b) (keep-table-page-in d at read y v v' t id f (rw ex at w) (rw ey at i) u k)
+
+  pub kept10 : (l : Location) (t' : Tale) → vop ≡ SendPersistentLocOp l → Started t t' l → NextStep d s s' dop vop receiveLocStep → Whole d s' v' t'
+  kept10 l t' q n g =
+      let b = g .0 in
+      let m = g .1 .0 in
+      let a = g .1 .1 in
+      let u = g .1 .2 in
+      let h : SendPersistentLocOp m ≡ SendPersistentLocOp l = sym a ∙ q in
+      let e : m ≡ l = cc in
+      let r = rw (u .before, e) at u in
+      rw (move, b) (keep-receive d s' v t t' l (rw (u .before) at w) i r n)
+
+  pub kept11 : (ref : ℕ) → NextStep d s s' dop vop (evictStep ref) → Whole d s' v' t
+  kept11 ref g =
+      let b = g .1 in
+      let h = g .2 in
+      on-both s s' (λ x y. Evict x y ref) h
+      (λ x y ex ey u. rw (ey, move, b) (keep-evict d x y v t ref (rw ex at w) (rw ey at i) u))
+
+  pub kept12 : (blank : Map Node) → NextStep d s s' dop vop freezeStep → Whole d s' v' (frozeTale t blank)
+  kept12 blank g =
+      let b = g .1 in
+      let h = g .2 in
+      on-both s s' (λ x y. Freeze x y) h
+      (λ x y ex ey u. rw (ey, move, b) (keep-freeze d x y v t blank (rw ex at w) (rw ey at i) u))
+
+  -- the place that is left named is the one that was named as frozen
+  pub kept13 : (blank : Map Node) → NextStep d s s' dop vop cleanUpStep → (l : Location) × (t .second ≡ some l) × Whole d s' v' (cleanedTale t l blank)
+  kept13 blank g =
+      let b = g .1 in
+      let h = g .2 in
+      on-both s s' (λ x y. CleanUp x y) h
+      (λ x y ex ey u.
+      let k = rw ex at w in
+      (u .loc, frozen-named d x v t (u .loc) k (u .no-table-write) (u .frozen-loc), rw (ey, move, b) (keep-clean-up d x y v t blank k (rw ey at i) u)))
+
+  pub kept14 : NextStep d s s' dop vop noOpStep → Whole d s' v' t
+  kept14 g =
+      let u = g .1 in
+      rw (u .next, move) (keep-idle d s v t w dop (u .op))
+
+  pub kept15 : (ref : ℕ) (n : Node) → NextStep d s s' dop vop (dirtyStep ref n) → Whole d s' v' (drawnTale t (put (t .working) ref n))
+  kept15 ref n g =
+      let b = g .0 .1 in
+      let h = g .1 in
+      on-both s s' (λ x y. Dirty x y ref n) h
+      (λ x y ex ey u. rw (ey, move, b) (keep-dirty d x y v t ref n (rw ex at w) (rw ey at i) u))
+
+  pub kept16 : (ref : ℕ) (n : Node) → NextStep d s s' dop vop (allocStep ref n) → Whole d s' v' (drawnTale t (put (t .working) ref n))
+  kept16 ref n g =
+      let b = g .0 .1 in
+      let h = g .1 in
+      on-both s s' (λ x y. Alloc x y ref n) h
+      (λ x y ex ey u. rw (ey, move, b) (keep-alloc d x y v t ref n (rw ex at w) (rw ey at i) u))
+
+-- a read changes nothing; it takes no disk operation
+pub kept17 : (d : ℕ) (s s' : Variables) (v v' : DVariables) (dop : Dop) (vop : VersionOp) (t : Tale) (ref : ℕ) → Whole d s v t → v' ≡ v → NextStep d s s' dop vop (readStep ref) → Whole d s' v' t
+kept17 d s s' v v' dop vop t ref w e g = rw (g .0, e) w

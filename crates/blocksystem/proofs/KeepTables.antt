@@ -1,0 +1,290 @@
+-- The steps that move tables keep the invariant: 12 Freeze, 13 CleanUp, 3 and 4 the frozen table's write and its answer, 9 the table's page-in. Assumes nothing.
+use Prim.Native.Nat.{ℕ}
+use mathlib.Core.Logic.{⊎-elim}
+use mathlib.Core.Option.{Option, none, some}
+use mathlib.Core.Path.{_∙_, _≡_, ap, refl, sym}
+use Rattle.base.proofs.Maps.{del-some, put-some}
+use Rattle.base.proofs.Tests.{clash, never}
+use Rattle.base.specs.Maps.{Map, del, empty, isSome}
+use Rattle.blockcache.specs.Upstream.{CleanUp, Freeze, PageInIndirectionTableResp, Ready, WriteBackIndirectionTableReq, WriteBackIndirectionTableResp, loadingIndirectionTable, ready}
+use Rattle.blockcache.specs.UpstreamInv.{Inv}
+use Rattle.blockdisk.proofs.Moves.{nextVars}
+use Rattle.blockdisk.proofs.Reading.{replacing-other, replacing-same}
+use Rattle.blockdisk.specs.Upstream.{AckReadIndirectionTable, Variables as DVariables, reqWriteIndirectionTable, respReadIndirectionTable, respWriteIndirectionTable}
+use Rattle.disklayout.proofs.Places.{table-overlap-iff}
+use Rattle.disklayout.specs.Device.{deviceOf}
+use Rattle.disklayout.specs.declared.Location.{Location}
+use Rattle.sectortype.specs.Abstract.{IndirectionTable}
+use Rattle.sectortype.specs.declared.Node.{Node}
+use Rattle.blocksystem.proofs.Invariant.{FrozenOk, Kept, NoneQueued, ReadyOk, Tale, Whole}
+use Rattle.blocksystem.proofs.Laws.{fewer-del, frozen-none, kept-fewer, kept-keys, kept-table-write, not-both, same-none, some-of}
+
+-- FREEZE
+
+abbrev pub frozeTale : Tale → Map Node → Tale
+frozeTale t p = record { place = t .place; picture = t .picture; second = none; secondPicture = p; working = t .working; frozen = t .working }
+
+-- the ephemeral table with the working picture is what a frozen one is to be
+frozen-of-ephemeral : (d : ℕ) (x : Ready) (v : DVariables) (t : Tale) → Whole d (ready x) v t → FrozenOk (v .nodes) (x .ephemeralIndirectionTable) (x .cache) (t .working)
+frozen-of-ephemeral d x v t w =
+    let p = w .phase in
+    record {
+      refs = p .working-refs;
+      lists = p .working-lists;
+      located = p .located;
+      cached = λ ref g e.
+          ⊎-elim (λ c. let n = some-of (x .cache) ref c in (n .0, n .1, p .cached ref (n .0) g (n .1))) (λ l. not-both (x .ephemeralIndirectionTable .locs) ref l e) (w .inv .consistent ref g);
+    }
+
+pub keep-freeze : (d : ℕ) (x y : Ready) (v : DVariables) (t : Tale) (blank : Map Node) → Whole d (ready x) v t → Inv d (ready y) → Freeze x y → Whole d (ready y) v (frozeTale t blank)
+keep-freeze d x y v t blank w i u =
+    let p = w .phase in
+    rw (u .next)
+    (record {
+      inv = rw (u .next) at i;
+      first = w .first;
+      second = λ l q. never q;
+      apart = λ l q. never q;
+      phase = record {
+        persistent-place = p .persistent-place;
+        persistent-stored = p .persistent-stored;
+        frozen-place = sym (frozen-none (x .outstandingIndirectionTableWrite));
+        frozen-stored = λ l f q. never q;
+        table-reads = p .table-reads;
+        table-writes = λ j k q. never (sym (u .no-table-write) ∙ p .table-writes j k q .0);
+        node-writes = p .node-writes;
+        node-reads = p .node-reads;
+        reads-uncached = p .reads-uncached;
+        working-refs = p .working-refs;
+        working-lists = p .working-lists;
+        located = p .located;
+        cached = p .cached;
+        frozen = λ f q. let e : x .ephemeralIndirectionTable ≡ f = cc in rw (← e) (frozen-of-ephemeral d x v t w);
+        persistent-apart = p .persistent-apart;
+        frozen-apart = λ l f q. never q;
+      };
+    })
+
+-- CLEANUP
+
+abbrev pub cleanedTale : Tale → Location → Map Node → Tale
+cleanedTale t l p = record { place = l; picture = t .secondPicture; second = none; secondPicture = p; working = t .working; frozen = t .frozen }
+
+-- with no write of it outstanding, a frozen place that is set is named
+pub frozen-named : (d : ℕ) (x : Ready) (v : DVariables) (t : Tale) (l : Location) → Whole d (ready x) v t → x .outstandingIndirectionTableWrite ≡ none → x .frozenIndirectionTableLoc ≡ some l → t .second ≡ some l
+frozen-named d x v t l w a b = w .phase .frozen-place ∙ rw (a, b)
+
+pub keep-clean-up : (d : ℕ) (x y : Ready) (v : DVariables) (t : Tale) (blank : Map Node) → Whole d (ready x) v t → Inv d (ready y) → (u : CleanUp x y) → Whole d (ready y) v (cleanedTale t (u .loc) blank)
+keep-clean-up d x y v t blank w i u =
+    let p = w .phase in
+    rw (u .next)
+    (record {
+      inv = rw (u .next) at i;
+      first = w .second (u .loc) (frozen-named d x v t (u .loc) w (u .no-table-write) (u .frozen-loc));
+      second = λ l q. never q;
+      apart = λ l q. never q;
+      phase = record {
+        persistent-place = refl;
+        persistent-stored = p .frozen-stored (u .loc) (u .table) (u .frozen-loc) (u .frozen);
+        frozen-place = sym (frozen-none (x .outstandingIndirectionTableWrite));
+        frozen-stored = λ l f q. never q;
+        table-reads = p .table-reads;
+        table-writes = λ j k q. never (sym (u .no-table-write) ∙ p .table-writes j k q .0);
+        node-writes = p .node-writes;
+        node-reads = p .node-reads;
+        reads-uncached = p .reads-uncached;
+        working-refs = p .working-refs;
+        working-lists = p .working-lists;
+        located = p .located;
+        cached = p .cached;
+        frozen = λ f q. never q;
+        persistent-apart = p .frozen-apart (u .loc) (u .table) (u .frozen-loc) (u .frozen);
+        frozen-apart = λ l f q. never q;
+      };
+    })
+
+-- THE FROZEN TABLE WRITTEN
+
+pub keep-table-write : (d : ℕ) (x y : Ready) (v : DVariables) (t : Tale) (id : ℕ) (loc : Location) (f : IndirectionTable) → Whole d (ready x) v t → Inv d (ready y) →
+    WriteBackIndirectionTableReq d x y id loc f → (loc .addr ≡ x .persistentIndirectionTableLoc .addr → ⊥) → Whole d (ready y) (nextVars v (reqWriteIndirectionTable id loc f)) t
+keep-table-write d x y v t id loc f w i u apart =
+    let p = w .phase in
+    let none-second : t .second ≡ none = p .frozen-place ∙ rw (u .no-loc) (frozen-none (x .outstandingIndirectionTableWrite)) in
+    rw (u .next)
+    (record {
+      inv = rw (u .next) at i;
+      first = kept-table-write d (v .indirectionTables) (v .nodes) (v .reqWriteIndirectionTables) (v .reqWriteNodes) (t .place) (t .picture) (w .first) id loc f (λ e. apart (e ∙ ap (λ l. l .addr) (p .persistent-place)));
+      second = λ l q. never (sym none-second ∙ q);
+      apart = λ l q. never (sym none-second ∙ q);
+      phase = record {
+        persistent-place = p .persistent-place;
+        persistent-stored = replacing-other (v .indirectionTables) loc f (x .persistentIndirectionTableLoc) (λ e. apart (sym e)) ∙ p .persistent-stored;
+        frozen-place = none-second;
+        frozen-stored = λ l g a b.
+            let e : loc ≡ l = cc in
+            let h : some f ≡ some g = sym (u .frozen) ∙ b in
+            rw (← e) (replacing-same (v .indirectionTables) loc f ∙ h);
+        table-reads = p .table-reads;
+        table-writes = λ j k q.
+            ⊎-elim (λ (z : (j ≡ id) × (loc ≡ k)). (ap some (sym (z .0)), ap some (z .1))) (λ z. never (sym (u .no-loc) ∙ p .table-writes j k (z .1) .1))
+            (put-some (v .reqWriteIndirectionTables) id loc j q);
+        node-writes = p .node-writes;
+        node-reads = p .node-reads;
+        reads-uncached = p .reads-uncached;
+        working-refs = p .working-refs;
+        working-lists = p .working-lists;
+        located = p .located;
+        cached = p .cached;
+        frozen = p .frozen;
+        persistent-apart = p .persistent-apart;
+        frozen-apart = λ l g a b j z q. never (ap (λ m. m j) (sym (u .no-writes)) ∙ q);
+      };
+    })
+
+abbrev pub namedTale : Tale → Location → Tale
+namedTale t l = record { place = t .place; picture = t .picture; second = some l; secondPicture = t .frozen; working = t .working; frozen = t .frozen }
+
+pub keep-table-resp : (d : ℕ) (x y : Ready) (v : DVariables) (t : Tale) (id : ℕ) (loc : Location) → Whole d (ready x) v t → Inv d (ready y) →
+    WriteBackIndirectionTableResp x y id loc → Whole d (ready y) (nextVars v (respWriteIndirectionTable id)) (namedTale t loc)
+keep-table-resp d x y v t id loc w i u =
+    rw (u .next)
+    (record {
+      inv = rw (u .next) at i;
+      first = kept-fewer d (v .indirectionTables) (v .nodes) (v .reqWriteIndirectionTables) (v .reqWriteNodes) (t .place) (t .picture) (w .first) (del (v .reqWriteIndirectionTables) id) (v .reqWriteNodes)
+          (fewer-del (v .reqWriteIndirectionTables) id) (λ j k q. q);
+      second = λ l q. let e : loc ≡ l = cc in rw (← e) kept;
+      apart = λ l q e.
+          let h : loc ≡ l = cc in
+          let f = w .inv .frozen-loc loc (sym (u .frozen-loc)) in
+          let k : loc .addr ≡ x .persistentIndirectionTableLoc .addr = ap (λ m. m .addr) h ∙ e ∙ ap (λ m. m .addr) (p .persistent-place) in
+          clash (table-overlap-iff (deviceOf d) loc (x .persistentIndirectionTableLoc) (f .valid) (w .inv .persistent-valid) .1 k) (f .apart);
+      phase = record {
+        persistent-place = p .persistent-place;
+        persistent-stored = p .persistent-stored;
+        frozen-place = u .frozen-loc;
+        frozen-stored = p .frozen-stored;
+        table-reads = p .table-reads;
+        table-writes = λ j k q. absurd (no-more j k q);
+        node-writes = p .node-writes;
+        node-reads = p .node-reads;
+        reads-uncached = p .reads-uncached;
+        working-refs = p .working-refs;
+        working-lists = p .working-lists;
+        located = p .located;
+        cached = p .cached;
+        frozen = p .frozen;
+        persistent-apart = p .persistent-apart;
+        frozen-apart = p .frozen-apart;
+      };
+    })
+  where
+    p : ReadyOk x v t
+    p = w .phase
+
+    -- the write answered was the only one
+    no-more : NoneQueued (del (v .reqWriteIndirectionTables) id)
+    no-more j k q =
+        let e = del-some (v .reqWriteIndirectionTables) id j q in
+        let h : some j ≡ some id = sym (w .phase .table-writes j k (e .1) .0) ∙ u .awaited in
+        e .0 (cc)
+
+    kept : Kept d (v .indirectionTables) (v .nodes) (del (v .reqWriteIndirectionTables) id) (v .reqWriteNodes) loc (t .frozen)
+    kept =
+        let f = w .inv .frozen-loc loc (sym (u .frozen-loc)) in
+        let o = w .phase .frozen (f .table) (f .is) in
+        record {
+          table = f .table;
+          stored = w .phase .frozen-stored loc (f .table) (sym (u .frozen-loc)) (f .is);
+          complete = f .wf;
+          distinct = w .inv .frozen (f .table) (f .is) .distinct;
+          located = o .located;
+          lists = o .lists;
+          no-more = λ ref e. same-none (t .frozen) (f .table .locs) (λ k. o .refs k ∙ f .wf .keys k) ref e;
+          quiet = λ j k q a. no-more j k q;
+          quiet-nodes = λ ref k e j q b a.
+              let h = w .phase .node-writes j q b in
+              w .phase .frozen-apart loc (f .table) (sym (u .frozen-loc)) (f .is) j (h .0) (h .1) ref k e (sym a ∙ ap (λ l. l .addr) (sym (h .2)));
+        }
+
+-- THE TABLE PAGED IN
+
+pub ready-ext : {x y : Ready} → x .persistentIndirectionTable ≡ y .persistentIndirectionTable → x .frozenIndirectionTable ≡ y .frozenIndirectionTable → x .ephemeralIndirectionTable ≡ y .ephemeralIndirectionTable →
+    x .persistentIndirectionTableLoc ≡ y .persistentIndirectionTableLoc → x .frozenIndirectionTableLoc ≡ y .frozenIndirectionTableLoc → x .outstandingIndirectionTableWrite ≡ y .outstandingIndirectionTableWrite →
+    x .outstandingBlockWrites ≡ y .outstandingBlockWrites → x .outstandingBlockReads ≡ y .outstandingBlockReads → x .cache ≡ y .cache → x ≡ y
+ready-ext a b c d e f g h k =
+    λ i. record {
+      persistentIndirectionTable = a i;
+      frozenIndirectionTable = b i;
+      ephemeralIndirectionTable = c i;
+      persistentIndirectionTableLoc = d i;
+      frozenIndirectionTableLoc = e i;
+      outstandingIndirectionTableWrite = f i;
+      outstandingBlockWrites = g i;
+      outstandingBlockReads = h i;
+      cache = k i;
+    }
+
+abbrev loaded : IndirectionTable → Location → Ready
+loaded t at =
+    record {
+      persistentIndirectionTable = t;
+      frozenIndirectionTable = none;
+      ephemeralIndirectionTable = t;
+      persistentIndirectionTableLoc = at;
+      frozenIndirectionTableLoc = none;
+      outstandingIndirectionTableWrite = none;
+      outstandingBlockWrites = empty;
+      outstandingBlockReads = empty;
+      cache = empty;
+    }
+
+pub keep-table-page-in : (d : ℕ) (at : Location) (read : Option ℕ) (y : Ready) (v v' : DVariables) (t : Tale) (id : ℕ) (brought : Option IndirectionTable) →
+    Whole d (loadingIndirectionTable at read) v t → Inv d (ready y) → PageInIndirectionTableResp d at read y id brought → AckReadIndirectionTable v v' id brought →
+    Whole d (ready y) (nextVars v (respReadIndirectionTable id brought)) t
+keep-table-page-in d at read y v v' t id brought w i u a =
+    let p = w .phase in
+    let k = w .first in
+    rw is
+    (record {
+      inv = rw is at i;
+      first = k;
+      second = w .second;
+      apart = w .apart;
+      phase = record {
+        persistent-place = p .place;
+        persistent-stored = stored;
+        frozen-place = p .no-second;
+        frozen-stored = λ l f q. never q;
+        table-reads = λ j k q.
+            let e = del-some (v .reqReadIndirectionTables) id j q in
+            let h : some j ≡ some id = sym (p .table-reads j k (e .1) .0) ∙ u .awaited in
+            e .0 (cc);
+        table-writes = λ j k q. absurd (p .no-table-writes j k q);
+        node-writes = λ j k q. absurd (p .no-node-writes j k q);
+        node-reads = λ j k q. absurd (p .no-node-reads j k q);
+        reads-uncached = λ j r q. never q;
+        working-refs = rw (p .working) (λ ref. kept-keys d (v .indirectionTables) (v .nodes) (v .reqWriteIndirectionTables) (v .reqWriteNodes) (t .place) (t .picture) k ref ∙ ap (λ (z : IndirectionTable). isSome (z .locs ref)) same ∙ sym (u .wf .keys ref));
+        working-lists = rw (p .working) (rw same at (k .lists));
+        located = rw (p .working) (rw same at (k .located));
+        cached = λ ref n g q. never q;
+        frozen = λ f q. never q;
+        persistent-apart = λ j z q. never q;
+        frozen-apart = λ l f q. never q;
+      };
+    })
+  where
+    is : y ≡ loaded (u .t) at
+    is = search ready-ext
+
+    -- what is brought is what is stored at the place being loaded
+    stored : v .indirectionTables at ≡ some (u .t)
+    stored =
+        let l = some-of (v .reqReadIndirectionTables) id (a .there) in
+        let e = a .brought (l .0) (l .1) (ap isSome (u .table)) in
+        let h = w .phase .table-reads id (l .0) (l .1) .1 in
+        rw (← h) (sym e ∙ u .table)
+
+    same : w .first .table ≡ u .t
+    same =
+        let e : some (w .first .table) ≡ some (u .t) = sym (w .first .stored) ∙ rw (w .phase .place) stored in
+        cc

@@ -1,0 +1,182 @@
+-- WriteBackNodeReq keeps the invariant: it writes to an address that no table and no outstanding write has. Assumes nothing.
+use Prim.Native.Nat.{ℕ}
+use mathlib.Core.Bool.{Bool, _&&_, not}
+use mathlib.Core.Logic.{_⊎_, inl, inr, ⊎-elim}
+use mathlib.Core.Option.{Option, Option·map, map-eq-some-iff, none, some}
+use mathlib.Core.Path.{_∙_, _≡_, ap, refl, sym}
+use Rattle.base.proofs.Maps.{put-other, put-same, put-some}
+use Rattle.base.proofs.Tests.{and-iff, clash, never, none-iff, not-true-iff, split}
+use Rattle.base.specs.Maps.{Map, isSome, put}
+use Rattle.blockcache.specs.Upstream.{In, NoAddr, OutstandingWrite, Ready, WriteBackNodeReq, assignRefToLocation, ready}
+use Rattle.blockcache.specs.UpstreamInv.{Inv}
+use Rattle.blockdisk.proofs.Moves.{nextVars}
+use Rattle.blockdisk.proofs.Reading.{replacing, replacing-same}
+use Rattle.blockdisk.specs.Upstream.{Variables as DVariables, reqWriteNode}
+use Rattle.disklayout.specs.declared.Location.{Location}
+use Rattle.sectortype.specs.Abstract.{IndirectionTable}
+use Rattle.sectortype.specs.declared.Node.{Node}
+use Rattle.blocksystem.proofs.Invariant.{Located, ReadyOk, Tale, Whole, frozenNow}
+use Rattle.blocksystem.proofs.KeepTables.{ready-ext}
+use Rattle.blocksystem.proofs.Laws.{kept-node-write, put-none, stands-elsewhere}
+
+-- A TABLE THAT GETS A LOCATION
+
+module _ (t : IndirectionTable) (ref : ℕ) (loc : Location) where
+  -- the reference is in the graph, without a location
+  abbrev lacks : Bool
+  lacks = isSome (t .graph ref) && not (isSome (t .locs ref))
+
+  pub assign-graph : assignRefToLocation t ref loc .graph ≡ t .graph
+  unfolding assignRefToLocation
+  assign-graph = refl
+
+  -- a location is the new one, or one that the table had
+  pub assign-some : (j : ℕ) {k : Location} → assignRefToLocation t ref loc .locs j ≡ some k →
+      ((j ≡ ref) × (loc ≡ k) × In ref (t .graph) × (t .locs ref ≡ none)) ⊎ (t .locs j ≡ some k)
+  unfolding assignRefToLocation
+  assign-some j p =
+      split lacks
+      (λ e. let h = and-iff (isSome (t .graph ref)) (not (isSome (t .locs ref))) .0 e in
+      ⊎-elim (λ x. inl (x .0, x .1, h .0, none-iff (t .locs ref) .0 (not-true-iff (isSome (t .locs ref)) .0 (h .1)))) (λ x. inr (x .1)) (put-some (t .locs) ref loc j (rw e at p)))
+      (λ e. inr (rw e at p))
+
+  -- one that the table had stays
+  pub assign-keeps : (j : ℕ) (k : Location) → t .locs j ≡ some k → assignRefToLocation t ref loc .locs j ≡ some k
+  unfolding assignRefToLocation
+  assign-keeps j k p =
+      split lacks
+      (λ e. let h = and-iff (isSome (t .graph ref)) (not (isSome (t .locs ref))) .0 e in
+      rw e (put-other (t .locs) ref loc j (λ q. never (sym (none-iff (t .locs ref) .0 (not-true-iff (isSome (t .locs ref)) .0 (h .1))) ∙ rw q at p)) ∙ p))
+      (λ e. rw e p)
+
+  pub assign-none : (j : ℕ) → assignRefToLocation t ref loc .locs j ≡ none → t .locs j ≡ none
+  unfolding assignRefToLocation
+  assign-none j p = split lacks (λ e. put-none (t .locs) ref loc j (rw e at p) .1) (λ e. rw e at p)
+
+  -- a table that has all its locations stays as it is
+  pub assign-complete : ((k : ℕ) → isSome (t .graph k) ≡ isSome (t .locs k)) → assignRefToLocation t ref loc ≡ t
+  unfolding assignRefToLocation
+  assign-complete h =
+      split lacks
+      (λ e. let g = and-iff (isSome (t .graph ref)) (not (isSome (t .locs ref))) .0 e in
+      clash (sym (h ref) ∙ g .0) (not-true-iff (isSome (t .locs ref)) .0 (g .1)))
+      (λ e. rw e)
+
+-- THE STEP
+
+abbrev assignFrozen : Option IndirectionTable → ℕ → Location → Option IndirectionTable
+assignFrozen f ref loc = Option·map (λ t. assignRefToLocation t ref loc) f
+
+abbrev written : Ready → ℕ → ℕ → Location → Ready
+written x id ref loc =
+    record {
+      persistentIndirectionTable = x .persistentIndirectionTable;
+      frozenIndirectionTable = assignFrozen (x .frozenIndirectionTable) ref loc;
+      ephemeralIndirectionTable = assignRefToLocation (x .ephemeralIndirectionTable) ref loc;
+      persistentIndirectionTableLoc = x .persistentIndirectionTableLoc;
+      frozenIndirectionTableLoc = x .frozenIndirectionTableLoc;
+      outstandingIndirectionTableWrite = x .outstandingIndirectionTableWrite;
+      outstandingBlockWrites = put (x .outstandingBlockWrites) id (record { ref = ref; loc = loc });
+      outstandingBlockReads = x .outstandingBlockReads;
+      cache = x .cache;
+    }
+
+module _ (d : ℕ) (x y : Ready) (v : DVariables) (t : Tale) (id ref : ℕ) (loc : Location) (n : Node) (w : Whole d (ready x) v t) (u : WriteBackNodeReq d x y id loc n ref) where
+  abbrev p : ReadyOk x v t
+  p = w .phase
+
+  abbrev v' : DVariables
+  v' = nextVars v (reqWriteNode id loc n)
+
+  frozen-is : (o : Option IndirectionTable) → x .frozenIndirectionTable ≡ o → y .frozenIndirectionTable ≡ assignFrozen o ref loc
+  frozen-is none e = u .frozen-none e
+  frozen-is (some f) e = u .frozen-some f e
+
+  is : y ≡ written x id ref loc
+  is = let e : y .frozenIndirectionTable ≡ assignFrozen (x .frozenIndirectionTable) ref loc = frozen-is (x .frozenIndirectionTable) refl in search ready-ext
+
+  -- the frozen table that was, of a frozen table that is
+  was : (f : IndirectionTable) → assignFrozen (x .frozenIndirectionTable) ref loc ≡ some f → (g : IndirectionTable) × (x .frozenIndirectionTable ≡ some g) × (assignRefToLocation g ref loc ≡ f)
+  was f q = map-eq-some-iff (λ t. assignRefToLocation t ref loc) (x .frozenIndirectionTable) .0 q
+
+  -- a frozen table whose place is set has all its locations
+  unmoved : (l : Location) (f : IndirectionTable) → x .frozenIndirectionTableLoc ≡ some l → assignFrozen (x .frozenIndirectionTable) ref loc ≡ some f → x .frozenIndirectionTable ≡ some f
+  unmoved l f a q =
+      let g = was f q in
+      let c = w .inv .frozen-loc l a in
+      let same : some (c .table) ≡ some (g .0) = sym (c .is) ∙ g .1 in
+      let e : c .table ≡ g .0 = cc in
+      let full = assign-complete (g .0) ref loc (rw e at (c .wf .keys)) in
+      g .1 ∙ ap some (sym full ∙ g .2)
+
+  -- the locations of a table that may get the new one
+  grown : (pic : Map Node) (f : IndirectionTable) → NoAddr (f .locs) (loc .addr) → (In ref (f .graph) → f .locs ref ≡ none → pic ref ≡ some n) → Located (v .nodes) (f .locs) pic →
+      Located (replacing (v .nodes) loc n) (assignRefToLocation f ref loc .locs) pic
+  grown pic f free here old j k q =
+      ⊎-elim
+      (λ (z : (j ≡ ref) × (loc ≡ k) × In ref (f .graph) × (f .locs ref ≡ none)). rw (← (z .1), z .0) (record { node = n; stored = replacing-same (v .nodes) loc n; drawn = here (z .2) (z .3) }))
+      (λ z. stands-elsewhere (v .nodes) loc n k (old j k z) (free j k z))
+      (assign-some f ref loc j q)
+
+  -- the named places: the persistent table and the frozen one
+  first-table : w .first .table ≡ x .persistentIndirectionTable
+  first-table =
+      let e : some (w .first .table) ≡ some (x .persistentIndirectionTable) = sym (w .first .stored) ∙ rw (p .persistent-place) (p .persistent-stored) in cc
+
+  set-place : (a : Option ℕ) (b : Option Location) (l : Location) → frozenNow a b ≡ some l → b ≡ some l
+  set-place none b l e = e
+  set-place (some j) b l e = never e
+
+  second-free : (l : Location) (q : t .second ≡ some l) → NoAddr (w .second l q .table .locs) (loc .addr)
+  second-free l q =
+      let a = set-place (x .outstandingIndirectionTableWrite) (x .frozenIndirectionTableLoc) l (sym (p .frozen-place) ∙ q) in
+      let c = w .inv .frozen-loc l a in
+      let e : some (w .second l q .table) ≡ some (c .table) = sym (w .second l q .stored) ∙ p .frozen-stored l (c .table) a (c .is) in
+      let same : w .second l q .table ≡ c .table = cc in
+      rw same (u .free .frozen (c .table) (c .is))
+
+  new-apart : (locs : Map Location) → NoAddr locs (loc .addr) → ((j : ℕ) (z : OutstandingWrite) → x .outstandingBlockWrites j ≡ some z → NoAddr locs (z .loc .addr)) →
+      (j : ℕ) (z : OutstandingWrite) → put (x .outstandingBlockWrites) id (record { ref = ref; loc = loc }) j ≡ some z → NoAddr locs (z .loc .addr)
+  new-apart locs free old j z q =
+      ⊎-elim (λ h. let e : loc ≡ z .loc = ap (λ (o : OutstandingWrite). o .loc) (h .1) in rw (← e) free) (λ h. old j z (h .1)) (put-some (x .outstandingBlockWrites) id (record { ref = ref; loc = loc }) j q)
+
+  pub keep-write-req : Inv d (ready y) → Whole d (ready y) (nextVars v (reqWriteNode id loc n)) t
+  keep-write-req i =
+      rw is
+      (record {
+        inv = rw is at i;
+        first = kept-node-write d (v .indirectionTables) (v .nodes) (v .reqWriteIndirectionTables) (v .reqWriteNodes) (t .place) (t .picture) (w .first) id loc n (rw first-table (u .free .persistent));
+        second = λ l q. kept-node-write d (v .indirectionTables) (v .nodes) (v .reqWriteIndirectionTables) (v .reqWriteNodes) l (t .secondPicture) (w .second l q) id loc n (second-free l q);
+        apart = w .apart;
+        phase = record {
+          persistent-place = p .persistent-place;
+          persistent-stored = p .persistent-stored;
+          frozen-place = p .frozen-place;
+          frozen-stored = λ l f a q. p .frozen-stored l f a (unmoved l f a q);
+          table-reads = p .table-reads;
+          table-writes = p .table-writes;
+          node-writes = λ j k q.
+              ⊎-elim
+              (λ (z : (j ≡ id) × (loc ≡ k)). (record { ref = ref; loc = loc }, rw (z .0) (put-same (x .outstandingBlockWrites) id (record { ref = ref; loc = loc })), z .1))
+              (λ z. let h = p .node-writes j k (z .1) in (h .0, put-other (x .outstandingBlockWrites) id (record { ref = ref; loc = loc }) j (z .0) ∙ h .1, h .2))
+              (put-some (v .reqWriteNodes) id loc j q);
+          node-reads = λ j k q. let h = p .node-reads j k q in (h .0, h .1, assign-keeps (x .ephemeralIndirectionTable) ref loc (h .0) k (h .2));
+          reads-uncached = rw (assign-graph (x .ephemeralIndirectionTable) ref loc) (p .reads-uncached);
+          working-refs = rw (assign-graph (x .ephemeralIndirectionTable) ref loc) (p .working-refs);
+          working-lists = rw (assign-graph (x .ephemeralIndirectionTable) ref loc) (p .working-lists);
+          located = grown (t .working) (x .ephemeralIndirectionTable) (u .free .ephemeral) (λ g e. p .cached ref n g (u .cached)) (p .located);
+          cached = rw (assign-graph (x .ephemeralIndirectionTable) ref loc) (p .cached);
+          frozen = λ f q.
+              let g = was f q in
+              let o = p .frozen (g .0) (g .1) in
+              rw (← (g .2))
+              (record {
+                refs = rw (assign-graph (g .0) ref loc) (o .refs);
+                lists = rw (assign-graph (g .0) ref loc) (o .lists);
+                located = grown (t .frozen) (g .0) (u .free .frozen (g .0) (g .1)) (λ a e. let c = o .cached ref a e in c .2 ∙ sym (c .1) ∙ u .cached) (o .located);
+                cached = λ k a e. o .cached k (rw (assign-graph (g .0) ref loc) at a) (assign-none (g .0) ref loc k e);
+              });
+          persistent-apart = new-apart (x .persistentIndirectionTable .locs) (u .free .persistent) (p .persistent-apart);
+          frozen-apart = λ l f a q. let e = unmoved l f a q in new-apart (f .locs) (u .free .frozen f e) (p .frozen-apart l f a e);
+        };
+      })

@@ -1,0 +1,176 @@
+-- Laws of the invariant's parts: maps with a key more or less, a named place under a write, an answer and a crash. Assumes nothing.
+use Prim.Native.Nat.{ℕ}
+use mathlib.Core.Bool.{true}
+use mathlib.Core.Logic.{⊎-elim}
+use mathlib.Core.Option.{Option, none, some}
+use mathlib.Core.Path.{_∙_, _≡_, ap, refl, sym}
+use lib.Dec.{eqb}
+use borrow.Author.Tests.{eqb-false, eqb-true}
+use Rattle.base.proofs.Maps.{del-other, del-some, put-some}
+use Rattle.base.proofs.Tests.{never, none-iff, some-iff, split}
+use Rattle.base.specs.Maps.{Map, del, isSome, put}
+use Rattle.blockcache.specs.Upstream.{In, NoAddr}
+use Rattle.blockdisk.proofs.Reading.{replacing, replacing-other}
+use Rattle.blockdisk.specs.Upstream.{Imap}
+use Rattle.disklayout.specs.declared.Location.{Location}
+use Rattle.sectortype.specs.Abstract.{IndirectionTable}
+use Rattle.sectortype.specs.declared.Node.{Node}
+use Rattle.blocksystem.proofs.Invariant.{Kept, Located, NoneQueued, Quiet, SameKeys, Stands, frozenNow}
+
+-- MAPS
+
+module _ {A : Type 0} where
+  pub in-of : (m : Map A) (k : ℕ) {a : A} → m k ≡ some a → In k m
+  in-of m k e = rw e
+
+  pub some-of : (m : Map A) (k : ℕ) → In k m → (a : A) × (m k ≡ some a)
+  some-of m k i = some-iff (m k) .0 i
+
+  pub not-both : {X : Type 0} (m : Map A) (k : ℕ) → In k m → m k ≡ none → X
+  not-both m k i e = let d = some-of m k i in never (sym e ∙ d .1)
+
+  pub in-put-same : (m : Map A) (k : ℕ) (v : A) → In k (put m k v)
+  unfolding put
+  in-put-same m k v = split (eqb k k) (λ e. rw e) (λ e. absurd (eqb-false k k e refl))
+
+  pub in-put : (m : Map A) (k : ℕ) (v : A) (j : ℕ) → In j m → In j (put m k v)
+  unfolding put
+  in-put m k v j i = split (eqb j k) (λ e. rw e) (λ e. rw e i)
+
+  -- a key of the map with one more is the new one, or one that it had
+  pub put-in : (m : Map A) (k : ℕ) (v : A) (j : ℕ) → In j (put m k v) → (j ≡ k → ⊥) → In j m
+  unfolding put
+  put-in m k v j i ne = split (eqb j k) (λ e. absurd (ne (eqb-true j k e))) (λ e. rw e at i)
+
+  pub put-none : (m : Map A) (k : ℕ) (v : A) (j : ℕ) → put m k v j ≡ none → (j ≡ k → ⊥) × (m j ≡ none)
+  unfolding put
+  put-none m k v j p = split (eqb j k) (λ e. never (sym (rw e at p))) (λ e. (eqb-false j k e, rw e at p))
+
+  pub del-in : (m : Map A) (k j : ℕ) → In j (del m k) → (j ≡ k → ⊥) × In j m
+  unfolding del
+  del-in m k j i = split (eqb j k) (λ e. not-both (λ x. none) j (rw e at i) refl) (λ e. (eqb-false j k e, rw e at i))
+
+  pub in-del : (m : Map A) (k j : ℕ) → In j m → (j ≡ k → ⊥) → In j (del m k)
+  in-del m k j i ne = rw (del-other m k j ne) i
+
+  -- a key that is gone is not there, and another was not there
+  pub none-del : (m : Map A) (k j : ℕ) → m j ≡ none → del m k j ≡ none
+  unfolding del
+  none-del m k j e = split (eqb j k) (λ t. rw t) (λ t. rw t e)
+
+module _ {A B : Type 0} (a : Map A) (b : Map B) (same : SameKeys a b) (k : ℕ) where
+  pub same-put : (v : A) (w : B) → SameKeys (put a k v) (put b k w)
+  unfolding put
+  same-put v w j = split (eqb j k) (λ e. rw e) (λ e. rw e (same j))
+
+  pub same-del : SameKeys (del a k) (del b k)
+  unfolding del
+  same-del j = split (eqb j k) (λ e. rw e) (λ e. rw e (same j))
+
+  pub same-in : In k b → In k a
+  same-in i = same k ∙ i
+
+  pub same-none : b k ≡ none → a k ≡ none
+  same-none e = none-iff (a k) .0 (same k ∙ ap isSome e)
+
+pub frozen-none : (w : Option ℕ) → frozenNow w none ≡ none
+frozen-none none = refl
+frozen-none (some id) = refl
+
+-- QUEUES WITH FEWER REQUESTS
+
+abbrev pub Fewer : Map Location → Map Location → Type 0
+Fewer a b = (id : ℕ) (k : Location) → a id ≡ some k → b id ≡ some k
+
+pub fewer-same : (m : Map Location) → Fewer m m
+fewer-same m id k e = e
+
+pub fewer-del : (m : Map Location) (id : ℕ) → Fewer (del m id) m
+fewer-del m id j k e = del-some m id j e .1
+
+pub none-fewer : (a b : Map Location) → Fewer a b → NoneQueued b → NoneQueued a
+none-fewer a b f n id k e = n id k (f id k e)
+
+-- WHAT STANDS ON THE DISK
+
+pub stands-elsewhere : (nodes : Imap Node) (k : Location) (n : Node) (l : Location) {p : Option Node} → Stands nodes l p → (l .addr ≡ k .addr → ⊥) → Stands (replacing nodes k n) l p
+stands-elsewhere nodes k n l s ne = record { node = s .node; stored = replacing-other nodes k n l ne ∙ s .stored; drawn = s .drawn }
+
+-- a write to an address that no location has
+pub located-write : (nodes : Imap Node) (k : Location) (n : Node) (locs : Map Location) (pic : Map Node) → Located nodes locs pic → NoAddr locs (k .addr) → Located (replacing nodes k n) locs pic
+located-write nodes k n locs pic h free ref l e = stands-elsewhere nodes k n l (h ref l e) (free ref l e)
+
+-- A NAMED PLACE
+
+module _ (d : ℕ) (tables : Imap IndirectionTable) (nodes : Imap Node) (tw nw : Map Location) (l : Location) (pic : Map Node) (h : Kept d tables nodes tw nw l pic) where
+  pub kept-keys : SameKeys pic (h .table .locs)
+  kept-keys ref =
+      split (isSome (h .table .locs ref))
+      (λ e. let d = some-of (h .table .locs) ref e in e' (h .located ref (d .0) (d .1)) e)
+      (λ e. rw (e, h .no-more ref (none-iff (h .table .locs ref) .0 e)))
+    where
+      e' : {k : Location} → Stands nodes k (pic ref) → isSome (h .table .locs ref) ≡ true → isSome (pic ref) ≡ isSome (h .table .locs ref)
+      e' s e = rw (e, s .drawn)
+
+  -- a node written to an address that no location of its table has
+  pub kept-node-write : (id : ℕ) (k : Location) (n : Node) → NoAddr (h .table .locs) (k .addr) → Kept d tables (replacing nodes k n) tw (put nw id k) l pic
+  kept-node-write id k n free =
+      record {
+        table = h .table;
+        stored = h .stored;
+        located = located-write nodes k n (h .table .locs) pic (h .located) free;
+        no-more = h .no-more;
+        complete = h .complete;
+        distinct = h .distinct;
+        lists = h .lists;
+        quiet = h .quiet;
+        quiet-nodes = λ ref m e j q p a.
+            ⊎-elim (λ (x : (j ≡ id) × (k ≡ q)). free ref m e (sym (ap (λ y. y .addr) (x .1) ∙ a))) (λ x. h .quiet-nodes ref m e j q (x .1) a) (put-some nw id k j p);
+      }
+
+  -- a table written in another area
+  pub kept-table-write : (id : ℕ) (k : Location) (t : IndirectionTable) → (k .addr ≡ l .addr → ⊥) → Kept d (replacing tables k t) nodes (put tw id k) nw l pic
+  kept-table-write id k t apart =
+      record {
+        table = h .table;
+        stored = replacing-other tables k t l (λ e. apart (sym e)) ∙ h .stored;
+        located = h .located;
+        no-more = h .no-more;
+        complete = h .complete;
+        distinct = h .distinct;
+        lists = h .lists;
+        quiet = λ j q p a. ⊎-elim (λ (x : (j ≡ id) × (k ≡ q)). apart (ap (λ y. y .addr) (x .1) ∙ a)) (λ x. h .quiet j q (x .1) a) (put-some tw id k j p);
+        quiet-nodes = h .quiet-nodes;
+      }
+
+  -- requests answered
+  pub kept-fewer : (tw' nw' : Map Location) → Fewer tw' tw → Fewer nw' nw → Kept d tables nodes tw' nw' l pic
+  kept-fewer tw' nw' f g =
+      record {
+        table = h .table;
+        stored = h .stored;
+        located = h .located;
+        no-more = h .no-more;
+        complete = h .complete;
+        distinct = h .distinct;
+        lists = h .lists;
+        quiet = λ j q p. h .quiet j q (f j q p);
+        quiet-nodes = λ ref m e j q p. h .quiet-nodes ref m e j q (g j q p);
+      }
+
+  -- a crash leaves what no write is queued for, and nothing queued
+  pub kept-crash : (tables' : Imap IndirectionTable) (nodes' : Imap Node) (tw' nw' : Map Location) → NoneQueued tw' → NoneQueued nw' →
+      ((k : Location) (t : IndirectionTable) → tables k ≡ some t → Quiet tw (k .addr) → tables' k ≡ some t) →
+      ((k : Location) (n : Node) → nodes k ≡ some n → Quiet nw (k .addr) → nodes' k ≡ some n) → Kept d tables' nodes' tw' nw' l pic
+  kept-crash tables' nodes' tw' nw' none-t none-n still-t still-n =
+      record {
+        table = h .table;
+        stored = still-t l (h .table) (h .stored) (h .quiet);
+        located = λ ref k e. let s = h .located ref k e in record { node = s .node; stored = still-n k (s .node) (s .stored) (h .quiet-nodes ref k e); drawn = s .drawn };
+        no-more = h .no-more;
+        complete = h .complete;
+        distinct = h .distinct;
+        lists = h .lists;
+        quiet = λ j q p a. none-t j q p;
+        quiet-nodes = λ ref k e j q p a. none-n j q p;
+      }

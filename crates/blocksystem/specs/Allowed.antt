@@ -1,0 +1,55 @@
+-- What demand 2 says of a joined call: which of document 01's narrowings may refuse it, and what upstream's BlockSystem allows.
+use Prim.Native.Nat.{ℕ}
+use mathlib.Core.Bool.{cond, false, true}
+use mathlib.Core.List.{[], _∷_}
+use mathlib.Core.Option.{some}
+use mathlib.Core.Path.{_≡_}
+use lib.Dec.{eqb}
+use Rattle.base.specs.Refusals.{NoneOf}
+use Rattle.blockcache.specs.Narrowings.{narrowed}
+use Rattle.blockcache.specs.Steps.{Step as MStep, stepOf}
+use Rattle.blockcache.specs.Upstream.{Variables as MVariables}
+use Rattle.blockcache.specs.declared.Cache.{Cache}
+use Rattle.blockcache.specs.declared.Call.{Call}
+use Rattle.blockcache.specs.declared.VersionOp.{VersionOp}
+use Rattle.blockcache.specs.declared.VersionOp.the-variants.{StatesInternalOp}
+use Rattle.blockdisk.specs.Crash.{crashRows, crashed}
+use Rattle.blockdisk.specs.Form.{recordsChecked}
+use Rattle.blockdisk.specs.Ops.{diskRows}
+use Rattle.blockdisk.specs.Upstream.{Dop, diskVars, dopOf}
+use Rattle.blockdisk.specs.declared.Disk.{Disk}
+use Rattle.blockdisk.specs.declared.Records.{Records}
+use Rattle.blocksystem.specs.Joined.{diskCall, joined}
+use Rattle.blocksystem.specs.Upstream.{Crash, Machine, Variables, systemVars}
+
+-- the operations of a step; a read takes no V and no D
+abbrev pub joinedOp : ℕ → Call → Dop
+joinedOp n q = dopOf (diskCall n q)
+
+abbrev pub joinedVop : ℕ → Call → VersionOp
+joinedVop n q = cond (eqb n 17) StatesInternalOp (q .vop)
+
+module _ (d n : ℕ) (q : Call) (o : Records) (c : Cache) (s : Disk) where
+  -- no narrowing of cache or disk applies
+  pub record NoNarrowing : Type 0 where
+    pub cache : narrowed d c n q ≡ false
+    -- the disk's are 1, 16 and 18; of a crash 1 and the places of the offered records, a part of 19
+    pub disk : eqb n 18 ≡ false → NoneOf (1 ∷ 16 ∷ 18 ∷ []) (diskRows d s (diskCall n q))
+    pub crash : eqb n 18 ≡ true → NoneOf (1 ∷ []) (crashRows d s o) × (recordsChecked d o .placed ≡ true)
+
+  -- upstream allows the step of this number to end in s'
+  abbrev pub MachineTo : Variables → Type 0
+  MachineTo s' = (step : MStep) × (stepOf n (q .reference) (q .node) ≡ some step) × Machine d (systemVars d c s) s' (joinedOp n q) (joinedVop n q) step
+
+  -- some next state; of a crash one with the disk that is offered
+  pub record SystemAllows : Type 0 where
+    pub machine : eqb n 18 ≡ false → (s' : Variables) × MachineTo s'
+    pub crash : eqb n 18 ≡ true → (m : MVariables) × Crash (systemVars d c s) (record { machine = m; disk = diskVars d (crashed o) }) (q .vop)
+
+  abbrev pub handedBack : Variables
+  handedBack = systemVars d (joined d n q o c s .cache) (joined d n q o c s .disk)
+
+  -- the state handed back is one that upstream allows
+  pub record SystemMoves : Type 0 where
+    pub machine : eqb n 18 ≡ false → MachineTo handedBack
+    pub crash : eqb n 18 ≡ true → Crash (systemVars d c s) handedBack (q .vop)

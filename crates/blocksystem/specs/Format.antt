@@ -1,0 +1,57 @@
+-- Formatting: the root in the first node block, length 4,096; its table in area 1, length 4,096; all else empty, the cache Unready.
+use Prim.Native.Nat.{ℕ}
+use mathlib.Core.Bool.{cond, true}
+use lib.ListN.{set}
+use Rattle.base.specs.Refusals.{answer}
+use Rattle.blockcache.specs.Form.{emptyCache}
+use Rattle.blockdisk.specs.Crash.{emptyQueues}
+use Rattle.blockdisk.specs.Records.{emptyRecords}
+use Rattle.blockdisk.specs.declared.Disk.{Disk}
+use Rattle.blockdisk.specs.declared.Records.{Records}
+use Rattle.disklayout.specs.Blocks.{FirstNodeAddr}
+use Rattle.disklayout.specs.Calls.{number}
+use Rattle.disklayout.specs.Device.{deviceOf, made}
+use Rattle.disklayout.specs.Layout.{IndirectionTable1Addr}
+use Rattle.disklayout.specs.declared.Location.{Location}
+use Rattle.sectortype.specs.Form.{emptyTable, withEntry, zeroNode, zeroSuccs}
+use Rattle.sectortype.specs.declared.Node.{Node}
+use Rattle.sectortype.specs.declared.Table.{Table}
+use Rattle.blocksystem.specs.declared.Outcome.{Outcome}
+
+abbrev pub rootNode : ℕ → Node
+rootNode x = record { contents = x; succs = zeroSuccs }
+
+-- the first node block's and table area 1's first 4,096 bytes
+abbrev pub placeAt : ℕ → Location
+placeAt a = record { addr = a; len = 4096 }
+
+abbrev pub rootPlace : ℕ → Location
+rootPlace d = placeAt (number d (FirstNodeAddr (deviceOf d)) .value)
+
+abbrev pub tablePlaceOf : ℕ → Location
+tablePlaceOf d = placeAt (number d (IndirectionTable1Addr (deviceOf d)) .value)
+
+-- the root alone, at its place
+unfoldable pub rootTable : Location → Table
+rootTable l = withEntry emptyTable 0 (record { allocated = true; located = true; loc = l; succs = zeroSuccs })
+
+-- the table at k, the root at l
+unfoldable pub formattedRecords : Location → Location → ℕ → Records
+formattedRecords k l x =
+    record {
+      tables = set (emptyRecords .tables) 0 (record { present = true; loc = k; table = rootTable l });
+      nodes = set (emptyRecords .nodes) 0 (record { present = true; loc = l; node = rootNode x });
+    }
+
+abbrev pub formattedDisk : ℕ → ℕ → Disk
+formattedDisk d x = record { records = formattedRecords (tablePlaceOf d) (rootPlace d) x; queues = emptyQueues }
+
+abbrev pub emptyDisk : Disk
+emptyDisk = record { records = emptyRecords; queues = emptyQueues }
+
+-- a device above 2 gives 1 and zeros
+unfoldable pub formatted : ℕ → ℕ → Outcome
+formatted d x =
+    cond (made d)
+    (record { answer = 0; node = zeroNode; cache = emptyCache; disk = formattedDisk d x })
+    (record { answer = 1; node = zeroNode; cache = emptyCache; disk = emptyDisk })

@@ -1,0 +1,39 @@
+// Upstream's BlockSystem as definitions: formatting, the joined call, names and pictures, what is lost, and the theorems of demands 2
+// and 3. No code: `system` has the calls.
+use blockcache::Cache;
+use blockdisk::Disk;
+use disklayout::Location;
+use sectortype::Node;
+use sectortype::Nodes;
+
+// What a joined call returns: document 01's number, the node of a read (zeros with every other answer), and cache and disk,
+// unchanged where the number is not 0.
+pub struct Outcome {
+    pub answer: u64,
+    pub node: Node,
+    pub cache: Cache,
+    pub disk: Disk,
+}
+
+// A place that is named, with the picture that belongs to it; nothing named is all zeros.
+pub struct Named {
+    pub present: bool,
+    pub place: Location,
+    pub picture: Nodes,
+}
+
+// Names and pictures: the place that formatting, a start or a clean-up left named, the frozen place that step 4 named, the working
+// picture and the frozen one.
+pub struct Story {
+    pub first: Named,
+    pub second: Named,
+    pub working: Nodes,
+    pub frozen: Nodes,
+}
+
+// How many references are lost, added and altered for one named place.
+pub struct Counts {
+    pub lost: u64,
+    pub added: u64,
+    pub altered: u64,
+}

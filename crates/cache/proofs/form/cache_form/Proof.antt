@@ -1,0 +1,39 @@
+-- By what the callees ensure. Assumes nothing.
+use borrow.Author.Needs.{needs}
+use Rattle.cache.proofs.form.cache_form.Statement.{statement}
+use Rattle.blockcache.specs.Form.{cacheForm}
+use Rattle.cache.proofs.form.cache_form.Tie as tie
+
+tables-form-requires : tie.Need-tables-form-requires
+tables-form-requires c κs = search needs
+
+places-form-requires : tie.Need-places-form-requires
+places-form-requires c κs = search needs
+
+awaited-form-requires : tie.Need-awaited-form-requires
+awaited-form-requires c κs = search needs
+
+outstanding-form-requires : tie.Need-outstanding-form-requires
+outstanding-form-requires c κs = search needs
+
+nodes-form-requires : tie.Need-nodes-form-requires
+nodes-form-requires c κs = search needs
+
+phase-form-requires : tie.Need-phase-form-requires
+phase-form-requires c κs = search needs
+
+returns : tie.Need-returns
+unfolding cacheForm
+returns c = simp (c .phase-form .ensures, c .before .nodes-form .ensures, c .before .before .outstanding-form .ensures, c .before .before .before .awaited-form .ensures, c .before .before .before .before .places-form .ensures, c .before .before .before .before .before .tables-form .ensures)
+
+pub cache-form-spec : {M : Type 1} → statement M
+cache-form-spec =
+    tie.close
+    (tie.spec
+    tables-form-requires
+    places-form-requires
+    awaited-form-requires
+    outstanding-form-requires
+    nodes-form-requires
+    phase-form-requires
+    returns)

@@ -1,0 +1,50 @@
+-- Refused: the cache as it was. Accepted: by what the callees ensure. Assumes nothing.
+use mathlib.Core.Path.{_∙_, sym}
+use native.Mathlib.Nat.{mod-eq-of-lt}
+use borrow.Author.Needs.{needs}
+use borrow.Author.Tests.{eq-eqb, ne-eqb}
+use Rattle.cache.proofs.page.page_in_node_req.Statement.{statement}
+use Rattle.cache.proofs.page.page_in_node_req.Tie as tie
+
+page-in-node-req-refusal-requires : tie.Need-page-in-node-req-refusal-requires
+page-in-node-req-refusal-requires c κs = search needs
+
+answered-requires : tie.Need-answered-requires
+answered-requires c κs = search needs
+
+returns : tie.Need-returns
+returns c = simp (c .answered .ensures, ne-eqb _ _ (rw (c .before .before .page-in-node-req-refusal .ensures) at (c .before .if1 .taken)), c .before .before .page-in-node-req-refusal .ensures)
+
+dop-id-requires : tie.Need-dop-id-requires
+dop-id-requires c κs = search needs
+
+empty-loc-requires : tie.Need-empty-loc-requires
+empty-loc-requires c κs = search needs
+
+cast-t14 : tie.Need-cast-t14
+cast-t14 c = search needs
+
+insert-requires : tie.Need-insert-requires
+insert-requires c κs = search needs
+
+answered-requires-2 : tie.Need-answered-requires-2
+answered-requires-2 c κs = search needs
+
+returns-2 : tie.Need-returns-2
+returns-2 c =
+    let e = sym (c .before .before .before .before .before .before .before .page-in-node-req-refusal .ensures) ∙ c .before .before .before .before .before .before .if1 .left in
+    simp (eq-eqb _ _ e, e, mod-eq-of-lt (c .before .before .before .before .before .before .before .before .pre), c .answered2 .ensures, c .before .insert .ensures, c .before .before .empty-loc .ensures, c .before .before .before .before .before .dop-id .ensures)
+
+pub page-in-node-req-spec : {M : Type 1} → statement M
+page-in-node-req-spec =
+    tie.close
+    (tie.spec
+    page-in-node-req-refusal-requires
+    answered-requires
+    returns
+    dop-id-requires
+    empty-loc-requires
+    cast-t14
+    insert-requires
+    answered-requires-2
+    returns-2)

@@ -1,0 +1,87 @@
+-- By what the callees ensure, row by row. Assumes nothing.
+use borrow.Author.Needs.{needs}
+use Rattle.base.specs.Refusals.{answer}
+use Rattle.cache.proofs.page.page_in_node_req_refusal.Statement.{statement}
+use Rattle.cache.proofs.page.page_in_node_req_refusal.Tie as tie
+
+vop-kind-requires : tie.Need-vop-kind-requires
+vop-kind-requires c κs = search needs
+
+dop-kind-requires : tie.Need-dop-kind-requires
+dop-kind-requires c κs = search needs
+
+is-ready-requires : tie.Need-is-ready-requires
+is-ready-requires c κs = search needs
+
+dop-id-requires : tie.Need-dop-id-requires
+dop-id-requires c κs = search needs
+
+dop-loc-requires : tie.Need-dop-loc-requires
+dop-loc-requires c κs = search needs
+
+mul-e : tie.Need-mul-e
+mul-e c = search needs
+
+element-copy-out-e : tie.Need-element-copy-out-e
+element-copy-out-e c = search needs
+
+mul-slot : tie.Need-mul-slot
+mul-slot c = search needs
+
+element-copy-out-slot : tie.Need-element-copy-out-slot
+element-copy-out-slot c = search needs
+
+has-requires : tie.Need-has-requires
+has-requires c κs = search needs
+
+same-loc-requires : tie.Need-same-loc-requires
+same-loc-requires c κs = search needs
+
+reads-of-requires : tie.Need-reads-of-requires
+reads-of-requires c κs = search needs
+
+first-of-requires : tie.Need-first-of-requires
+first-of-requires c κs = search needs
+
+first-of-requires-2 : tie.Need-first-of-requires-2
+first-of-requires-2 c κs = search needs
+
+first-of-requires-3 : tie.Need-first-of-requires-3
+first-of-requires-3 c κs = search needs
+
+first-of-requires-4 : tie.Need-first-of-requires-4
+first-of-requires-4 c κs = search needs
+
+first-of-requires-5 : tie.Need-first-of-requires-5
+first-of-requires-5 c κs = search needs
+
+first-three-requires : tie.Need-first-three-requires
+first-three-requires c κs = search needs
+
+returns : tie.Need-returns
+unfolding answer
+returns c = simp (c .first-three .ensures, c .before .first-of5 .ensures, c .before .before .first-of4 .ensures, c .before .before .before .before .first-of3 .ensures, c .before .before .before .before .before .before .before .before .first-of2 .ensures, c .before .before .before .before .before .before .before .before .before .first-of .ensures, c .before .before .before .before .before .before .before .before .before .before .before .reads-of .ensures, c .before .before .before .before .before .before .before .before .before .before .before .before .same-loc .ensures, c .before .before .before .before .before .before .before .before .before .before .before .before .before .has .ensures, c .before .before .before .before .before .before .before .before .before .before .before .before .before .before .before .before .before .before .before .before .before .before .dop-loc .ensures, c .before .before .before .before .before .before .before .before .before .before .before .before .before .before .before .before .before .before .before .before .before .before .before .dop-id .ensures, c .before .before .before .before .before .before .before .before .before .before .before .before .before .before .before .before .before .before .before .before .before .before .before .before .is-ready .ensures, c .before .before .before .before .before .before .before .before .before .before .before .before .before .before .before .before .before .before .before .before .before .before .before .before .before .dop-kind .ensures, c .before .before .before .before .before .before .before .before .before .before .before .before .before .before .before .before .before .before .before .before .before .before .before .before .before .before .vop-kind .ensures)
+
+pub page-in-node-req-refusal-spec : {M : Type 1} → statement M
+page-in-node-req-refusal-spec =
+    tie.close
+    (tie.spec
+    vop-kind-requires
+    dop-kind-requires
+    is-ready-requires
+    dop-id-requires
+    dop-loc-requires
+    mul-e
+    element-copy-out-e
+    mul-slot
+    element-copy-out-slot
+    has-requires
+    same-loc-requires
+    reads-of-requires
+    first-of-requires
+    first-of-requires-2
+    first-of-requires-3
+    first-of-requires-4
+    first-of-requires-5
+    first-three-requires
+    returns)

@@ -1,0 +1,58 @@
+-- Refused: the cache as it was. Accepted: by what the callees ensure. Assumes nothing.
+use mathlib.Core.Path.{_∙_, sym}
+use native.Mathlib.Nat.{mod-eq-of-lt}
+use borrow.Author.Needs.{needs}
+use borrow.Author.Tests.{eq-eqb, ne-eqb}
+use Rattle.cache.proofs.write.write_back_node_req.Statement.{statement}
+use Rattle.cache.proofs.write.write_back_node_req.Tie as tie
+
+write-back-node-req-refusal-requires : tie.Need-write-back-node-req-refusal-requires
+write-back-node-req-refusal-requires c κs = search needs
+
+answered-requires : tie.Need-answered-requires
+answered-requires c κs = search needs
+
+returns : tie.Need-returns
+returns c = simp (c .answered .ensures, ne-eqb _ _ (rw (c .before .before .write-back-node-req-refusal .ensures) at (c .before .if1 .taken)), c .before .before .write-back-node-req-refusal .ensures)
+
+dop-id-requires : tie.Need-dop-id-requires
+dop-id-requires c κs = search needs
+
+dop-loc-requires : tie.Need-dop-loc-requires
+dop-loc-requires c κs = search needs
+
+assign-ref-to-location-requires : tie.Need-assign-ref-to-location-requires
+assign-ref-to-location-requires c κs = search needs
+
+assign-ref-to-location-requires-2 : tie.Need-assign-ref-to-location-requires-2
+assign-ref-to-location-requires-2 c κs = search needs
+
+cast-t19 : tie.Need-cast-t19
+cast-t19 c = search needs
+
+insert-requires : tie.Need-insert-requires
+insert-requires c κs = search needs
+
+answered-requires-2 : tie.Need-answered-requires-2
+answered-requires-2 c κs = search needs
+
+returns-2 : tie.Need-returns-2
+returns-2 c =
+    let e = sym (c .before .before .before .before .before .before .before .before .before .before .before .before .write-back-node-req-refusal .ensures) ∙ c .before .before .before .before .before .before .before .before .before .before .before .if1 .left in
+    simp (eq-eqb _ _ e, e, mod-eq-of-lt (c .before .before .before .before .before .before .before .before .before .before .before .before .before .pre), c .answered2 .ensures, c .before .insert .ensures, c .before .before .before .before .assign-ref-to-location2 .ensures, c .before .before .before .before .before .assign-ref-to-location .ensures, c .before .before .before .before .before .before .before .before .before .dop-loc .ensures, c .before .before .before .before .before .before .before .before .before .before .dop-id .ensures)
+
+pub write-back-node-req-spec : {M : Type 1} → statement M
+write-back-node-req-spec =
+    tie.close
+    (tie.spec
+    write-back-node-req-refusal-requires
+    answered-requires
+    returns
+    dop-id-requires
+    dop-loc-requires
+    assign-ref-to-location-requires
+    assign-ref-to-location-requires-2
+    cast-t19
+    insert-requires
+    answered-requires-2
+    returns-2)

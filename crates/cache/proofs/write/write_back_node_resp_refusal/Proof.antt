@@ -1,0 +1,43 @@
+-- By what the callees ensure, row by row. Assumes nothing.
+use borrow.Author.Needs.{needs}
+use Rattle.base.specs.Refusals.{answer}
+use Rattle.cache.proofs.write.write_back_node_resp_refusal.Statement.{statement}
+use Rattle.cache.proofs.write.write_back_node_resp_refusal.Tie as tie
+
+vop-kind-requires : tie.Need-vop-kind-requires
+vop-kind-requires c κs = search needs
+
+dop-kind-requires : tie.Need-dop-kind-requires
+dop-kind-requires c κs = search needs
+
+is-ready-requires : tie.Need-is-ready-requires
+is-ready-requires c κs = search needs
+
+dop-id-requires : tie.Need-dop-id-requires
+dop-id-requires c κs = search needs
+
+has-requires : tie.Need-has-requires
+has-requires c κs = search needs
+
+first-of-requires : tie.Need-first-of-requires
+first-of-requires c κs = search needs
+
+first-three-requires : tie.Need-first-three-requires
+first-three-requires c κs = search needs
+
+returns : tie.Need-returns
+unfolding answer
+returns c = simp (c .first-three .ensures, c .before .first-of .ensures, c .before .before .has .ensures, c .before .before .before .before .before .dop-id .ensures, c .before .before .before .before .before .before .is-ready .ensures, c .before .before .before .before .before .before .before .dop-kind .ensures, c .before .before .before .before .before .before .before .before .vop-kind .ensures)
+
+pub write-back-node-resp-refusal-spec : {M : Type 1} → statement M
+write-back-node-resp-refusal-spec =
+    tie.close
+    (tie.spec
+    vop-kind-requires
+    dop-kind-requires
+    is-ready-requires
+    dop-id-requires
+    has-requires
+    first-of-requires
+    first-three-requires
+    returns)

@@ -1,0 +1,58 @@
+-- A scan with a flag. Assumes nothing.
+use Prim.Native.Nat.{_-_, _≤_}
+use mathlib.Core.Bool.{_&&_}
+use mathlib.Core.Path.{_≡_, refl}
+use borrow.Author.Needs.{needs}
+use lib.Dec.{eqb, ltb}
+use Rattle.base.proofs.Scan.{some-end, some-none, some-turn}
+use Rattle.base.specs.Scan.{someBelow}
+use Rattle.disk.proofs.crashing.written_at.Statement.{statement}
+use Rattle.blockdisk.specs.Crash.{writtenAt}
+use Rattle.queue.specs.Queue.{requestAt}
+use Rattle.disk.proofs.crashing.written_at.Tie as tie
+
+abbrev Inv-loop : tie.InvT-loop
+Inv-loop addr q n hit₀ i₀ hit i = (i ≤ 16) × (hit ≡ someBelow (λ k. ltb k (q .count) && eqb (requestAt q k .loc .addr) addr) i)
+
+abbrev μ-loop : tie.MeasureT-loop
+μ-loop addr q n hit₀ i₀ hit i = 16 - i
+
+cast-n : tie.Need-cast-n Inv-loop μ-loop
+cast-n c = search needs
+
+loop-holds : tie.Need-loop-holds Inv-loop μ-loop
+loop-holds c = (search needs, some-none _)
+
+mul-w : tie.Need-mul-w Inv-loop μ-loop
+mul-w c = search needs
+
+element-copy-out-w : tie.Need-element-copy-out-w Inv-loop μ-loop
+element-copy-out-w c = search needs
+
+add-i : tie.Need-add-i Inv-loop μ-loop
+add-i c = search needs
+
+loop-less : tie.Need-loop-less Inv-loop μ-loop
+loop-less c = search needs
+
+loop-again : tie.Need-loop-again Inv-loop μ-loop
+loop-again c = (search needs, some-turn _ _ (c .before .before .before .before .loop .inv .1) refl)
+
+returns : tie.Need-returns Inv-loop μ-loop
+unfolding writtenAt
+returns c = some-end _ (c .before .loop .inv .1) (c .before .loop .inv .0) (c .loop-test .left)
+
+pub written-at-spec : {M : Type 1} → statement M
+written-at-spec =
+    tie.close
+    (tie.spec
+    Inv-loop
+    μ-loop
+    cast-n
+    loop-holds
+    mul-w
+    element-copy-out-w
+    add-i
+    loop-less
+    loop-again
+    returns)

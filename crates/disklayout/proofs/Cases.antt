@@ -1,0 +1,78 @@
+-- The starred cases of document 01's "Device 0 at its edges", and JournalPosAdd at the edge of 64 bits: shown from the definitions
+-- by one statement over one list. Assumes nothing.
+use mathlib.Core.Path.{_≡_, refl}
+use mathlib.Core.Bool.{Bool, true, false}
+use mathlib.Core.List.{List, [], _∷_, map}
+use mathlib.Core.Option.{Option, some}
+use Prim.Native.Nat.{ℕ, _^_}
+use lib.Dec.{ltb}
+use Rattle.disklayout.specs.declared.Device.{Device}
+use Rattle.disklayout.specs.declared.Location.{Location}
+use Rattle.disklayout.specs.Calls.{numberIf}
+use Rattle.disklayout.specs.Device.{deviceOf, devices}
+use Rattle.disklayout.specs.Layout.{ValidIndirectionTableAddr, ValidIndirectionTableLocation, ValidNodeAddr, ValidNodeLocation, ValidJournalLocation, overlap}
+use Rattle.disklayout.specs.Journal.{JournalFrontLocation, JournalBackLocation, JournalPosAdd}
+
+abbrev pub loc : ℕ → ℕ → Location
+loc a n = record { addr = a; len = n }
+
+-- a question on device 0
+pub data Case : Type 0 where
+  table-place : Location → Case
+  node-place : Location → Case
+  journal-place : Location → Case
+  overlaps : Location → Location → Case
+  front : ℕ → ℕ → Case
+  back : ℕ → ℕ → Case
+  pos-add : ℕ → ℕ → Case
+
+pub data Answer : Type 0 where
+  says : Bool → Answer
+  at : Option Location → Answer
+  returns : ℕ → ℕ → Answer
+
+pub ask : Case → Answer
+ask (table-place l) = says (ValidIndirectionTableLocation (deviceOf 0) l)
+ask (node-place l) = says (ValidNodeLocation (deviceOf 0) l)
+ask (journal-place l) = says (ValidJournalLocation (deviceOf 0) l)
+ask (overlaps l k) = says (overlap l k)
+ask (front s n) = at (JournalFrontLocation (deviceOf 0) s n)
+ask (back s n) = at (JournalBackLocation (deviceOf 0) s n)
+ask (pos-add s n) = let r = numberIf 0 (ltb (JournalPosAdd (deviceOf 0) s n) (2 ^ 64)) (JournalPosAdd (deviceOf 0) s n) in returns (r .answer) (r .value)
+
+infix 40 _gives_
+pub data Edge : Type 0 where
+  _gives_ : Case → Answer → Edge
+
+pub asked : Edge → Answer
+asked (c gives a) = ask c
+
+pub expected : Edge → Answer
+expected (c gives a) = a
+
+pub edges : List Edge
+edges =
+    (table-place (loc 73728 1) gives says true) ∷
+    (table-place (loc 73728 65536) gives says true) ∷
+    (table-place (loc 73728 0) gives says false) ∷
+    (table-place (loc 73728 65537) gives says false) ∷
+    (table-place (loc 73729 1) gives says false) ∷
+    (node-place (loc 262144 0) gives says true) ∷
+    (node-place (loc 262144 65536) gives says true) ∷
+    (node-place (loc 262144 65537) gives says false) ∷
+    (node-place (loc 196608 1) gives says false) ∷
+    (journal-place (loc 69632 4096) gives says true) ∷
+    (journal-place (loc 8192 0) gives says true) ∷
+    (journal-place (loc 73728 0) gives says false) ∷
+    (overlaps (loc 100 0) (loc 99 2) gives says true) ∷
+    (overlaps (loc 100 0) (loc 100 0) gives says false) ∷
+    (front 14 5 gives at (some (loc 65536 8192))) ∷
+    (back 14 5 gives at (some (loc 8192 12288))) ∷
+    -- beside the starred ones: a sum past 64 bits whose result fits, and one whose result doesn't
+    (pos-add 18446744073709551615 16 gives returns 0 18446744073709551615) ∷
+    (pos-add 18446744073709551615 17 gives returns 1 0) ∷
+    []
+
+pub edges-shown : map asked edges ≡ map expected edges
+unfolding asked expected edges ask deviceOf devices ValidIndirectionTableAddr ValidIndirectionTableLocation ValidNodeAddr ValidNodeLocation ValidJournalLocation overlap
+edges-shown = refl

@@ -1,0 +1,20 @@
+-- By what the callees ensure. Assumes nothing.
+use borrow.Author.Needs.{needs}
+use Rattle.system.proofs.pictures.started_at.Statement.{statement}
+use Rattle.system.proofs.pictures.started_at.Tie as tie
+
+picture-of-requires : tie.Need-picture-of-requires
+picture-of-requires c κs = search needs
+
+naming-place-requires : tie.Need-naming-place-requires
+naming-place-requires c κs = search needs
+
+no-name-requires : tie.Need-no-name-requires
+no-name-requires c κs = search needs
+
+returns : tie.Need-returns
+returns c = simp (c .no-name .ensures, c .before .naming-place .ensures, c .before .before .picture-of .ensures)
+
+pub started-at-spec : {M : Type 1} → statement M
+started-at-spec =
+    tie.close (tie.spec picture-of-requires naming-place-requires no-name-requires returns)
