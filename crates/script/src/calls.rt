@@ -1,4 +1,7 @@
 // The call that a request makes on a cache and a disk.
+ghost use mathlib.Core.Path.{_≡_};
+ghost use Rattle.blockcache.specs.Form.{isReady};
+ghost use Rattle.script.specs.Calls.{someNode, nothingNode, storedNode, cachedNode, nodeFrom, someTable, nothingTable, storedTable, cacheTable, tableFrom, bringingOf, callOf};
 use crate::request::NodeSource;
 use crate::request::NodeWord;
 use crate::request::Request;
@@ -11,6 +14,7 @@ use blockdisk::Brought;
 use blockdisk::Disk;
 use blockdisk::DiskOp;
 use sectortype::Node;
+use sectortype::Nodes;
 use sectortype::Table;
 
 // A node or nothing, which is zeros.
@@ -25,14 +29,18 @@ pub struct BroughtTable {
     pub table: Table,
 }
 
-fn some_node(node: Node) -> BroughtNode {
+fn some_node(node: Node) -> BroughtNode
+    ensures { λ r. ⌜ r ≡ someNode node ⌝ }
+{
     BroughtNode {
         brought: Brought::Something,
         node,
     }
 }
 
-fn nothing_node() -> BroughtNode {
+fn nothing_node() -> BroughtNode
+    ensures { λ r. ⌜ r ≡ nothingNode ⌝ }
+{
     let node = sector::empty_node();
     BroughtNode {
         brought: Brought::Nothing,
@@ -40,14 +48,18 @@ fn nothing_node() -> BroughtNode {
     }
 }
 
-fn some_table(table: Table) -> BroughtTable {
+fn some_table(table: Table) -> BroughtTable
+    ensures { λ r. ⌜ r ≡ someTable table ⌝ }
+{
     BroughtTable {
         brought: Brought::Something,
         table,
     }
 }
 
-fn nothing_table() -> BroughtTable {
+fn nothing_table() -> BroughtTable
+    ensures { λ r. ⌜ r ≡ nothingTable ⌝ }
+{
     let table = sector::empty_table();
     BroughtTable {
         brought: Brought::Nothing,
@@ -56,7 +68,9 @@ fn nothing_table() -> BroughtTable {
 }
 
 // What is stored at the place that is queued as a node read under an id.
-fn answered_node(device: u64, disk: Disk, id: u64) -> BroughtNode {
+fn answered_node(device: u64, disk: Disk, id: u64) -> BroughtNode
+    ensures { λ r. ⌜ r ≡ storedNode device disk id ⌝ }
+{
     let q = disk.queues.nodereads;
     let records = disk.records;
     let w = queue::entry(q, id);
@@ -69,7 +83,9 @@ fn answered_node(device: u64, disk: Disk, id: u64) -> BroughtNode {
     nothing_node()
 }
 
-fn answered_table(device: u64, disk: Disk, id: u64) -> BroughtTable {
+fn answered_table(device: u64, disk: Disk, id: u64) -> BroughtTable
+    ensures { λ r. ⌜ r ≡ storedTable device disk id ⌝ }
+{
     let q = disk.queues.tablereads;
     let records = disk.records;
     let w = queue::entry(q, id);
@@ -83,12 +99,13 @@ fn answered_table(device: u64, disk: Disk, id: u64) -> BroughtTable {
 }
 
 // The cached node of a reference, zeros where there is none.
-fn cached_node(cache: Cache, reference: u64) -> Node {
+fn cached_node(nodes: Nodes, reference: u64) -> Node
+    ensures { λ r. ⌜ r ≡ cachedNode nodes reference ⌝ }
+{
     if reference > 63 {
         return sector::empty_node();
     }
     let r = reference as usize;
-    let nodes = cache.nodes;
     let slot = nodes.slots[r];
     if slot.present {
         return slot.node;
@@ -96,7 +113,9 @@ fn cached_node(cache: Cache, reference: u64) -> Node {
     sector::empty_node()
 }
 
-pub fn is_ready(cache: Cache) -> bool {
+pub fn is_ready(cache: Cache) -> bool
+    ensures { λ r. ⌜ r ≡ isReady cache ⌝ }
+{
     let phase = cache.phase;
     match phase {
         Phase::Unready => false,
@@ -106,7 +125,9 @@ pub fn is_ready(cache: Cache) -> bool {
 }
 
 // One of the cache's tables, or the empty one where it is not there.
-fn cache_table(present: bool, t: Table) -> BroughtTable {
+fn cache_table(present: bool, t: Table) -> BroughtTable
+    ensures { λ r. ⌜ r ≡ cacheTable present t ⌝ }
+{
     if present {
         return some_table(t);
     }
@@ -120,17 +141,22 @@ fn node_value(
     device: u64,
     cache: Cache,
     disk: Disk,
-) -> BroughtNode {
+) -> BroughtNode
+    ensures { λ r. ⌜ r ≡ nodeFrom (w .source) (w .node) reference id device cache disk ⌝ }
+{
+    let nodes = cache.nodes;
     let source = w.source;
     match source {
         NodeSource::Nothing => nothing_node(),
         NodeSource::Written => some_node(w.node),
         NodeSource::Stored => answered_node(device, disk, id),
-        NodeSource::Cached => some_node(cached_node(cache, reference)),
+        NodeSource::Cached => some_node(cached_node(nodes, reference)),
     }
 }
 
-fn table_value(w: TableWord, id: u64, device: u64, cache: Cache, disk: Disk) -> BroughtTable {
+fn table_value(w: TableWord, id: u64, device: u64, cache: Cache, disk: Disk) -> BroughtTable
+    ensures { λ r. ⌜ r ≡ tableFrom (w .source) (w .table) id device cache disk ⌝ }
+{
     let ready = is_ready(cache);
     let tables = cache.tables;
     let source = w.source;
@@ -145,7 +171,9 @@ fn table_value(w: TableWord, id: u64, device: u64, cache: Cache, disk: Disk) -> 
 }
 
 // The disk operation, with what the two read answers bring.
-fn bringing(op: DiskOp, node: Brought, table: Brought) -> DiskOp {
+fn bringing(op: DiskOp, node: Brought, table: Brought) -> DiskOp
+    ensures { λ r. ⌜ r ≡ bringingOf op node table ⌝ }
+{
     match op {
         DiskOp::ReqReadIndirectionTableOp(id, loc) => DiskOp::ReqReadIndirectionTableOp(id, loc),
         DiskOp::ReqReadNodeOp(id, loc) => DiskOp::ReqReadNodeOp(id, loc),
@@ -159,7 +187,9 @@ fn bringing(op: DiskOp, node: Brought, table: Brought) -> DiskOp {
     }
 }
 
-pub fn call_of(q: Request, device: u64, cache: Cache, disk: Disk) -> Call {
+pub fn call_of(q: Request, device: u64, cache: Cache, disk: Disk) -> Call
+    ensures { λ c. ⌜ c ≡ callOf q device cache disk ⌝ }
+{
     let id = q.id;
     let reference = q.reference;
     let vop = q.vop;
