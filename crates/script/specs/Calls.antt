@@ -44,11 +44,11 @@ unfoldable pub cachedNode : Nodes → ℕ → Node
 cachedNode m r = cond (slotAt m r .present) (slotAt m r .node) zeroNode
 
 -- by where the node comes from; n is the one written out
-abbrev pub nodeFrom : NodeSource → Node → ℕ → ℕ → ℕ → Cache → Disk → BroughtNode
-nodeFrom node.Nothing n r id d c s = nothingNode
-nodeFrom node.Written n r id d c s = someNode n
-nodeFrom node.Stored n r id d c s = storedNode d s id
-nodeFrom node.Cached n r id d c s = someNode (cachedNode (c .nodes) r)
+abbrev pub nodeValue : NodeSource → Node → ℕ → ℕ → ℕ → Cache → Disk → BroughtNode
+nodeValue node.Nothing n r id d c s = nothingNode
+nodeValue node.Written n r id d c s = someNode n
+nodeValue node.Stored n r id d c s = storedNode d s id
+nodeValue node.Cached n r id d c s = someNode (cachedNode (c .nodes) r)
 
 -- A TABLE
 
@@ -71,13 +71,13 @@ abbrev pub cacheTable : Bool → Table → BroughtTable
 cacheTable present t = someTable (cond present t emptyTable)
 
 -- by where the table comes from; t is the one written out. A cache that is not Ready has no tables
-abbrev pub tableFrom : TableSource → Table → ℕ → ℕ → Cache → Disk → BroughtTable
-tableFrom table.Nothing t id d c s = nothingTable
-tableFrom table.Written t id d c s = someTable t
-tableFrom table.Stored t id d c s = storedTable d s id
-tableFrom table.Frozen t id d c s = cacheTable (isReady c && c .tables .isfrozen) (c .tables .frozen)
-tableFrom table.Ephemeral t id d c s = cacheTable (isReady c) (c .tables .ephemeral)
-tableFrom table.Persistent t id d c s = cacheTable (isReady c) (c .tables .persistent)
+abbrev pub tableValue : TableSource → Table → ℕ → ℕ → Cache → Disk → BroughtTable
+tableValue table.Nothing t id d c s = nothingTable
+tableValue table.Written t id d c s = someTable t
+tableValue table.Stored t id d c s = storedTable d s id
+tableValue table.Frozen t id d c s = cacheTable (isReady c && c .tables .isfrozen) (c .tables .frozen)
+tableValue table.Ephemeral t id d c s = cacheTable (isReady c) (c .tables .ephemeral)
+tableValue table.Persistent t id d c s = cacheTable (isReady c) (c .tables .persistent)
 
 -- THE CALL
 
@@ -101,5 +101,5 @@ callFrom q n t =
 unfoldable pub callOf : Request → ℕ → Cache → Disk → Call
 callOf q d c s =
     callFrom q
-    (nodeFrom (q .node .source) (q .node .node) (q .reference) (q .id) d c s)
-    (tableFrom (q .table .source) (q .table .table) (q .id) d c s)
+    (nodeValue (q .node .source) (q .node .node) (q .reference) (q .id) d c s)
+    (tableValue (q .table .source) (q .table .table) (q .id) d c s)

@@ -1,3 +1,4 @@
 pub mod Calls
+pub mod Offers
 pub mod Operations
 pub mod Requests

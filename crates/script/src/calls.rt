@@ -1,7 +1,7 @@
 // The call that a request makes on a cache and a disk.
 ghost use mathlib.Core.Path.{_≡_};
 ghost use Rattle.blockcache.specs.Form.{isReady};
-ghost use Rattle.script.specs.Calls.{someNode, nothingNode, storedNode, cachedNode, nodeFrom, someTable, nothingTable, storedTable, cacheTable, tableFrom, bringingOf, callOf};
+ghost use Rattle.script.specs.Calls.{someNode, nothingNode, storedNode, cachedNode, nodeValue, someTable, nothingTable, storedTable, cacheTable, tableValue, bringingOf, callOf};
 use crate::request::NodeSource;
 use crate::request::NodeWord;
 use crate::request::Request;
@@ -142,7 +142,7 @@ fn node_value(
     cache: Cache,
     disk: Disk,
 ) -> BroughtNode
-    ensures { λ r. ⌜ r ≡ nodeFrom (w .source) (w .node) reference id device cache disk ⌝ }
+    ensures { λ r. ⌜ r ≡ nodeValue (w .source) (w .node) reference id device cache disk ⌝ }
 {
     let nodes = cache.nodes;
     let source = w.source;
@@ -155,7 +155,7 @@ fn node_value(
 }
 
 fn table_value(w: TableWord, id: u64, device: u64, cache: Cache, disk: Disk) -> BroughtTable
-    ensures { λ r. ⌜ r ≡ tableFrom (w .source) (w .table) id device cache disk ⌝ }
+    ensures { λ r. ⌜ r ≡ tableValue (w .source) (w .table) id device cache disk ⌝ }
 {
     let ready = is_ready(cache);
     let tables = cache.tables;

@@ -1,4 +1,7 @@
 // The records that a crash line offers: what is stored, but where a word of the line says otherwise.
+ghost use mathlib.Core.Path.{_≡_};
+ghost use Prim.Native.Nat.{_<_};
+ghost use Rattle.script.specs.Offers.{noArea, noBlock, offeredTable, areaReadOf, blockReadOf, refusedOf, withArea, withBlock, withWord, withBlocks, offeredOf};
 use blockdisk::NodeRecord;
 use blockdisk::Records;
 use blockdisk::TableRecord;
@@ -20,12 +23,12 @@ use words::text::word;
 
 pub struct AreaRead {
     pub ok: bool,
-    pub record: TableRecord,
+    pub held: TableRecord,
 }
 
 pub struct BlockRead {
     pub ok: bool,
-    pub record: NodeRecord,
+    pub held: NodeRecord,
 }
 
 // The records so far, and the blocks that a word has named; where a word is not of the form, `ok` is false and the rest says
@@ -36,11 +39,13 @@ pub struct Offer {
     pub records: Records,
 }
 
-fn no_area(ok: bool) -> AreaRead {
+fn no_area(ok: bool) -> AreaRead
+    ensures { λ r. ⌜ r ≡ noArea ok ⌝ }
+{
     let table = sector::empty_table();
     AreaRead {
         ok,
-        record: TableRecord {
+        held: TableRecord {
             present: false,
             loc: Location { addr: 0, len: 0 },
             table,
@@ -48,11 +53,13 @@ fn no_area(ok: bool) -> AreaRead {
     }
 }
 
-fn no_block(ok: bool) -> BlockRead {
+fn no_block(ok: bool) -> BlockRead
+    ensures { λ r. ⌜ r ≡ noBlock ok ⌝ }
+{
     let node = sector::empty_node();
     BlockRead {
         ok,
-        record: NodeRecord {
+        held: NodeRecord {
             present: false,
             loc: Location { addr: 0, len: 0 },
             node,
@@ -61,7 +68,9 @@ fn no_block(ok: bool) -> BlockRead {
 }
 
 // A table behind a `/`: written out, or `empty`.
-fn offered_table(w: &[u8]) -> TableRead {
+fn offered_table(w: &[u8]) -> TableRead
+    ensures { λ r. ⌜ r ≡ offeredTable (now (w .entry)) ⌝ }
+{
     if same(w, b"empty") {
         let mut t = no_table();
         t.ok = true;
@@ -71,7 +80,9 @@ fn offered_table(w: &[u8]) -> TableRead {
 }
 
 // `none` or `ADDR+LEN/TABLE`.
-fn area(w: &[u8]) -> AreaRead {
+fn area(w: &[u8]) -> AreaRead
+    ensures { λ r. ⌜ r ≡ areaReadOf (now (w .entry)) ⌝ }
+{
     if same(w, b"none") {
         return no_area(true);
     }
@@ -89,7 +100,7 @@ fn area(w: &[u8]) -> AreaRead {
     let table = t.table;
     AreaRead {
         ok: true,
-        record: TableRecord {
+        held: TableRecord {
             present: true,
             loc,
             table,
@@ -98,7 +109,9 @@ fn area(w: &[u8]) -> AreaRead {
 }
 
 // `none` or `ADDR+LEN/NODE`.
-fn block(w: &[u8]) -> BlockRead {
+fn block(w: &[u8]) -> BlockRead
+    ensures { λ r. ⌜ r ≡ blockReadOf (now (w .entry)) ⌝ }
+{
     if same(w, b"none") {
         return no_block(true);
     }
@@ -116,7 +129,7 @@ fn block(w: &[u8]) -> BlockRead {
     let node = n.node;
     BlockRead {
         ok: true,
-        record: NodeRecord {
+        held: NodeRecord {
             present: true,
             loc,
             node,
@@ -124,17 +137,19 @@ fn block(w: &[u8]) -> BlockRead {
     }
 }
 
-fn refused(o: Offer) -> Offer {
+fn refused(o: Offer) -> Offer
+    ensures { λ r. ⌜ r ≡ refusedOf o ⌝ }
+{
     let mut next = o;
     next.ok = false;
     next
 }
 
 // With what a line has for one of the table areas, 0 or 1; what is stored there where it has nothing.
-fn with_area(o: Offer, rest: &[u8], key: &[u8], k: usize) -> Offer {
-    if k > 1 {
-        return o;
-    }
+fn with_area(o: Offer, rest: &[u8], key: &[u8], k: usize) -> Offer
+    requires { ⌜ k < 2 ⌝ }
+    ensures { λ r. ⌜ r ≡ withArea o (now (rest .entry)) (now (key .entry)) k ⌝ }
+{
     let w = word(rest, key);
     if w.len() == 0 {
         return o;
@@ -143,16 +158,18 @@ fn with_area(o: Offer, rest: &[u8], key: &[u8], k: usize) -> Offer {
     if !a.ok {
         return refused(o);
     }
-    let record = a.record;
+    let held = a.held;
     let mut records = o.records;
-    records.tables[k] = record;
+    records.tables[k] = held;
     let mut next = o;
     next.records = records;
     next
 }
 
 // With what one word has for a block, `K:` and the record; no block is named twice.
-fn with_block(o: Offer, w: &[u8]) -> Offer {
+fn with_block(o: Offer, w: &[u8]) -> Offer
+    ensures { λ r. ⌜ r ≡ withBlock o (now (w .entry)) ⌝ }
+{
     let at = find(w, b':');
     if at == w.len() {
         return refused(o);
@@ -165,33 +182,44 @@ fn with_block(o: Offer, w: &[u8]) -> Offer {
     if !b.ok | o.named[k] {
         return refused(o);
     }
-    let record = b.record;
+    let held = b.held;
     let mut records = o.records;
-    records.nodes[k] = record;
+    records.nodes[k] = held;
     let mut next = o;
     next.records = records;
     next.named[k] = true;
     next
 }
 
+// With what one word of a line has; only `block=` says anything of blocks.
+fn with_word(o: Offer, w: &[u8]) -> Offer
+    ensures { λ r. ⌜ r ≡ withWord o (now (w .entry)) ⌝ }
+{
+    if starts(w, b"block=") {
+        return with_block(o, after(w, 6));
+    }
+    o
+}
+
 // With what all the words of a line have for blocks.
-fn with_blocks(o: Offer, rest: &[u8]) -> Offer {
+fn with_blocks(o: Offer, rest: &[u8]) -> Offer
+    ensures { λ r. ⌜ r ≡ withBlocks o (now (rest .entry)) ⌝ }
+{
     let mut next = o;
     let mut at: usize = 0;
     while at < rest.len() {
         let tail = after(rest, at + 1);
         let n = find(tail, b' ');
-        let w = front(tail, n);
-        if starts(w, b"block=") {
-            next = with_block(next, after(w, 6));
-        }
+        next = with_word(next, front(tail, n));
         at = at + 1 + n;
     }
     next
 }
 
 // What a crash line offers, from what follows its first word and what is stored.
-pub fn offered(rest: &[u8], stored: Records) -> Offer {
+pub fn offered(rest: &[u8], stored: Records) -> Offer
+    ensures { λ o. ⌜ o ≡ offeredOf (now (rest .entry)) stored ⌝ }
+{
     let none = Offer {
         ok: true,
         named: [false; 128],

@@ -1,20 +1,23 @@
--- Each turn passes a word. Assumes nothing.
+-- What is left of the words is passed. Assumes nothing.
 use Prim.Native.Nat.{_-_, _≤_}
-use mathlib.Core.Logic.{⊎-elim}
-use native.Mathlib.Omega.{arith}
+use mathlib.Core.Path.{_≡_, refl}
 use borrow.Author.Needs.{needs}
-use lib.ListN.{length}
+use lib.ListN.{drop, length}
+use Rattle.script.proofs.Offers.{blocks-end, blocks-turn}
 use Rattle.script.proofs.offer.with_blocks.Statement.{statement}
+use Rattle.script.specs.Offers.{blocksFrom, withBlocks}
+use Rattle.words.specs.Cut.{wordsOf}
 use Rattle.script.proofs.offer.with_blocks.Tie as tie
 
 abbrev Inv-loop : tie.InvT-loop
-Inv-loop rest next₀ at₀ t8 next at = (at ≤ length rest)
+Inv-loop rest next₀ at₀ next at = (at ≤ length rest) × (blocksFrom next (wordsOf (drop at rest)) ≡ withBlocks next₀ rest)
 
 abbrev μ-loop : tie.MeasureT-loop
-μ-loop rest next₀ at₀ t8 next at = length rest - at
+μ-loop rest next₀ at₀ next at = length rest - at
 
 loop-holds : tie.Need-loop-holds Inv-loop μ-loop
-loop-holds c = search needs
+unfolding withBlocks
+loop-holds c = (search needs, refl)
 
 add-after : tie.Need-add-after Inv-loop μ-loop
 add-after c = search needs
@@ -28,17 +31,8 @@ find-requires c κs = search needs
 front-requires : tie.Need-front-requires Inv-loop μ-loop
 front-requires c κs = search needs
 
-slice-aggregate-starts : tie.Need-slice-aggregate-starts Inv-loop μ-loop
-slice-aggregate-starts c = search needs
-
-starts-requires : tie.Need-starts-requires Inv-loop μ-loop
-starts-requires c κs = search needs
-
-after-requires-2 : tie.Need-after-requires-2 Inv-loop μ-loop
-after-requires-2 c κs = search needs
-
-with-block-requires : tie.Need-with-block-requires Inv-loop μ-loop
-with-block-requires c κs = search needs
+with-word-requires : tie.Need-with-word-requires Inv-loop μ-loop
+with-word-requires c κs = search needs
 
 add-at : tie.Need-add-at Inv-loop μ-loop
 add-at c = search needs
@@ -50,10 +44,16 @@ loop-less : tie.Need-loop-less Inv-loop μ-loop
 loop-less c = search needs
 
 loop-again : tie.Need-loop-again Inv-loop μ-loop
-loop-again c = ⊎-elim (λ w. omega arith) (λ w. omega arith) (c .if1 .came)
+loop-again c = (
+  search needs,
+  rw (c .before .before .find .ensures .0, c .before .before .before .after .ensures .0)
+      (blocks-turn ((c .before .before .before .before .before .before .before .args .rest) .now) (c .before .before .before .before .before .loop .at) (c .before .before .before .before .before .loop .next) (c .before .before .before .before .loop-test .taken)
+      (rw (c .before .front .ensures, c .before .before .find .ensures .0, c .before .before .before .after .ensures .0) at (c .with-word .ensures))
+      (c .before .before .before .before .before .loop .inv .1)),
+)
 
 returns : tie.Need-returns Inv-loop μ-loop
-returns c = tt
+returns c = blocks-end ((c .before .before .before .args .rest) .now) (c .before .loop .at) (c .before .loop .next) (c .loop-test .left) (c .before .loop .inv .1)
 
 pub with-blocks-spec : {M : Type 1} → statement M
 with-blocks-spec =
@@ -66,10 +66,7 @@ with-blocks-spec =
     after-requires
     find-requires
     front-requires
-    slice-aggregate-starts
-    starts-requires
-    after-requires-2
-    with-block-requires
+    with-word-requires
     add-at
     add-at-2
     loop-less

@@ -1,0 +1,2 @@
+-- The laws of a crash line's words.
+pub mod Offers

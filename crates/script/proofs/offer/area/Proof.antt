@@ -1,0 +1,93 @@
+-- Case by case. Assumes nothing.
+use mathlib.Core.Path.{_∙_, sym}
+use borrow.Author.Needs.{needs}
+use borrow.Author.Tests.{eq-eqb, ne-eqb, not-false, not-true}
+use Rattle.script.proofs.offer.area.Statement.{statement}
+use Rattle.script.specs.Offers.{areaReadOf}
+use Rattle.script.proofs.offer.area.Tie as tie
+
+slice-aggregate-same : tie.Need-slice-aggregate-same
+slice-aggregate-same c = search needs
+
+same-requires : tie.Need-same-requires
+same-requires c κs = search needs
+
+no-area-requires : tie.Need-no-area-requires
+no-area-requires c κs = search needs
+
+returns : tie.Need-returns
+unfolding areaReadOf
+returns c = simp (sym (c .before .before .same .ensures) ∙ c .before .if1 .taken) (c .no-area .ensures)
+
+find-requires : tie.Need-find-requires
+find-requires c κs = search needs
+
+no-area-requires-2 : tie.Need-no-area-requires-2
+no-area-requires-2 c κs = search needs
+
+returns-2 : tie.Need-returns-2
+unfolding areaReadOf
+returns-2 c = simp (sym (c .before .before .before .before .same .ensures) ∙ c .before .before .before .if1 .left, eq-eqb _ _ (rw (c .before .before .find .ensures .0) at (c .before .if2 .taken))) (c .no-area2 .ensures)
+
+front-requires : tie.Need-front-requires
+front-requires c κs = search needs
+
+location-requires : tie.Need-location-requires
+location-requires c κs = search needs
+
+enum-known-loc : tie.Need-enum-known-loc
+enum-known-loc c = search needs
+
+enum-told : tie.Need-enum-told
+enum-told c = search needs
+
+no-area-requires-3 : tie.Need-no-area-requires-3
+no-area-requires-3 c κs = search needs
+
+returns-3 : tie.Need-returns-3
+unfolding areaReadOf
+returns-3 c = simp (sym (c .before .before .before .before .before .before .before .before .same .ensures) ∙ c .before .before .before .before .before .before .before .if1 .left, ne-eqb _ _ (rw (c .before .before .before .before .before .before .find .ensures .0) at (c .before .before .before .before .before .if2 .left)), rw (c .before .before .before .before .front .ensures, c .before .before .before .before .before .before .find .ensures .0) at (sym (c .before .before .before .location .ensures) ∙ c .before .enum-told .given .1)) (c .no-area3 .ensures)
+
+add-after : tie.Need-add-after
+add-after c = search needs
+
+after-requires : tie.Need-after-requires
+after-requires c κs = search needs
+
+offered-table-requires : tie.Need-offered-table-requires
+offered-table-requires c κs = search needs
+
+no-area-requires-4 : tie.Need-no-area-requires-4
+no-area-requires-4 c κs = search needs
+
+returns-4 : tie.Need-returns-4
+unfolding areaReadOf
+returns-4 c = simp (sym (c .before .before .before .before .before .before .before .before .before .before .before .before .before .same .ensures) ∙ c .before .before .before .before .before .before .before .before .before .before .before .before .if1 .left, ne-eqb _ _ (rw (c .before .before .before .before .before .before .before .before .before .before .before .find .ensures .0) at (c .before .before .before .before .before .before .before .before .before .before .if2 .left)), rw (c .before .before .before .before .before .before .before .before .before .front .ensures, c .before .before .before .before .before .before .before .before .before .before .before .find .ensures .0) at (sym (c .before .before .before .before .before .before .before .before .location .ensures) ∙ c .before .before .before .before .before .before .loc .given .1), rw (c .before .before .before .offered-table .ensures, c .before .before .before .before .after .ensures .0, c .before .before .before .before .before .before .before .before .before .before .before .find .ensures .0) at (not-true (c .before .before .before .offered-table .result .ok) (c .before .if3 .taken))) (c .no-area4 .ensures)
+
+returns-5 : tie.Need-returns-5
+unfolding areaReadOf
+returns-5 c = simp (sym (c .before .before .before .before .before .before .before .before .before .before .before .before .before .same .ensures) ∙ c .before .before .before .before .before .before .before .before .before .before .before .before .if1 .left, ne-eqb _ _ (rw (c .before .before .before .before .before .before .before .before .before .before .before .find .ensures .0) at (c .before .before .before .before .before .before .before .before .before .before .if2 .left)), rw (c .before .before .before .before .before .before .before .before .before .front .ensures, c .before .before .before .before .before .before .before .before .before .before .before .find .ensures .0) at (sym (c .before .before .before .before .before .before .before .before .location .ensures) ∙ c .before .before .before .before .before .before .loc .given .1), rw (c .before .before .before .offered-table .ensures, c .before .before .before .before .after .ensures .0, c .before .before .before .before .before .before .before .before .before .before .before .find .ensures .0) at (not-false (c .before .before .before .offered-table .result .ok) (c .before .if3 .left)), rw (c .before .before .before .before .after .ensures .0, c .before .before .before .before .before .before .before .before .before .before .before .find .ensures .0) at (c .before .before .before .offered-table .ensures))
+
+pub area-spec : {M : Type 1} → statement M
+area-spec =
+    tie.close
+    (tie.spec
+    slice-aggregate-same
+    same-requires
+    no-area-requires
+    returns
+    find-requires
+    no-area-requires-2
+    returns-2
+    front-requires
+    location-requires
+    enum-known-loc
+    enum-told
+    no-area-requires-3
+    returns-3
+    add-after
+    after-requires
+    offered-table-requires
+    no-area-requires-4
+    returns-4
+    returns-5)

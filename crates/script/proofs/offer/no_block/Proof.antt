@@ -1,0 +1,13 @@
+-- By what the callee ensures. Assumes nothing.
+use borrow.Author.Needs.{needs}
+use Rattle.script.proofs.offer.no_block.Statement.{statement}
+use Rattle.script.proofs.offer.no_block.Tie as tie
+
+empty-node-requires : tie.Need-empty-node-requires
+empty-node-requires c κs = search needs
+
+returns : tie.Need-returns
+returns c = simp (c .empty-node .ensures)
+
+pub no-block-spec : {M : Type 1} → statement M
+no-block-spec = tie.close (tie.spec empty-node-requires returns)
