@@ -25,10 +25,11 @@ use Rattle.script.specs.declared.request.TableSource.the-variants as tab
 
 -- A NODE
 
+-- a node that a read answer may bring
 abbrev pub someNode : Node → BroughtNode
 someNode n = record { brought = brought.Something; node = n }
 
--- where a node is needed, nothing is a node of zeros
+-- nothing brought; where a node is needed all the same, a node of zeros
 abbrev pub nothingNode : BroughtNode
 nothingNode = record { brought = brought.Nothing; node = zeroNode }
 
@@ -43,7 +44,7 @@ storedNode d s id =
 unfoldable pub cachedNode : Nodes → ℕ → Node
 cachedNode m r = cond (slotAt m r .present) (slotAt m r .node) zeroNode
 
--- by where the node comes from; n is the one written out
+-- by where the node comes from: n is the one written out, r the reference, id the disk operation's id
 abbrev pub nodeValue : NodeSource → Node → ℕ → ℕ → ℕ → Cache → Disk → BroughtNode
 nodeValue node.Nothing n r id d c s = nothingNode
 nodeValue node.Written n r id d c s = someNode n
@@ -52,10 +53,11 @@ nodeValue node.Cached n r id d c s = someNode (cachedNode (c .nodes) r)
 
 -- A TABLE
 
+-- a table that a read answer may bring
 abbrev pub someTable : Table → BroughtTable
 someTable t = record { brought = brought.Something; table = t }
 
--- where a table is needed, nothing is the empty table
+-- nothing brought; where a table is needed all the same, the empty table
 abbrev pub nothingTable : BroughtTable
 nothingTable = record { brought = brought.Nothing; table = emptyTable }
 
@@ -70,7 +72,7 @@ storedTable d s id =
 abbrev pub cacheTable : Bool → Table → BroughtTable
 cacheTable present t = someTable (cond present t emptyTable)
 
--- by where the table comes from; t is the one written out. A cache that is not Ready has no tables
+-- by where the table comes from: t is the one written out, and a cache that is not Ready has no tables
 abbrev pub tableValue : TableSource → Table → ℕ → ℕ → Cache → Disk → BroughtTable
 tableValue table.Nothing t id d c s = nothingTable
 tableValue table.Written t id d c s = someTable t
@@ -81,7 +83,7 @@ tableValue table.Persistent t id d c s = cacheTable (isReady c) (c .tables .pers
 
 -- THE CALL
 
--- the two read answers bring what the words for node and table say; no other operation brings anything
+-- the two read answers bring what the words node= and table= stand for; no other operation brings anything
 abbrev pub bringingOf : DiskOp → Brought → Brought → DiskOp
 bringingOf (ReqReadIndirectionTableOp id l) n t = ReqReadIndirectionTableOp id l
 bringingOf (ReqReadNodeOp id l) n t = ReqReadNodeOp id l
@@ -93,6 +95,7 @@ bringingOf (RespWriteIndirectionTableOp id) n t = RespWriteIndirectionTableOp id
 bringingOf (RespWriteNodeOp id) n t = RespWriteNodeOp id
 bringingOf NoDiskOp n t = NoDiskOp
 
+-- a request with its node and its table
 abbrev pub callFrom : Request → BroughtNode → BroughtTable → Call
 callFrom q n t =
     record { reference = q .reference; vop = q .vop; dop = bringingOf (q .dop) (n .brought) (t .brought); node = n .node; table = t .table }

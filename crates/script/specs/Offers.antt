@@ -22,7 +22,7 @@ use Rattle.words.specs.declared.digits.Place.the-variants as place
 
 -- A TABLE AREA
 
--- no record: what `none` says, or not of the form
+-- an area without a record: `none` where ok is true, else not of the form
 abbrev pub noArea : Bool → AreaRead
 noArea ok = record { ok = ok; held = zeroTableRecord }
 
@@ -30,6 +30,7 @@ noArea ok = record { ok = ok; held = zeroTableRecord }
 unfoldable pub offeredTable : List ℕ → TableRead
 offeredTable w = cond (sameOf w (101 ∷ 109 ∷ 112 ∷ 116 ∷ 121 ∷ [])) startTable (tableReadOf w)
 
+-- a record, where both sides are of the form
 abbrev pub areaFrom : Place → TableRead → AreaRead
 areaFrom (place.At l) t = cond (t .ok) (record { ok = true; held = record { present = true; loc = l; table = t .table } }) (noArea false)
 areaFrom place.Bad t = noArea false
@@ -43,9 +44,11 @@ areaReadOf w =
 
 -- A NODE BLOCK
 
+-- a block without a record: `none` where ok is true, else not of the form
 abbrev pub noBlock : Bool → BlockRead
 noBlock ok = record { ok = ok; held = zeroNodeRecord }
 
+-- a record, where both sides are of the form
 abbrev pub blockFrom : Place → NodeRead → BlockRead
 blockFrom (place.At l) n = cond (n .ok) (record { ok = true; held = record { present = true; loc = l; node = n .node } }) (noBlock false)
 blockFrom place.Bad n = noBlock false
@@ -63,6 +66,7 @@ blockReadOf w =
 abbrev pub refusedOf : Offer → Offer
 refusedOf o = record { ok = false; named = o .named; records = o .records }
 
+-- what was read takes the place of what area k had
 abbrev pub areaOffered : Offer → ℕ → AreaRead → Offer
 areaOffered o k a =
     cond (a .ok)
@@ -73,7 +77,7 @@ areaOffered o k a =
 unfoldable pub withArea : Offer → List ℕ → List ℕ → ℕ → Offer
 withArea o r key k = cond (eqb (length (wordOf r key)) 0) o (areaOffered o k (areaReadOf (drop (length key) (wordOf r key))))
 
--- a block that a word has named before is refused
+-- what was read takes the place of what block k had; a block that a word has named before is refused
 abbrev pub blockOffered : Offer → Digits → BlockRead → Offer
 blockOffered o (digits.Value k) b =
     cond (not (b .ok) || getD (o .named) k false) (refusedOf o)
@@ -90,11 +94,12 @@ withBlock o w =
 unfoldable pub withWord : Offer → List ℕ → Offer
 withWord o w = cond (startsOf w (98 ∷ 108 ∷ 111 ∷ 99 ∷ 107 ∷ 61 ∷ [])) (withBlock o (drop 6 w)) o
 
+-- one word after the other
 abbrev pub blocksFrom : Offer → List (List ℕ) → Offer
 blocksFrom o [] = o
 blocksFrom o (w ∷ ws) = blocksFrom (withWord o w) ws
 
--- the words of a rest one after the other
+-- all the words of a rest
 unfoldable pub withBlocks : Offer → List ℕ → Offer
 withBlocks o r = blocksFrom o (wordsOf r)
 

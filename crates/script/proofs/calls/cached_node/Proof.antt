@@ -1,4 +1,4 @@
--- A reference is cached, or not, or none. Assumes nothing.
+-- The reference is past 63, where no slot is, or cached, or not. Assumes nothing.
 use Prim.Native.Nat.{_≤_}
 use mathlib.Core.Path.{_≡_}
 use native.Mathlib.Omega.{arith}
