@@ -198,7 +198,7 @@ module _ (d : ℕ) (c : Cache) (r : ℕ) (q : Call) where
       (2 when not (isV 7)) ∷
       (3 when not (isD 0)) ∷
       (4 when not (isReady c)) ∷
-      (10 when c .awaited .waiting) ∷ -- the frozen table's write
+      (10 when c .awaited .waiting) ∷  -- the frozen table's write
       (11 when (not (c .places .isfrozen) || not (c .tables .isfrozen))) ∷
       []
 
@@ -217,7 +217,7 @@ module _ (d : ℕ) (c : Cache) (r : ℕ) (q : Call) where
       (3 when not (isD 0)) ∷
       (4 when not (isReady c)) ∷
       (8 when (not (slot .present) || not (entry .allocated))) ∷
-      (11 when needsCached (c .tables) r) ∷ -- the node as it was frozen
+      (11 when needsCached (c .tables) r) ∷  -- the node as it was frozen
       (13 when not (within (c .tables .ephemeral) (q .node .succs))) ∷
       []
 

@@ -2,7 +2,7 @@
 // zeros, and a count is the number of places in use.
 ghost use mathlib.Core.Path.{_≡_};
 ghost use Rattle.base.specs.Scan.{bit, countBelow};
-ghost use Rattle.sectortype.specs.Form.{succOk, succsForm, succsZero, locZero, nodeForm, nodeZero, entryForm, tableForm, slotForm, nodesForm, allocatedAt, presentAt};
+ghost use Rattle.sectortype.specs.Form.{placesZero, succOk, succsForm, succsZero, locZero, nodeForm, nodeZero, entryForm, tableForm, slotForm, nodesForm, allocatedAt, presentAt};
 use disklayout::Location;
 use sectortype::Entry;
 use sectortype::Node;
@@ -20,9 +20,27 @@ fn succ_ok(count: u8, k: usize, r: u8) -> bool
     (used & (r <= 63)) | (!used & (r == 0))
 }
 
+// Every place holds 0, as in most lists that there are.
+fn places_zero(s: Succs) -> bool
+    ensures { λ r. ⌜ r ≡ placesZero s ⌝ }
+{
+    let mut all = true;
+    let mut i: usize = 0;
+    while i < 8 {
+        all = all & (s.at[i] == 0);
+        i += 1;
+    }
+    all
+}
+
+// A list of zeros has only its count to be judged: asked first, since it is asked of hundreds of lists at each call.
 pub fn succs_form(s: Succs) -> bool
     ensures { λ r. ⌜ r ≡ succsForm s ⌝ }
 {
+    let zeros = places_zero(s);
+    if zeros {
+        return s.count <= 8;
+    }
     let mut good = true;
     let mut i: usize = 0;
     while i < 8 {

@@ -1,17 +1,17 @@
 -- What the written forms say, place by place, and that setting a place keeps them. Assumes nothing.
 use Prim.Native.Nat.{_<_, _≤_, ℕ}
-use mathlib.Core.Bool.{Bool, cond, false≢true, or-false, true}
+use mathlib.Core.Bool.{Bool, and-true, cond, false≢true, or-false, true}
 use mathlib.Core.Logic.{Iff·rfl, _↔_}
 use mathlib.Core.Path.{_≡_, refl}
 use native.Mathlib.Omega.{arith}
-use borrow.Author.Tests.{eqb-true, le-ltb, leb-true, lt-ltb, ltb-false, ltb-true}
-use lib.Dec.{eqb, ltb}
+use borrow.Author.Tests.{eq-eqb, eqb-true, le-ltb, leb-true, lt-ltb, ltb-false, ltb-true}
+use lib.Dec.{eqb, leb, ltb}
 use lib.ListN.{List·getD-eq-default, length}
-use Rattle.base.proofs.Scan.{all-iff}
+use Rattle.base.proofs.Scan.{all-at, all-iff, all-of}
 use Rattle.base.proofs.Tests.{and-iff, clash, eqb-iff, leb-iff, split, tests}
 use Rattle.base.specs.Scan.{allBelow, countBelow}
 use Rattle.sectortype.proofs.Rows.{rows-blank, rows-ext, rows-iff, rows-set, set-at-place}
-use Rattle.sectortype.specs.Form.{allocatedAt, emptyNodes, emptyTable, entryAt, entryForm, noEntry, noSlot, nodeForm, nodesForm, presentAt, slotAt, slotForm, succAt, succOk, succsForm, tableForm, withEntry, withSlot, zeroEntry, zeroNode, zeroSlot, zeroSuccs}
+use Rattle.sectortype.specs.Form.{allocatedAt, emptyNodes, emptyTable, entryAt, entryForm, noEntry, noSlot, nodeForm, nodesForm, placesZero, presentAt, slotAt, slotForm, succAt, succOk, succsForm, tableForm, withEntry, withSlot, zeroEntry, zeroNode, zeroSlot, zeroSuccs}
 use Rattle.sectortype.specs.declared.Entry.{Entry}
 use Rattle.sectortype.specs.declared.Nodes.{Nodes}
 use Rattle.sectortype.specs.declared.Slot.{Slot}
@@ -38,6 +38,17 @@ succ-used s f k b c = let e = rw (lt-ltb k (s .count) c) at (succs-iff s .0 f .1
 -- a place past the count is 0
 pub succ-unused : (s : Succs) → succsForm s ≡ true → (k : ℕ) → k < 8 → s .count ≤ k → succAt s k ≡ 0
 succ-unused s f k b c = eqb-true _ _ (rw (le-ltb k (s .count) c) at (succs-iff s .0 f .1 .1 k b))
+
+-- a place that holds 0 is good, in use or not
+pub zero-ok : (n k r : ℕ) → eqb r 0 ≡ true → succOk n k r ≡ true
+zero-ok n k r e = rw (eqb-true r 0 e) (split (ltb k n) (λ t. simp t) (λ t. simp t))
+
+-- of a list of zeros only the count is judged
+pub zeros-form : (s : Succs) → length (s .at) ≡ 8 → placesZero s ≡ true → leb (s .count) 8 ≡ succsForm s
+unfolding placesZero succsForm
+zeros-form s l e =
+    let all : allBelow (λ k. succOk (s .count) k (succAt s k)) 8 ≡ true = all-of _ 8 (λ k b. zero-ok (s .count) k (succAt s k) (all-at (λ j. eqb (succAt s j) 0) 8 k e b)) in
+    simp (eq-eqb _ _ l, all, and-true)
 
 pub zero-succs-form : succsForm zeroSuccs ≡ true
 unfolding succsForm allBelow

@@ -68,6 +68,10 @@ presentAt l r = getD l r noSlot .present
 abbrev pub succOk : ℕ → ℕ → ℕ → Bool
 succOk n k r = (ltb k n && leb r 63) || (not (ltb k n) && eqb r 0)
 
+-- every place holds 0
+unfoldable pub placesZero : Succs → Bool
+placesZero s = allBelow (λ k. eqb (succAt s k) 0) 8
+
 unfoldable pub succsForm : Succs → Bool
 succsForm s = eqb (length (s .at)) 8 && (leb (s .count) 8 && allBelow (λ k. succOk (s .count) k (succAt s k)) 8)
 

@@ -1,14 +1,13 @@
 // The joined call: any step number, any arguments, on any cache and disk.
 ghost use mathlib.Core.Path.{_≡_};
 ghost use Rattle.base.specs.Refusals.{answer, lowest};
-ghost use Rattle.blocksystem.specs.Joined.{diskCall, diskAsked, startRows, joined};
+ghost use Rattle.blocksystem.specs.Joined.{diskCall, startRows, joined};
 use crate::start::wf_succs;
 use blockcache::Cache;
 use blockcache::Call;
 use blockdisk::Disk;
 use blockdisk::DiskCall;
 use blockdisk::DiskOp;
-use blockdisk::DiskOutcome;
 use blockdisk::Records;
 use blocksystem::Outcome;
 
@@ -45,24 +44,10 @@ fn disk_call(number: u64, q: Call) -> DiskCall
     DiskCall { op, node, table }
 }
 
-// The disk's half: a crash is offered records, every other step asks for its disk operation.
-fn ask_disk(device: u64, number: u64, q: Call, offered: Records, s: Disk) -> DiskOutcome
-    ensures { λ o. ⌜ o ≡ diskAsked device number q offered s ⌝ }
+// A start asks for a whole graph at the place given.
+fn ask_start(device: u64, q: Call, s: Disk) -> u64
+    ensures { λ n. ⌜ n ≡ answer (startRows device 10 q s) ⌝ }
 {
-    if number == 18 {
-        return disk::crash(s, device, offered);
-    }
-    let c = disk_call(number, q);
-    disk::next(s, device, c)
-}
-
-// A start asks for a whole graph at the place given; no other step does.
-fn ask_start(device: u64, number: u64, q: Call, s: Disk) -> u64
-    ensures { λ n. ⌜ n ≡ answer (startRows device number q s) ⌝ }
-{
-    if number != 10 {
-        return 0;
-    }
     let v = q.vop;
     let loc = cache::vop_loc(v);
     let r = s.records;
@@ -73,12 +58,22 @@ fn ask_start(device: u64, number: u64, q: Call, s: Disk) -> u64
     20
 }
 
+// A crash is offered records, every other step asks the disk for its operation, and a start alone asks for a graph. The three are
+// asked here and not in a function between, as each call by value copies the disk.
 pub fn step(device: u64, number: u64, q: Call, offered: Records, c: Cache, s: Disk) -> Outcome
     ensures { λ o. ⌜ o ≡ joined device number q offered c s ⌝ }
 {
     let a = cache::step(c, device, number, q);
-    let b = ask_disk(device, number, q, offered, s);
-    let n20 = ask_start(device, number, q, s);
+    let b = if number == 18 {
+        disk::crash(s, device, offered)
+    } else {
+        let asked = disk_call(number, q);
+        disk::next(s, device, asked)
+    };
+    let mut n20: u64 = 0;
+    if number == 10 {
+        n20 = ask_start(device, q, s);
+    }
     let both = lower(a.answer, b.answer);
     let n = lower(both, n20);
     if n != 0 {

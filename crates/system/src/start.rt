@@ -21,10 +21,13 @@ fn node_agrees(t: Table, e: Entry, x: NodeRecord) -> bool
 fn ref_agrees(device: u64, r: Records, t: Table, e: Entry) -> bool
     ensures { λ b. ⌜ b ≡ refAgrees device r t e ⌝ }
 {
+    let used = e.allocated;
+    if !used {
+        return true;
+    }
     let loc = e.loc;
     let x = disk::node_at(device, r, loc);
-    let agrees = node_agrees(t, e, x);
-    !e.allocated | agrees
+    node_agrees(t, e, x)
 }
 
 fn graph_stored(device: u64, r: Records, t: Table) -> bool

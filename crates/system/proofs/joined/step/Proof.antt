@@ -1,15 +1,24 @@
 -- Refused: both as they were. Accepted: what cache and disk hand back. Assumes nothing.
+use mathlib.Core.Logic.{⊎-elim}
+use mathlib.Core.Path.{_≡_, _∙_}
 use borrow.Author.Needs.{needs}
 use borrow.Author.Tests.{eq-eqb, ne-eqb}
+use Rattle.base.specs.Refusals.{answer}
+use Rattle.blocksystem.specs.Joined.{diskAsked, joined, joinedAnswer, startRows}
 use Rattle.system.proofs.joined.step.Statement.{statement}
-use Rattle.blocksystem.specs.Joined.{joined, joinedAnswer}
 use Rattle.system.proofs.joined.step.Tie as tie
 
 step-requires : tie.Need-step-requires
 step-requires c κs = search needs
 
-ask-disk-requires : tie.Need-ask-disk-requires
-ask-disk-requires c κs = search needs
+crash-requires : tie.Need-crash-requires
+crash-requires c κs = search needs
+
+disk-call-requires : tie.Need-disk-call-requires
+disk-call-requires c κs = search needs
+
+next-requires : tie.Need-next-requires
+next-requires c κs = search needs
 
 ask-start-requires : tie.Need-ask-start-requires
 ask-start-requires c κs = search needs
@@ -24,23 +33,37 @@ empty-node-requires : tie.Need-empty-node-requires
 empty-node-requires c κs = search needs
 
 returns : tie.Need-returns
-unfolding joined joinedAnswer
+unfolding answer diskAsked joined joinedAnswer
 returns c =
-    let e = simp (c .before .before .lower2 .ensures, c .before .before .before .lower .ensures, c .before .before .before .before .ask-start .ensures, c .before .before .before .before .before .ask-disk .ensures, c .before .before .before .before .before .before .step .ensures) at (c .before .if1 .taken) in
-    simp (c .empty-node .ensures, c .before .before .lower2 .ensures, c .before .before .before .lower .ensures, c .before .before .before .before .ask-start .ensures, c .before .before .before .before .before .ask-disk .ensures, c .before .before .before .before .before .before .step .ensures, ne-eqb _ _ e)
+    let a = c .before .before .before .before .before .before .before .args in
+    let b : c .before .before .before .before .before .if1 .b ≡ diskAsked (a .device) (a .number) (a .q) (a .offered) (a .s) =
+    ⊎-elim (λ w. w .2 ∙ simp (eq-eqb _ _ (w .0 .taken)) (w .1 .ensures))
+    (λ w. w .3 ∙ simp (ne-eqb _ _ (w .0 .left)) (rw (w .1 .ensures) at (w .2 .ensures))) (c .before .before .before .before .before .if1 .came) in
+    let n : c .before .before .before .before .if2 .n20 ≡ answer (startRows (a .device) (a .number) (a .q) (a .s)) =
+    ⊎-elim (λ w. w .2 ∙ simp (w .0 .taken) (w .1 .ensures)) (λ w. w .1 ∙ simp (ne-eqb _ _ (w .0 .left))) (c .before .before .before .before .if2 .came) in
+    let e = simp (c .before .before .lower2 .ensures, c .before .before .before .lower .ensures, n, b, c .before .before .before .before .before .before .step .ensures) at (c .before .if3 .taken) in
+    simp (c .empty-node .ensures, c .before .before .lower2 .ensures, c .before .before .before .lower .ensures, n, b, c .before .before .before .before .before .before .step .ensures, ne-eqb _ _ e)
 
 returns-2 : tie.Need-returns-2
-unfolding joined joinedAnswer
+unfolding answer diskAsked joined joinedAnswer
 returns-2 c =
-    let e = simp (c .before .before .before .before .lower2 .ensures, c .before .before .before .before .before .lower .ensures, c .before .before .before .before .before .before .ask-start .ensures, c .before .before .before .before .before .before .before .ask-disk .ensures, c .before .before .before .before .before .before .before .before .step .ensures) at (c .before .before .before .if1 .left) in
-    simp (eq-eqb _ _ e, e, c .before .before .before .before .before .before .before .ask-disk .ensures, c .before .before .before .before .before .before .before .before .step .ensures)
+    let a = c .before .before .before .before .before .before .before .before .before .args in
+    let b : c .before .before .before .before .before .before .before .if1 .b ≡ diskAsked (a .device) (a .number) (a .q) (a .offered) (a .s) =
+    ⊎-elim (λ w. w .2 ∙ simp (eq-eqb _ _ (w .0 .taken)) (w .1 .ensures))
+    (λ w. w .3 ∙ simp (ne-eqb _ _ (w .0 .left)) (rw (w .1 .ensures) at (w .2 .ensures))) (c .before .before .before .before .before .before .before .if1 .came) in
+    let n : c .before .before .before .before .before .before .if2 .n20 ≡ answer (startRows (a .device) (a .number) (a .q) (a .s)) =
+    ⊎-elim (λ w. w .2 ∙ simp (w .0 .taken) (w .1 .ensures)) (λ w. w .1 ∙ simp (ne-eqb _ _ (w .0 .left))) (c .before .before .before .before .before .before .if2 .came) in
+    let e = simp (c .before .before .before .before .lower2 .ensures, c .before .before .before .before .before .lower .ensures, n, b, c .before .before .before .before .before .before .before .before .step .ensures) at (c .before .before .before .if3 .left) in
+    simp (eq-eqb _ _ e, e, b, c .before .before .before .before .before .before .before .before .step .ensures)
 
 pub step-spec : {M : Type 1} → statement M
 step-spec =
     tie.close
     (tie.spec
     step-requires
-    ask-disk-requires
+    crash-requires
+    disk-call-requires
+    next-requires
     ask-start-requires
     lower-requires
     lower-requires-2
