@@ -69,27 +69,27 @@ pub fn turn(s: State, number: u64, q: Call) -> State {
 }
 
 // The contents number of reference r in this round.
-pub fn contents(s: State, r: u64) -> u64 {
-    std::num::wrapping_add_u64(s.base, r)
+pub fn contents(base: u64, r: u64) -> u64 {
+    std::num::wrapping_add_u64(base, r)
 }
 
-pub fn node_place(s: State, block: u64) -> Location {
-    let n = layout::node_block_addr(s.device, block);
+pub fn node_place(device: u64, block: u64) -> Location {
+    let n = layout::node_block_addr(device, block);
     Location {
         addr: n.value,
         len: 4096,
     }
 }
 
-pub fn table_place(s: State, second: bool) -> Location {
+pub fn table_place(device: u64, second: bool) -> Location {
     if second {
-        let two = layout::indirection_table2_addr(s.device);
+        let two = layout::indirection_table2_addr(device);
         return Location {
             addr: two.value,
             len: 4096,
         };
     }
-    let one = layout::indirection_table1_addr(s.device);
+    let one = layout::indirection_table1_addr(device);
     Location {
         addr: one.value,
         len: 4096,

@@ -30,16 +30,16 @@ use blockdisk::DiskOp;
 use sectortype::Node;
 
 // Reference r as the script first writes it: it names the one before it, and the root.
-fn leaf(s: State, r: u8) -> Node {
+fn leaf(base: u64, r: u8) -> Node {
     let before: u8 = if r == 0 { 0 } else { r - 1 };
-    let x = contents(s, wide(r));
+    let x = contents(base, wide(r));
     naming(x, before, 0)
 }
 
 // The root as formatting leaves it.
-fn first_root(s: State) -> Node {
+fn first_root(base: u64) -> Node {
     let mut n = sector::empty_node();
-    n.contents = s.base;
+    n.contents = base;
     n
 }
 
@@ -54,7 +54,7 @@ fn load(s: State) -> State {
     let s = evict(s, 0); // 8: not cached
     let s = page_in_node_req(s, 0, 7, 0);
     let s = page_in_node_req(s, 0, 8, 0); // 10: a read of it is outstanding
-    let n = first_root(s);
+    let n = first_root(s.base);
     let s = page_in_node_resp(s, 7, n);
     let s = read(s, 0);
     let m = naming(1, 5, 5);
@@ -66,7 +66,7 @@ fn grow(s: State) -> State {
     let mut now = s;
     let mut r: u8 = 1;
     while r <= 8 {
-        let n = leaf(now, r);
+        let n = leaf(now.base, r);
         now = alloc(now, wide(r), n);
         r += 1;
     }
@@ -87,7 +87,7 @@ fn read_all(s: State) -> State {
 // Calls 13 to 33: eight references more, one of them taken back.
 fn work(s: State) -> State {
     let s = grow(s);
-    let x = contents(s, 100);
+    let x = contents(s.base, 100);
     let n = root(x, true);
     let s = dirty(s, 0, n);
     let s = read_all(s);
@@ -98,12 +98,12 @@ fn work(s: State) -> State {
 }
 
 // The node that the script has left under r, below 8.
-fn latest(s: State, r: u8) -> Node {
+fn latest(base: u64, r: u8) -> Node {
     if r == 0 {
-        let x = contents(s, 100);
+        let x = contents(base, 100);
         return root(x, false);
     }
-    leaf(s, r)
+    leaf(base, r)
 }
 
 // 8 calls: references 0 to 7 to blocks 1 to 8.
@@ -112,7 +112,7 @@ fn write_all(s: State) -> State {
     let mut r: u8 = 0;
     while r < 8 {
         let k = wide(r);
-        let n = latest(now, r);
+        let n = latest(now.base, r);
         now = write_back_node_req(
             now,
             k,
@@ -139,7 +139,7 @@ fn answer_all(s: State) -> State {
 // Calls 34 to 52: write-back.
 fn write_back(s: State) -> State {
     let s = write_all(s);
-    let n = latest(s, 0);
+    let n = latest(s.base, 0);
     let s = write_back_node_req(s, 0, 30, 0, n); // 7: the persistent table holds it
     let s = evict(s, 3); // 10: its write is outstanding
     let s = answer_all(s);
@@ -166,7 +166,7 @@ fn lose(s: State) -> State {
     let s = evict(s, 2);
     let s = read(s, 2); // 8: not cached
     let s = page_in_node_req(s, 2, 50, 3);
-    let n = leaf(s, 2);
+    let n = leaf(s.base, 2);
     let s = page_in_node_resp(s, 50, n);
     let s = read(s, 2);
     let s = freeze(s);
@@ -184,7 +184,7 @@ fn again(s: State) -> State {
     let s = page_in_table_req(s, 70, true);
     let s = page_in_table_resp(s, 70, true);
     let s = page_in_node_req(s, 1, 71, 2);
-    let n = leaf(s, 1);
+    let n = leaf(s.base, 1);
     let s = page_in_node_resp(s, 71, n);
     let s = read(s, 1);
     let s = no_step(s, 0); // 1

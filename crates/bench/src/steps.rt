@@ -15,7 +15,7 @@ use sectortype::Table;
 
 // 1
 pub fn write_back_node_req(s: State, r: u64, id: u64, block: u64, node: Node) -> State {
-    let loc = node_place(s, block);
+    let loc = node_place(s.device, block);
     let q = with_node(
         r,
         VersionOp::StatesInternalOp,
@@ -33,7 +33,7 @@ pub fn write_back_node_resp(s: State, id: u64) -> State {
 
 // 3, with the frozen table, into area 2
 pub fn write_back_table_req(s: State, id: u64) -> State {
-    let loc = table_place(s, true);
+    let loc = table_place(s.device, true);
     let c = s.cache;
     let ts = c.tables;
     let frozen = ts.frozen;
@@ -47,7 +47,7 @@ pub fn write_back_table_req(s: State, id: u64) -> State {
 
 // 4
 pub fn write_back_table_resp(s: State, id: u64) -> State {
-    let loc = table_place(s, true);
+    let loc = table_place(s.device, true);
     let q = bare(
         0,
         VersionOp::SendFrozenLocOp(loc),
@@ -64,7 +64,7 @@ pub fn unalloc(s: State, r: u64) -> State {
 
 // 6
 pub fn page_in_node_req(s: State, r: u64, id: u64, block: u64) -> State {
-    let loc = node_place(s, block);
+    let loc = node_place(s.device, block);
     let q = bare(
         r,
         VersionOp::StatesInternalOp,
@@ -86,7 +86,7 @@ pub fn page_in_node_resp(s: State, id: u64, node: Node) -> State {
 
 // 8
 pub fn page_in_table_req(s: State, id: u64, second: bool) -> State {
-    let loc = table_place(s, second);
+    let loc = table_place(s.device, second);
     let q = bare(
         0,
         VersionOp::StatesInternalOp,
@@ -117,7 +117,7 @@ pub fn page_in_table_resp(s: State, id: u64, second: bool) -> State {
 
 // 10
 pub fn receive_loc(s: State, second: bool) -> State {
-    let loc = table_place(s, second);
+    let loc = table_place(s.device, second);
     let q = bare(0, VersionOp::SendPersistentLocOp(loc), DiskOp::NoDiskOp);
     turn(s, 10, q)
 }
