@@ -10,12 +10,12 @@ use Rattle.base.proofs.Scan.{some-same}
 use Rattle.base.proofs.Tests.{and-left, and-right, clash, none-iff, split}
 use Rattle.base.specs.Maps.{Map, del, empty, isSome, put}
 use Rattle.base.specs.Scan.{someBelow}
-use Rattle.blockcache.specs.Scan.{reads, writeHolds, writesTo}
+use Rattle.blockcache.specs.Scan.{reads, writesTo}
 use Rattle.blockcache.specs.Steps.{readsMap, writeOf, writesMap}
 use Rattle.blockcache.specs.Upstream.{OutstandingBlockReadsDoesNotHaveRef, OutstandingWrite}
 use Rattle.disklayout.specs.declared.Location.{Location}
 use Rattle.queue.proofs.Laws.{count-iff, entry-map, has-map, insert-map, remove-map, scan-iff}
-use Rattle.queue.specs.Queue.{entryOf, hasOf, insertOf, removeOf, requestAt, requestsForm, requestsMap}
+use Rattle.queue.specs.Queue.{entryOf, hasAddr, hasOf, insertOf, removeOf, requestAt, requestsForm, requestsMap}
 use Rattle.queue.specs.declared.Request.{Request}
 use Rattle.queue.specs.declared.Requests.{Requests}
 use Rattle.sectortype.proofs.Equal.{same-loc-iff}
@@ -87,8 +87,8 @@ module _ (q : Requests) (form : requestsForm q ≡ true) where
   writes-empty-iff = mapped-empty-iff writeOf q form
 
   -- no outstanding write has the address
-  pub write-holds-iff : (a : ℕ) → (writeHolds q a ≡ false) ↔ ((id : ℕ) (w : OutstandingWrite) → writesMap q id ≡ some w → w .loc .addr ≡ a → ⊥)
-  unfolding writesMap writeHolds
+  pub write-holds-iff : (a : ℕ) → (hasAddr q a ≡ false) ↔ ((id : ℕ) (w : OutstandingWrite) → writesMap q id ≡ some w → w .loc .addr ≡ a → ⊥)
+  unfolding writesMap hasAddr
   write-holds-iff a =
       let h = mapped-none-iff writeOf q form (λ w. eqb (w .loc .addr) a) in
       ((λ e id w m. eqb-false (w .loc .addr) a (h .0 e id w m)), (λ k. h .1 (λ id w m. ne-eqb (w .loc .addr) a (k id w m))))

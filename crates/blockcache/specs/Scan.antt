@@ -7,7 +7,7 @@ use Rattle.blockcache.specs.declared.Tables.{Tables}
 use Rattle.blockdisk.specs.declared.Brought.{Brought}
 use Rattle.blockdisk.specs.declared.Brought.the-variants.{Nothing, Something}
 use Rattle.disklayout.specs.declared.Location.{Location}
-use Rattle.queue.specs.Queue.{requestAt}
+use Rattle.queue.specs.Queue.{hasAddr, requestAt}
 use Rattle.queue.specs.declared.Requests.{Requests}
 use Rattle.sectortype.specs.Form.{entryAt, succAt}
 use Rattle.sectortype.specs.Graph.{DistinctAddrs, WFCompleteIndirectionTable, allocatedIn, holdsAddr, locatedIn, sameSet}
@@ -15,10 +15,6 @@ use Rattle.sectortype.specs.Same.{sameLoc}
 use Rattle.sectortype.specs.declared.Entry.{Entry}
 use Rattle.sectortype.specs.declared.Node.{Node}
 use Rattle.sectortype.specs.declared.Table.{Table}
-
--- an outstanding write has the address
-unfoldable pub writeHolds : Requests → ℕ → Bool
-writeHolds q a = someBelow (λ k. ltb k (q .count) && eqb (requestAt q k .loc .addr) a) 16
 
 -- a read of the reference is outstanding
 unfoldable pub reads : Requests → ℕ → Bool
@@ -45,7 +41,7 @@ named t r = someBelow (λ i. listNames (entryAt t i) r) 64
 
 -- 7: the address is held by the persistent, ephemeral or frozen table or an outstanding write
 unfoldable pub heldIn : Tables → Requests → ℕ → Bool
-heldIn ts q a = holdsAddr (ts .persistent) a || holdsAddr (ts .ephemeral) a || (ts .isfrozen && holdsAddr (ts .frozen) a) || writeHolds q a
+heldIn ts q a = holdsAddr (ts .persistent) a || holdsAddr (ts .ephemeral) a || (ts .isfrozen && holdsAddr (ts .frozen) a) || hasAddr q a
 
 -- FZ: the frozen table has the reference in its graph without a location
 abbrev pub needsCached : Tables → ℕ → Bool

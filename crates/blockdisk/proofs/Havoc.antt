@@ -8,11 +8,10 @@ use mathlib.Core.Path.{_∙_, _≡_, refl, sym}
 use Rattle.base.proofs.Tests.{and-iff, clash, not-iff, or-iff, or-true-iff}
 use Rattle.blockdisk.proofs.Outstanding.{written-iff}
 use Rattle.blockdisk.proofs.Shelf.{Formed, Holds, Laws, Placed, Shelf, reads, reads-iff, recordAt}
-use Rattle.blockdisk.specs.Crash.{writtenAt}
 use Rattle.blockdisk.specs.Upstream.{UntouchedLoc, havocMap, places}
 use Rattle.disklayout.proofs.Facts.{refuted}
 use Rattle.disklayout.specs.declared.Location.{Location}
-use Rattle.queue.specs.Queue.{requestsForm}
+use Rattle.queue.specs.Queue.{hasAddr, requestsForm}
 use Rattle.queue.specs.declared.Requests.{Requests}
 use Rattle.sectortype.proofs.Equal.{same-loc-iff}
 use Rattle.sectortype.specs.Same.{sameLoc}
@@ -20,10 +19,10 @@ use Rattle.sectortype.specs.Same.{sameLoc}
 module _ {R A : Type 0} (s : Shelf R A) (q : Requests) where
   -- a record x that is there is unchanged in y, unless a write is outstanding at its address
   abbrev pub keptIn : R → R → Bool
-  keptIn x y = not (s .there x) || writtenAt q (s .loc x .addr) || (s .there y && sameLoc (s .loc x) (s .loc y) && s .same x y)
+  keptIn x y = not (s .there x) || hasAddr q (s .loc x .addr) || (s .there y && sameLoc (s .loc x) (s .loc y) && s .same x y)
 
   abbrev pub Stays : R → R → Type 0
-  Stays x y = (s .there x ≡ true) × (writtenAt q (s .loc x .addr) ≡ false) → ((s .there y ≡ true) × (s .loc x ≡ s .loc y)) × (s .same x y ≡ true)
+  Stays x y = (s .there x ≡ true) × (hasAddr q (s .loc x .addr) ≡ false) → ((s .there y ≡ true) × (s .loc x ≡ s .loc y)) × (s .same x y ≡ true)
 
   kept-iff : (x y : R) → (keptIn x y ≡ true) ↔ Stays x y
   kept-iff x y = simp (or-true-iff, or-iff, not-iff, same-loc-iff, and-iff) Iff·rfl
@@ -31,7 +30,7 @@ module _ {R A : Type 0} (s : Shelf R A) (q : Requests) where
   module _ (w : Laws s) (old new : List R) (formed : Formed s old) (formed' : Formed s new) where
     -- what is stored where no write is outstanding is stored afterwards
     pub kept-stored : ((k : ℕ) → k < s .size → keptIn (recordAt s old k) (recordAt s new k) ≡ true) →
-        (p : Location) (a : A) → reads s old p ≡ some a → writtenAt q (p .addr) ≡ false → reads s new p ≡ some a
+        (p : Location) (a : A) → reads s old p ≡ some a → hasAddr q (p .addr) ≡ false → reads s new p ≡ some a
     kept-stored h p a e free =
         let (k, x) = reads-iff s old p a .0 e in
         let b = w .below (p .addr) k (x .number) in
@@ -40,7 +39,7 @@ module _ {R A : Type 0} (s : Shelf R A) (q : Requests) where
         reads-iff s new p a .1 (k, record { number = x .number; there = t .0 .0; loc = sym (t .0 .1) ∙ x .loc; thing = sym same ∙ x .thing })
 
     -- and the reverse, where each record is placed
-    pub stored-kept : Placed s old → ((p : Location) (a : A) → reads s old p ≡ some a → writtenAt q (p .addr) ≡ false → reads s new p ≡ some a) →
+    pub stored-kept : Placed s old → ((p : Location) (a : A) → reads s old p ≡ some a → hasAddr q (p .addr) ≡ false → reads s new p ≡ some a) →
         (k : ℕ) → k < s .size → keptIn (recordAt s old k) (recordAt s new k) ≡ true
     stored-kept placed h k b =
         kept-iff (recordAt s old k) (recordAt s new k) .1
@@ -55,7 +54,7 @@ module _ {R A : Type 0} (s : Shelf R A) (q : Requests) where
 
   -- an allowed place is untouched exactly if no write is outstanding at its address
   pub untouched-iff : Laws s → requestsForm q ≡ true → ((id : ℕ) (l : Location) → places q id ≡ some l → s .place l ≡ true) →
-      (p : Location) → s .place p ≡ true → (writtenAt q (p .addr) ≡ false) ↔ UntouchedLoc p (places q)
+      (p : Location) → s .place p ≡ true → (hasAddr q (p .addr) ≡ false) ↔ UntouchedLoc p (places q)
   untouched-iff w form queued p ok = (
     (λ e id l h. refuted (λ o. written-iff q (p .addr) form .0 e id l h (sym (w .crossing p l ok (queued id l h) .0 o)))),
     (λ u. written-iff q (p .addr) form .1 (λ id l h e. clash (w .crossing p l ok (queued id l h) .1 (sym e)) (u id l h))),

@@ -11,12 +11,11 @@ use Rattle.base.proofs.Scan.{all-at, all-of, none-at, some-of-none}
 use Rattle.base.proofs.Tests.{and-both, and-iff, not-iff, split}
 use Rattle.base.specs.Maps.{Map, del, empty, isSome, put}
 use Rattle.base.specs.Scan.{allBelow, someBelow}
-use Rattle.blockdisk.specs.Crash.{writtenAt}
 use Rattle.blockdisk.specs.Ops.{requestOf}
 use Rattle.blockdisk.specs.Upstream.{places}
 use Rattle.disklayout.specs.declared.Location.{Location}
 use Rattle.queue.proofs.Laws.{entry-map, has-map, insert-form, insert-map, none-map, remove-form, remove-map, scan-iff}
-use Rattle.queue.specs.Queue.{entryOf, hasOf, insertOf, noRequests, removeOf, requestAt, requestsForm, requestsMap}
+use Rattle.queue.specs.Queue.{entryOf, hasAddr, hasOf, insertOf, noRequests, removeOf, requestAt, requestsForm, requestsMap}
 use Rattle.queue.specs.declared.Request.{Request}
 use Rattle.queue.specs.declared.Requests.{Requests}
 
@@ -60,8 +59,8 @@ module _ (q : Requests) (id : ℕ) (form : requestsForm q ≡ true) where
   places-remove there = ap locsIn (remove-map q form id there) ∙ fun-ext (λ j. split (eqb j id) (λ t. rw t) (λ t. rw t))
 
 -- no write is outstanding at the address
-pub written-iff : (q : Requests) (a : ℕ) → requestsForm q ≡ true → (writtenAt q a ≡ false) ↔ ((id : ℕ) (l : Location) → places q id ≡ some l → l .addr ≡ a → ⊥)
-unfolding writtenAt
+pub written-iff : (q : Requests) (a : ℕ) → requestsForm q ≡ true → (hasAddr q a ≡ false) ↔ ((id : ℕ) (l : Location) → places q id ≡ some l → l .addr ≡ a → ⊥)
+unfolding hasAddr
 written-iff q a form = (
   (λ e id l h same.
       let w = places-some q id h in

@@ -15,13 +15,9 @@ use Rattle.blockdisk.specs.declared.NodeRecord.{NodeRecord}
 use Rattle.blockdisk.specs.declared.Queues.{Queues}
 use Rattle.blockdisk.specs.declared.Records.{Records}
 use Rattle.blockdisk.specs.declared.TableRecord.{TableRecord}
-use Rattle.queue.specs.Queue.{noRequests, requestAt}
+use Rattle.queue.specs.Queue.{hasAddr, noRequests, requestAt}
 use Rattle.queue.specs.declared.Requests.{Requests}
 use Rattle.sectortype.specs.Same.{sameLoc, sameNode, sameTable}
-
--- a write at the address is outstanding
-unfoldable pub writtenAt : Requests → ℕ → Bool
-writtenAt q a = someBelow (λ k. ltb k (q .count) && eqb (requestAt q k .loc .addr) a) 16
 
 abbrev pub sameTableRecord : TableRecord → TableRecord → Bool
 sameTableRecord a b = b .present && sameLoc (a .loc) (b .loc) && sameTable (a .table) (b .table)
@@ -31,10 +27,10 @@ sameNodeRecord a b = b .present && sameLoc (a .loc) (b .loc) && sameNode (a .nod
 
 -- a stored record, whose address is its area's or block's, is there unchanged unless a write is outstanding there
 abbrev pub keptTable : Requests → TableRecord → TableRecord → Bool
-keptTable q a b = not (a .present) || writtenAt q (a .loc .addr) || sameTableRecord a b
+keptTable q a b = not (a .present) || hasAddr q (a .loc .addr) || sameTableRecord a b
 
 abbrev pub keptNode : Requests → NodeRecord → NodeRecord → Bool
-keptNode q a b = not (a .present) || writtenAt q (a .loc .addr) || sameNodeRecord a b
+keptNode q a b = not (a .present) || hasAddr q (a .loc .addr) || sameNodeRecord a b
 
 unfoldable pub tablesKept : Requests → List TableRecord → List TableRecord → Bool
 tablesKept q old new = keptTable q (getD old 0 noTableRecord) (getD new 0 noTableRecord) && keptTable q (getD old 1 noTableRecord) (getD new 1 noTableRecord)

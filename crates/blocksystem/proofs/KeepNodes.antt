@@ -3,6 +3,7 @@ use Prim.Native.Nat.{ℕ}
 use mathlib.Core.Logic.{⊎-elim}
 use mathlib.Core.Option.{Option, none, some}
 use mathlib.Core.Path.{_∙_, _≡_, ap, refl, sym}
+use Rattle.blockcache.proofs.InvLaws.{ready-ext}
 use Rattle.base.proofs.Maps.{del-other, del-some, put-other, put-same, put-some}
 use Rattle.base.proofs.Tests.{never}
 use Rattle.base.specs.Maps.{Map, del, isSome, put}
@@ -15,7 +16,6 @@ use Rattle.sectortype.specs.Abstract.{IndirectionTable}
 use Rattle.sectortype.specs.declared.Node.{Node}
 use Rattle.sectortype.specs.declared.Succs.{Succs}
 use Rattle.blocksystem.proofs.Invariant.{FrozenOk, Tale, Whole}
-use Rattle.blocksystem.proofs.KeepTables.{ready-ext}
 use Rattle.blocksystem.proofs.Laws.{del-in, in-del, in-of, in-put, none-del, not-both, put-in, same-del, same-put, some-of}
 
 -- the working picture drawn anew

@@ -3,6 +3,8 @@ use Prim.Native.Nat.{ℕ}
 use mathlib.Core.Logic.{⊎-elim}
 use mathlib.Core.Option.{Option, none, some}
 use mathlib.Core.Path.{_∙_, _≡_, ap, refl, sym}
+use Rattle.blockcache.proofs.InvReads.{loaded}
+use Rattle.blockcache.proofs.InvLaws.{ready-ext}
 use Rattle.base.proofs.Maps.{del-some, put-some}
 use Rattle.base.proofs.Tests.{clash, never}
 use Rattle.base.specs.Maps.{Map, del, empty, isSome}
@@ -207,36 +209,6 @@ keep-table-resp d x y v t id loc w i u =
         }
 
 -- THE TABLE PAGED IN
-
-pub ready-ext : {x y : Ready} → x .persistentIndirectionTable ≡ y .persistentIndirectionTable → x .frozenIndirectionTable ≡ y .frozenIndirectionTable → x .ephemeralIndirectionTable ≡ y .ephemeralIndirectionTable →
-    x .persistentIndirectionTableLoc ≡ y .persistentIndirectionTableLoc → x .frozenIndirectionTableLoc ≡ y .frozenIndirectionTableLoc → x .outstandingIndirectionTableWrite ≡ y .outstandingIndirectionTableWrite →
-    x .outstandingBlockWrites ≡ y .outstandingBlockWrites → x .outstandingBlockReads ≡ y .outstandingBlockReads → x .cache ≡ y .cache → x ≡ y
-ready-ext a b c d e f g h k =
-    λ i. record {
-      persistentIndirectionTable = a i;
-      frozenIndirectionTable = b i;
-      ephemeralIndirectionTable = c i;
-      persistentIndirectionTableLoc = d i;
-      frozenIndirectionTableLoc = e i;
-      outstandingIndirectionTableWrite = f i;
-      outstandingBlockWrites = g i;
-      outstandingBlockReads = h i;
-      cache = k i;
-    }
-
-abbrev loaded : IndirectionTable → Location → Ready
-loaded t at =
-    record {
-      persistentIndirectionTable = t;
-      frozenIndirectionTable = none;
-      ephemeralIndirectionTable = t;
-      persistentIndirectionTableLoc = at;
-      frozenIndirectionTableLoc = none;
-      outstandingIndirectionTableWrite = none;
-      outstandingBlockWrites = empty;
-      outstandingBlockReads = empty;
-      cache = empty;
-    }
 
 pub keep-table-page-in : (d : ℕ) (at : Location) (read : Option ℕ) (y : Ready) (v v' : DVariables) (t : Tale) (id : ℕ) (brought : Option IndirectionTable) →
     Whole d (loadingIndirectionTable at read) v t → Inv d (ready y) → PageInIndirectionTableResp d at read y id brought → AckReadIndirectionTable v v' id brought →

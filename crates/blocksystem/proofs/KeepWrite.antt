@@ -4,6 +4,7 @@ use mathlib.Core.Bool.{Bool, _&&_, not}
 use mathlib.Core.Logic.{_⊎_, inl, inr, ⊎-elim}
 use mathlib.Core.Option.{Option, Option·map, map-eq-some-iff, none, some}
 use mathlib.Core.Path.{_∙_, _≡_, ap, refl, sym}
+use Rattle.blockcache.proofs.InvLaws.{ready-ext}
 use Rattle.base.proofs.Maps.{put-other, put-same, put-some}
 use Rattle.base.proofs.Tests.{and-iff, clash, never, none-iff, not-true-iff, split}
 use Rattle.base.specs.Maps.{Map, isSome, put}
@@ -16,7 +17,6 @@ use Rattle.disklayout.specs.declared.Location.{Location}
 use Rattle.sectortype.specs.Abstract.{IndirectionTable}
 use Rattle.sectortype.specs.declared.Node.{Node}
 use Rattle.blocksystem.proofs.Invariant.{Located, ReadyOk, Tale, Whole, frozenNow}
-use Rattle.blocksystem.proofs.KeepTables.{ready-ext}
 use Rattle.blocksystem.proofs.Laws.{kept-node-write, put-none, stands-elsewhere}
 
 -- A TABLE THAT GETS A LOCATION

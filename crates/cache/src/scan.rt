@@ -1,7 +1,7 @@
 // Questions about the whole cache that a step's refusals ask.
 ghost use mathlib.Core.Path.{_≡_};
 ghost use Prim.Native.Nat.{_<_};
-ghost use Rattle.blockcache.specs.Scan.{writeHolds, reads, writesTo, NoLocation, namesAt, named, heldIn, needsCached, wrongNode, wrongTable};
+ghost use Rattle.blockcache.specs.Scan.{reads, writesTo, NoLocation, namesAt, named, heldIn, needsCached, wrongNode, wrongTable};
 use blockcache::Tables;
 use blockdisk::Brought;
 use disklayout::Location;
@@ -11,22 +11,6 @@ use sectortype::Entry;
 use sectortype::Node;
 use sectortype::Succs;
 use sectortype::Table;
-
-// Whether an outstanding write has this address.
-fn write_holds(q: Requests, addr: u64) -> bool
-    ensures { λ b. ⌜ b ≡ writeHolds q addr ⌝ }
-{
-    let n = q.count as usize;
-    let mut hit = false;
-    let mut i: usize = 0;
-    while i < 16 {
-        let w = q.at[i];
-        let loc = w.loc;
-        hit = hit | ((i < n) & (loc.addr == addr));
-        i += 1;
-    }
-    hit
-}
 
 // Whether a read of this reference is outstanding.
 pub(crate) fn reads_of(q: Requests, r: u64) -> bool
@@ -125,7 +109,7 @@ pub(crate) fn held(ts: Tables, q: Requests, addr: u64) -> bool
     let a = sector::holds_addr(p, addr);
     let b = sector::holds_addr(e, addr);
     let c = sector::holds_addr(f, addr);
-    let d = write_holds(q, addr);
+    let d = queue::has_addr(q, addr);
     a | b | (ts.isfrozen & c) | d
 }
 

@@ -1,6 +1,6 @@
 // A crash: the records offered afterwards must be possible ones; nothing is outstanding then.
 ghost use mathlib.Core.Path.{_≡_};
-ghost use Rattle.blockdisk.specs.Crash.{writtenAt, sameTableRecord, sameNodeRecord, keptTable, keptNode, tablesKept, nodesKept, recordsKept, emptyQueues, diskCrash};
+ghost use Rattle.blockdisk.specs.Crash.{sameTableRecord, sameNodeRecord, keptTable, keptNode, tablesKept, nodesKept, recordsKept, emptyQueues, diskCrash};
 use crate::form::disk_form;
 use crate::form::records_ok;
 use blockdisk::Disk;
@@ -10,22 +10,6 @@ use blockdisk::Queues;
 use blockdisk::Records;
 use blockdisk::TableRecord;
 use queue::Requests;
-
-// Whether a write at this address is outstanding.
-fn written_at(q: Requests, addr: u64) -> bool
-    ensures { λ b. ⌜ b ≡ writtenAt q addr ⌝ }
-{
-    let n = q.count as usize;
-    let mut hit = false;
-    let mut i: usize = 0;
-    while i < 16 {
-        let w = q.at[i];
-        let loc = w.loc;
-        hit = hit | ((i < n) & (loc.addr == addr));
-        i += 1;
-    }
-    hit
-}
 
 fn same_table_record(a: TableRecord, b: TableRecord) -> bool
     ensures { λ r. ⌜ r ≡ sameTableRecord a b ⌝ }
@@ -56,7 +40,7 @@ fn kept_table(q: Requests, a: TableRecord, b: TableRecord) -> bool
     ensures { λ r. ⌜ r ≡ keptTable q a b ⌝ }
 {
     let loc = a.loc;
-    let written = written_at(q, loc.addr);
+    let written = queue::has_addr(q, loc.addr);
     let same = same_table_record(a, b);
     !a.present | written | same
 }
@@ -65,7 +49,7 @@ fn kept_node(q: Requests, a: NodeRecord, b: NodeRecord) -> bool
     ensures { λ r. ⌜ r ≡ keptNode q a b ⌝ }
 {
     let loc = a.loc;
-    let written = written_at(q, loc.addr);
+    let written = queue::has_addr(q, loc.addr);
     let same = same_node_record(a, b);
     !a.present | written | same
 }

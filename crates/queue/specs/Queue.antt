@@ -3,8 +3,9 @@ use mathlib.Core.Bool.{Bool, true, _&&_, cond}
 use mathlib.Core.Option.{Option}
 use Prim.Native.Nat.{ℕ, _+_, _-_}
 use lib.ListN.{getD, replicate}
-use lib.Dec.{leb, eqb}
+use lib.Dec.{eqb, leb, ltb}
 use Rattle.base.specs.Maps.{Map}
+use Rattle.base.specs.Scan.{someBelow}
 use Rattle.base.specs.Queue.{hasIn, findIn, spotIn, insertIn, removeIn, lookupIn, spotOk, queueForm}
 use Rattle.disklayout.specs.declared.Location.{Location}
 use Rattle.queue.specs.declared.Request.{Request}
@@ -39,6 +40,10 @@ requestsForm q = queueForm idOf zeroRequest 16 anyRequest blank (q .count) (q .a
 
 unfoldable pub hasOf : Requests → ℕ → Bool
 hasOf q id = hasIn idOf zeroRequest 16 (q .count) (q .at) id
+
+-- a request has the address
+unfoldable pub hasAddr : Requests → ℕ → Bool
+hasAddr q a = someBelow (λ k. ltb k (q .count) && eqb (requestAt q k .loc .addr) a) 16
 
 unfoldable pub findOf : Requests → ℕ → ℕ
 findOf q id = findIn idOf zeroRequest 16 (q .count) (q .at) id

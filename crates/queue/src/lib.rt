@@ -5,7 +5,7 @@ ghost use mathlib.Core.List.{[], _∷_, _++_};
 ghost use mathlib.Core.Path.{_≡_};
 ghost use Prim.Native.Nat.{_<_, _≤_};
 ghost use Rattle.base.specs.Lists.{opened, closed};
-ghost use Rattle.queue.specs.Queue.{zeroRequest, requestForm, requestsForm, hasOf, findOf, placeOf, entryOf, insertOf, removeOf, noRequests};
+ghost use Rattle.queue.specs.Queue.{zeroRequest, requestForm, requestsForm, hasOf, hasAddr, findOf, placeOf, entryOf, insertOf, removeOf, noRequests};
 use disklayout::Location;
 
 // An outstanding request: its id, the reference that it is for, its place. A queue that has no use for one of these keeps it zero.
@@ -82,6 +82,22 @@ pub fn has(q: Requests, id: u64) -> bool
     while i < 16 {
         let w = q.at[i];
         hit = hit | ((i < n) & (w.id == id));
+        i += 1;
+    }
+    hit
+}
+
+// Whether a request has this address.
+pub fn has_addr(q: Requests, addr: u64) -> bool
+    ensures { λ b. ⌜ b ≡ hasAddr q addr ⌝ }
+{
+    let n = q.count as usize;
+    let mut hit = false;
+    let mut i: usize = 0;
+    while i < 16 {
+        let w = q.at[i];
+        let loc = w.loc;
+        hit = hit | ((i < n) & (loc.addr == addr));
         i += 1;
     }
     hit

@@ -13,12 +13,12 @@ holds-addr-requires-2 c κs = search needs
 holds-addr-requires-3 : tie.Need-holds-addr-requires-3
 holds-addr-requires-3 c κs = search needs
 
-write-holds-requires : tie.Need-write-holds-requires
-write-holds-requires c κs = search needs
+has-addr-requires : tie.Need-has-addr-requires
+has-addr-requires c κs = search needs
 
 returns : tie.Need-returns
 unfolding heldIn
-returns c = simp (c .before .write-holds .ensures, c .before .before .holds-addr3 .ensures, c .before .before .before .holds-addr2 .ensures, c .before .before .before .before .holds-addr .ensures)
+returns c = simp (c .before .has-addr .ensures, c .before .before .holds-addr3 .ensures, c .before .before .before .holds-addr2 .ensures, c .before .before .before .before .holds-addr .ensures)
 
 pub held-spec : {M : Type 1} → statement M
 held-spec =
@@ -27,5 +27,5 @@ held-spec =
     holds-addr-requires
     holds-addr-requires-2
     holds-addr-requires-3
-    write-holds-requires
+    has-addr-requires
     returns)

@@ -6,10 +6,9 @@ use borrow.Author.Needs.{needs}
 use lib.Dec.{eqb, ltb}
 use Rattle.base.proofs.Scan.{some-end, some-none, some-turn}
 use Rattle.base.specs.Scan.{someBelow}
-use Rattle.disk.proofs.crashing.written_at.Statement.{statement}
-use Rattle.blockdisk.specs.Crash.{writtenAt}
-use Rattle.queue.specs.Queue.{requestAt}
-use Rattle.disk.proofs.crashing.written_at.Tie as tie
+use Rattle.queue.proofs.has_addr.Statement.{statement}
+use Rattle.queue.specs.Queue.{hasAddr, requestAt}
+use Rattle.queue.proofs.has_addr.Tie as tie
 
 abbrev Inv-loop : tie.InvT-loop
 Inv-loop addr q n hit₀ i₀ hit i = (i ≤ 16) × (hit ≡ someBelow (λ k. ltb k (q .count) && eqb (requestAt q k .loc .addr) addr) i)
@@ -39,11 +38,11 @@ loop-again : tie.Need-loop-again Inv-loop μ-loop
 loop-again c = (search needs, some-turn _ _ (c .before .before .before .before .loop .inv .1) refl)
 
 returns : tie.Need-returns Inv-loop μ-loop
-unfolding writtenAt
+unfolding hasAddr
 returns c = some-end _ (c .before .loop .inv .1) (c .before .loop .inv .0) (c .loop-test .left)
 
-pub written-at-spec : {M : Type 1} → statement M
-written-at-spec =
+pub has-addr-spec : {M : Type 1} → statement M
+has-addr-spec =
     tie.close
     (tie.spec
     Inv-loop
