@@ -119,7 +119,7 @@ fn phase_form(c: Cache) -> bool
     }
 }
 
-pub fn cache_form(c: Cache) -> bool
+pub(crate) fn cache_form(c: Cache) -> bool
     ensures { λ b. ⌜ b ≡ cacheForm c ⌝ }
 {
     let ts = c.tables;
@@ -137,7 +137,7 @@ pub fn cache_form(c: Cache) -> bool
 }
 
 // The reference is one, node and table are in their written form. What a step doesn't use is judged all the same.
-pub fn call_form(q: Call) -> bool
+pub(crate) fn call_form(q: Call) -> bool
     ensures { λ b. ⌜ b ≡ callForm q ⌝ }
 {
     let n = q.node;

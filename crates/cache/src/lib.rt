@@ -10,7 +10,5 @@ mod work;
 mod write;
 
 pub use entry::step;
-pub use form::cache_form;
-pub use form::call_form;
 pub use form::unready;
 pub use ops::vop_loc;

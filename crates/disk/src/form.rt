@@ -134,7 +134,7 @@ fn node_queue_ok(device: u64, q: Requests) -> bool
     form & good
 }
 
-fn queues_ok(device: u64, qs: Queues) -> bool
+pub(crate) fn queues_ok(device: u64, qs: Queues) -> bool
     ensures { λ b. ⌜ b ≡ queuesForm device qs ⌝ }
 {
     let a = qs.tablereads;
@@ -149,7 +149,7 @@ fn queues_ok(device: u64, qs: Queues) -> bool
 }
 
 // Whether the disk is in its one written form on this device; on a device that is not made, none is.
-pub fn disk_form(s: Disk, device: u64) -> bool
+pub(crate) fn disk_form(s: Disk, device: u64) -> bool
     ensures { λ b. ⌜ b ≡ diskForm device s ⌝ }
 {
     let records = s.records;

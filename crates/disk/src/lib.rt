@@ -6,7 +6,6 @@ mod read;
 
 pub use crashing::crash;
 pub use crashing::no_queues;
-pub use form::disk_form;
 pub use form::records_ok;
 pub use ops::next;
 pub use read::no_node_record;

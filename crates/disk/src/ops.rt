@@ -2,7 +2,8 @@
 ghost use mathlib.Core.Path.{_≡_};
 ghost use Rattle.sectortype.specs.Form.{zeroNode, emptyTable};
 ghost use Rattle.blockdisk.specs.Ops.{requestOf, requestTurn, answerTurn, somethingIn, wrongTable, wrongNode, obeyedOp, obeyed, diskStep};
-use crate::form::disk_form;
+use crate::form::queues_ok;
+use crate::form::records_ok;
 use crate::read::node_at;
 use crate::read::table_at;
 use crate::read::with_node;
@@ -324,13 +325,19 @@ fn obey(s: Disk, device: u64, call: DiskCall) -> DiskOutcome
     }
 }
 
-// Any call on any disk.
+// Any call on any disk. Its written form is asked of its two parts, as `disk_form` does for a crash: that would copy the whole disk
+// once more at each call.
 pub fn next(s: Disk, device: u64, call: DiskCall) -> DiskOutcome
     ensures { λ o. ⌜ o ≡ diskStep device s call ⌝ }
 {
     let node = call.node;
     let table = call.table;
-    let form = disk_form(s, device);
+    let records = s.records;
+    let queues = s.queues;
+    let stored = records_ok(device, records);
+    let waiting = queues_ok(device, queues);
+    let known = device <= 2;
+    let form = known & stored.form & stored.placed & waiting;
     let noded = sector::node_form(node);
     let tabled = sector::table_form(table);
     let good = form & noded & tabled;

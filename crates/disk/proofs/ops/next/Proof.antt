@@ -2,11 +2,15 @@
 use borrow.Author.Needs.{needs}
 use Rattle.base.specs.Refusals.{answer}
 use Rattle.disk.proofs.ops.next.Statement.{statement}
+use Rattle.blockdisk.specs.Form.{diskForm}
 use Rattle.blockdisk.specs.Ops.{diskStep, obeyed}
 use Rattle.disk.proofs.ops.next.Tie as tie
 
-disk-form-requires : tie.Need-disk-form-requires
-disk-form-requires c κs = search needs
+records-ok-requires : tie.Need-records-ok-requires
+records-ok-requires c κs = search needs
+
+queues-ok-requires : tie.Need-queues-ok-requires
+queues-ok-requires c κs = search needs
 
 node-form-requires : tie.Need-node-form-requires
 node-form-requires c κs = search needs
@@ -18,15 +22,23 @@ obey-requires : tie.Need-obey-requires
 obey-requires c κs = search needs
 
 returns : tie.Need-returns
-unfolding diskStep obeyed answer
+unfolding diskForm diskStep obeyed answer
 returns c =
-    simp (rw (c .before .before .table-form .ensures, c .before .before .before .node-form .ensures, c .before .before .before .before .disk-form .ensures) at (c .before .if1 .taken)) (c .obey .ensures)
+    simp (rw (c .before .before .table-form .ensures, c .before .before .before .node-form .ensures, c .before .before .before .before .before .before .queues-ok .ensures, c .before .before .before .before .before .before .before .records-ok .ensures) at (c .before .if1 .taken)) (c .obey .ensures)
 
 returns-2 : tie.Need-returns-2
-unfolding diskStep answer
-returns-2 c = simp (rw (c .before .table-form .ensures, c .before .before .node-form .ensures, c .before .before .before .disk-form .ensures) at (c .if1 .left))
+unfolding diskForm diskStep answer
+returns-2 c =
+    simp (rw (c .before .table-form .ensures, c .before .before .node-form .ensures, c .before .before .before .before .before .queues-ok .ensures, c .before .before .before .before .before .before .records-ok .ensures) at (c .if1 .left))
 
 pub next-spec : {M : Type 1} → statement M
 next-spec =
     tie.close
-    (tie.spec disk-form-requires node-form-requires table-form-requires obey-requires returns returns-2)
+    (tie.spec
+    records-ok-requires
+    queues-ok-requires
+    node-form-requires
+    table-form-requires
+    obey-requires
+    returns
+    returns-2)
