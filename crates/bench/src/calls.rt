@@ -1,11 +1,10 @@
 // What a round carries, the arguments of a call, and the one place that makes a joined call.
 ghost use mathlib.Core.Path.{_≡_};
-use blockcache::Cache;
 use blockcache::Call;
 use blockcache::VersionOp;
-use blockdisk::Disk;
 use blockdisk::DiskOp;
 use blockdisk::Records;
+use blocksystem::Outcome;
 use disklayout::Location;
 use sectortype::Node;
 use sectortype::Succs;
@@ -18,8 +17,7 @@ pub struct State {
     pub calls: u64,
     pub accepted: u64,
     pub checksum: u64,
-    pub cache: Cache,
-    pub disk: Disk,
+    pub store: Outcome,
 }
 
 fn double(x: u64) -> u64 {
@@ -43,12 +41,11 @@ fn one_if_accepted(answer: u64) -> u64 {
 
 // A joined call that offers these records, which only a crash looks at.
 pub fn offer(s: State, number: u64, q: Call, offered: Records) -> State {
-    let cache = s.cache;
-    let disk = s.disk;
+    let before = s.store;
+    let cache = before.cache;
+    let disk = before.disk;
     let o = system::step(s.device, number, q, offered, cache, disk);
     let node = o.node;
-    let next = o.cache;
-    let stored = o.disk;
     let answered = mixed(s.checksum, o.answer);
     State {
         device: s.device,
@@ -56,14 +53,14 @@ pub fn offer(s: State, number: u64, q: Call, offered: Records) -> State {
         calls: std::num::wrapping_add_u64(s.calls, 1),
         accepted: std::num::wrapping_add_u64(s.accepted, one_if_accepted(o.answer)),
         checksum: mixed(answered, node.contents),
-        cache: next,
-        disk: stored,
+        store: o,
     }
 }
 
 // A joined call that offers the records that are stored.
 pub fn turn(s: State, number: u64, q: Call) -> State {
-    let disk = s.disk;
+    let before = s.store;
+    let disk = before.disk;
     let offered = disk.records;
     offer(s, number, q, offered)
 }

@@ -195,16 +195,13 @@ fn again(s: State) -> State {
 // The store newly formatted on this device, with this contents number; counts and checksum as they were.
 fn formatted(s: State, device: u64, base: u64) -> State {
     let o = system::format(device, base);
-    let cache = o.cache;
-    let disk = o.disk;
     State {
         device,
         base,
         calls: s.calls,
         accepted: s.accepted,
         checksum: s.checksum,
-        cache,
-        disk,
+        store: o,
     }
 }
 
@@ -222,15 +219,12 @@ pub fn round(s: State, i: u64) -> State {
 // Nothing called yet.
 pub fn start() -> State {
     let o = system::format(0, 0);
-    let cache = o.cache;
-    let disk = o.disk;
     State {
         device: 0,
         base: 0,
         calls: 0,
         accepted: 0,
         checksum: 0,
-        cache,
-        disk,
+        store: o,
     }
 }

@@ -34,7 +34,8 @@ pub fn write_back_node_resp(s: State, id: u64) -> State {
 // 3, with the frozen table, into area 2
 pub fn write_back_table_req(s: State, id: u64) -> State {
     let loc = table_place(s.device, true);
-    let c = s.cache;
+    let o = s.store;
+    let c = o.cache;
     let ts = c.tables;
     let frozen = ts.frozen;
     let q = with_table(
@@ -96,7 +97,8 @@ pub fn page_in_table_req(s: State, id: u64, second: bool) -> State {
 }
 
 fn stored_table(s: State, second: bool) -> Table {
-    let d = s.disk;
+    let o = s.store;
+    let d = o.disk;
     let records = d.records;
     let tables = records.tables;
     let one = tables[0];

@@ -1,6 +1,6 @@
 // The step entry: any number, any call, on any cache.
 ghost use mathlib.Core.Path.{_≡_};
-ghost use Prim.Native.Nat.{_<_, _≤_};
+ghost use Prim.Native.Nat.{_<_};
 ghost use Rattle.blockcache.specs.Rows.{readRef};
 ghost use Rattle.blockcache.specs.Step.{obeyed, cacheStep};
 use crate::form::cache_form;

@@ -1,6 +1,5 @@
 // Steps 8 to 10 and 18: a start, the table's page-in, and the crash's half.
 ghost use mathlib.Core.Path.{_≡_};
-ghost use Prim.Native.Nat.{_<_};
 ghost use Rattle.base.specs.Refusals.{answer};
 ghost use Rattle.blockcache.specs.Rows.{rows8, rows9, rows10, rows18};
 ghost use Rattle.blockcache.specs.Next.{next8, next9, next10};

@@ -9,7 +9,6 @@ use queue::Request;
 use queue::Requests;
 use sectortype::Entry;
 use sectortype::Node;
-use sectortype::Succs;
 use sectortype::Table;
 
 // Whether a read of this reference is outstanding.

@@ -34,12 +34,18 @@ fn node_record_ok(device: u64, k: u64, r: NodeRecord) -> Checked
     let loc = r.loc;
     let node = r.node;
     let form = sector::node_form(node);
+    if there {
+        let allowed = layout::node_place_in(device, k, loc);
+        return Checked {
+            form,
+            placed: allowed.yes,
+        };
+    }
     let zero = sector::node_zero(node);
     let nowhere = sector::loc_zero(loc);
-    let allowed = layout::node_place_in(device, k, loc);
     Checked {
-        form: form & (there | (nowhere & zero)),
-        placed: !there | allowed.yes,
+        form: form & (nowhere & zero),
+        placed: true,
     }
 }
 

@@ -116,13 +116,14 @@ pub fn count_allocated(entries: [Entry; 64]) -> u8
 pub fn table_form(t: Table) -> bool
     ensures { λ r. ⌜ r ≡ tableForm t ⌝ }
 {
-    let entries = t.entries;
-    let n = count_allocated(entries);
+    let mut n: u8 = 0;
     let mut good = true;
     let mut i: usize = 0;
     while i < 64 {
         let e = t.entries[i];
+        let x = one_if(e.allocated);
         let p = entry_form(e);
+        n += x;
         good = good & p;
         i += 1;
     }
@@ -156,13 +157,14 @@ pub fn count_present(slots: [Slot; 64]) -> u8
 pub fn nodes_form(m: Nodes) -> bool
     ensures { λ r. ⌜ r ≡ nodesForm m ⌝ }
 {
-    let slots = m.slots;
-    let n = count_present(slots);
+    let mut n: u8 = 0;
     let mut good = true;
     let mut i: usize = 0;
     while i < 64 {
         let s = m.slots[i];
+        let x = one_if(s.present);
         let p = slot_form(s);
+        n += x;
         good = good & p;
         i += 1;
     }

@@ -1,7 +1,6 @@
 // A table's graph: lists as sets, references that are allocated, addresses that are held.
 ghost use mathlib.Core.Path.{_≡_};
-ghost use Prim.Native.Nat.{ℕ};
-ghost use Rattle.sectortype.specs.Graph.{hasSucc, subset, sameSet, withinAt, within, closedAt, GraphClosed, holdsAddr, apartAt, apartFrom, DistinctAddrs};
+ghost use Rattle.sectortype.specs.Graph.{hasSucc, subset, sameSet, withinAt, within, GraphClosed, holdsAddr, apartAt, apartFrom, DistinctAddrs};
 use sectortype::Entry;
 use sectortype::Succs;
 use sectortype::Table;

@@ -1,6 +1,6 @@
 // Formatting: the root in the first node block, its table in area 1, all else empty; and the names and pictures at first.
 ghost use mathlib.Core.Path.{_≡_};
-ghost use Rattle.blocksystem.specs.Format.{rootNode, rootPlace, tablePlaceOf, rootTable, formattedRecords, emptyDisk, formatted};
+ghost use Rattle.blocksystem.specs.Format.{rootNode, rootTable, formattedRecords, formatted};
 ghost use Rattle.blocksystem.specs.Names.{noName, withRoot, firstStory};
 use blockdisk::Disk;
 use blockdisk::NodeRecord;
@@ -10,7 +10,6 @@ use blocksystem::Named;
 use blocksystem::Outcome;
 use blocksystem::Story;
 use disklayout::Location;
-use sectortype::Entry;
 use sectortype::Node;
 use sectortype::Nodes;
 use sectortype::Slot;

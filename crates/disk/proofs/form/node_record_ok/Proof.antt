@@ -1,4 +1,5 @@
--- By what the callees ensure. Assumes nothing.
+-- Present: its place is asked. Absent: zeros. Assumes nothing.
+use mathlib.Core.Bool.{and-true}
 use borrow.Author.Needs.{needs}
 use Rattle.disk.proofs.form.node_record_ok.Statement.{statement}
 use Rattle.blockdisk.specs.Form.{nodeRecordChecked}
@@ -7,25 +8,30 @@ use Rattle.disk.proofs.form.node_record_ok.Tie as tie
 node-form-requires : tie.Need-node-form-requires
 node-form-requires c κs = search needs
 
+node-place-in-requires : tie.Need-node-place-in-requires
+node-place-in-requires c κs = search needs
+
+returns : tie.Need-returns
+unfolding nodeRecordChecked
+returns c = simp (c .before .if1 .taken, and-true, c .node-place-in .ensures, c .before .before .node-form .ensures)
+
 node-zero-requires : tie.Need-node-zero-requires
 node-zero-requires c κs = search needs
 
 loc-zero-requires : tie.Need-loc-zero-requires
 loc-zero-requires c κs = search needs
 
-node-place-in-requires : tie.Need-node-place-in-requires
-node-place-in-requires c κs = search needs
-
-returns : tie.Need-returns
+returns-2 : tie.Need-returns-2
 unfolding nodeRecordChecked
-returns c = simp (c .before .node-place-in .ensures, c .before .before .loc-zero .ensures, c .before .before .before .node-zero .ensures, c .before .before .before .before .node-form .ensures)
+returns-2 c = simp (c .before .before .if1 .left, c .loc-zero .ensures, c .before .node-zero .ensures, c .before .before .before .node-form .ensures)
 
 pub node-record-ok-spec : {M : Type 1} → statement M
 node-record-ok-spec =
     tie.close
     (tie.spec
     node-form-requires
+    node-place-in-requires
+    returns
     node-zero-requires
     loc-zero-requires
-    node-place-in-requires
-    returns)
+    returns-2)
