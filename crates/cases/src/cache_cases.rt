@@ -1,25 +1,25 @@
 // The cache's numbers that no script reaches: 8 in step 7, 11 in step 11; and 14 at its edge.
-use crate::made::BLOCK1;
-use crate::made::BLOCK2;
-use crate::made::BLOCK3;
-use crate::made::at;
-use crate::made::entry_nowhere;
-use crate::made::leaf;
-use crate::made::one;
-use crate::made::queue_of;
-use crate::made::ready;
-use crate::made::two_entries;
-use crate::made::with_cached;
-use crate::made::with_ephemeral;
-use crate::made::with_frozen;
-use crate::made::with_reads;
-use crate::made::with_writes;
-use crate::show::cache_answer;
-use crate::show::internal;
-use crate::show::line;
 use blockcache::Cache;
 use blockdisk::Brought;
 use blockdisk::DiskOp;
+use handmade::BLOCK1;
+use handmade::BLOCK2;
+use handmade::BLOCK3;
+use handmade::at;
+use handmade::entry_nowhere;
+use handmade::leaf;
+use handmade::one;
+use handmade::queue_of;
+use handmade::ready;
+use handmade::show::cache_answer;
+use handmade::show::internal;
+use handmade::show::line;
+use handmade::two_entries;
+use handmade::with_cached;
+use handmade::with_ephemeral;
+use handmade::with_frozen;
+use handmade::with_reads;
+use handmade::with_writes;
 use sectortype::Table;
 
 // A Ready cache that awaits, under id 5, the node of this reference.

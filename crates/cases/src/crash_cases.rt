@@ -1,23 +1,23 @@
 // A crash of the disk: 19 unless the records offered are possible, 1 where one is not in its written form.
-use crate::made::AREA1;
-use crate::made::AREA2;
-use crate::made::BLOCK0;
-use crate::made::BLOCK1;
-use crate::made::at;
-use crate::made::leaf;
-use crate::made::node_record;
-use crate::made::one;
-use crate::made::put_node;
-use crate::made::put_table;
-use crate::made::queues_with;
-use crate::made::stored;
-use crate::made::table_record;
-use crate::made::two_entries;
-use crate::show::crash_answer;
-use crate::show::line;
-use crate::show::pair;
 use blockdisk::Queues;
 use blockdisk::Records;
+use handmade::AREA1;
+use handmade::AREA2;
+use handmade::BLOCK0;
+use handmade::BLOCK1;
+use handmade::at;
+use handmade::leaf;
+use handmade::node_record;
+use handmade::one;
+use handmade::put_node;
+use handmade::put_table;
+use handmade::queues_with;
+use handmade::show::crash_answer;
+use handmade::show::line;
+use handmade::show::pair;
+use handmade::stored;
+use handmade::table_record;
+use handmade::two_entries;
 
 // Block k has a node with these contents at this place.
 fn with_node(r: Records, k: usize, addr: u64, len: u64, contents: u64) -> Records {

@@ -1,5 +1,5 @@
 -- The starred cases of document 01's "Device 0 at its edges", and JournalPosAdd at the edge of 64 bits: shown from the definitions
--- by one statement over one list. Assumes nothing.
+-- by one statement over one list. Then 01's line for each device, as `placemap` prints it. Assumes nothing.
 use mathlib.Core.Path.{_≡_, refl}
 use mathlib.Core.Bool.{Bool, true, false}
 use mathlib.Core.List.{List, [], _∷_, map}
@@ -10,7 +10,8 @@ use Rattle.disklayout.specs.declared.Device.{Device}
 use Rattle.disklayout.specs.declared.Location.{Location}
 use Rattle.disklayout.specs.Calls.{numberIf}
 use Rattle.disklayout.specs.Device.{deviceOf, devices}
-use Rattle.disklayout.specs.Layout.{ValidIndirectionTableAddr, ValidIndirectionTableLocation, ValidNodeAddr, ValidNodeLocation, ValidJournalLocation, overlap}
+use Rattle.disklayout.specs.Blocks.{FirstNodeAddr, NodeBlocksEnd}
+use Rattle.disklayout.specs.Layout.{IndirectionTable1Addr, IndirectionTable2Addr, JournalEndAddr, JournalStartAddr, ValidIndirectionTableAddr, ValidIndirectionTableLocation, ValidNodeAddr, ValidNodeLocation, ValidJournalLocation, overlap}
 use Rattle.disklayout.specs.Journal.{JournalFrontLocation, JournalBackLocation, JournalPosAdd}
 
 abbrev pub loc : ℕ → ℕ → Location
@@ -76,3 +77,19 @@ edges =
 pub edges-shown : map asked edges ≡ map expected edges
 unfolding asked expected edges ask deviceOf devices ValidIndirectionTableAddr ValidIndirectionTableLocation ValidNodeAddr ValidNodeLocation ValidJournalLocation overlap
 edges-shown = refl
+
+-- 01's line for each device: journal start and end, both table addresses, first node address, end of the node blocks
+pub lineOf : Device → List ℕ
+lineOf w =
+    JournalStartAddr ∷ JournalEndAddr w ∷ IndirectionTable1Addr w ∷ IndirectionTable2Addr w ∷ FirstNodeAddr w ∷ NodeBlocksEnd w ∷ []
+
+pub lines : List (List ℕ)
+lines =
+    (8192 ∷ 73728 ∷ 73728 ∷ 139264 ∷ 262144 ∷ 8650752 ∷ []) ∷
+    (8192 ∷ 270336 ∷ 270336 ∷ 532480 ∷ 917504 ∷ 17694720 ∷ []) ∷
+    (8192 ∷ 1056768 ∷ 1056768 ∷ 2105344 ∷ 4194304 ∷ 138412032 ∷ []) ∷
+    []
+
+pub lines-shown : map lineOf devices ≡ lines
+unfolding lineOf lines devices
+lines-shown = refl

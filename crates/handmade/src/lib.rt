@@ -1,4 +1,4 @@
-// States made by hand, all for device 0.
+// States made by hand, all for device 0, for the programs `cases` and `forms`.
 use blockcache::Cache;
 use blockcache::Outstanding;
 use blockcache::Phase;
@@ -17,32 +17,34 @@ use sectortype::Node;
 use sectortype::Slot;
 use sectortype::Table;
 
+pub mod show;
+
 // The two table areas and the first four node blocks of device 0.
-pub(crate) const AREA1: u64 = 73728;
+pub const AREA1: u64 = 73728;
 
-pub(crate) const AREA2: u64 = 139264;
+pub const AREA2: u64 = 139264;
 
-pub(crate) const BLOCK0: u64 = 262144;
+pub const BLOCK0: u64 = 262144;
 
-pub(crate) const BLOCK1: u64 = 327680;
+pub const BLOCK1: u64 = 327680;
 
-pub(crate) const BLOCK2: u64 = 393216;
+pub const BLOCK2: u64 = 393216;
 
-pub(crate) const BLOCK3: u64 = 458752;
+pub const BLOCK3: u64 = 458752;
 
-pub(crate) fn at(addr: u64, len: u64) -> Location {
+pub fn at(addr: u64, len: u64) -> Location {
     Location { addr, len }
 }
 
 // A node that points to nothing.
-pub(crate) fn leaf(contents: u64) -> Node {
+pub fn leaf(contents: u64) -> Node {
     let mut n = sector::empty_node();
     n.contents = contents;
     n
 }
 
 // Ids 1 to n, each for reference 0 at this place; 16 at most.
-pub(crate) fn queue_of(n: u64, loc: Location) -> Requests {
+pub fn queue_of(n: u64, loc: Location) -> Requests {
     let mut q = queue::none();
     let mut i: u64 = 0;
     while i < n {
@@ -58,13 +60,13 @@ pub(crate) fn queue_of(n: u64, loc: Location) -> Requests {
 }
 
 // One request.
-pub(crate) fn one(id: u64, reference: u8, loc: Location) -> Requests {
+pub fn one(id: u64, reference: u8, loc: Location) -> Requests {
     let q = queue::none();
     let w = Request { id, reference, loc };
     queue::insert(q, w)
 }
 
-pub(crate) fn node_record(loc: Location, node: Node) -> NodeRecord {
+pub fn node_record(loc: Location, node: Node) -> NodeRecord {
     NodeRecord {
         present: true,
         loc,
@@ -72,7 +74,7 @@ pub(crate) fn node_record(loc: Location, node: Node) -> NodeRecord {
     }
 }
 
-pub(crate) fn table_record(loc: Location, table: Table) -> TableRecord {
+pub fn table_record(loc: Location, table: Table) -> TableRecord {
     TableRecord {
         present: true,
         loc,
@@ -80,7 +82,7 @@ pub(crate) fn table_record(loc: Location, table: Table) -> TableRecord {
     }
 }
 
-pub(crate) fn put_node(r: Records, k: usize, x: NodeRecord) -> Records {
+pub fn put_node(r: Records, k: usize, x: NodeRecord) -> Records {
     if 128 <= k {
         return r;
     }
@@ -91,7 +93,7 @@ pub(crate) fn put_node(r: Records, k: usize, x: NodeRecord) -> Records {
     next
 }
 
-pub(crate) fn put_table(r: Records, k: usize, x: TableRecord) -> Records {
+pub fn put_table(r: Records, k: usize, x: TableRecord) -> Records {
     if 2 <= k {
         return r;
     }
@@ -103,13 +105,13 @@ pub(crate) fn put_table(r: Records, k: usize, x: TableRecord) -> Records {
 }
 
 // A disk with these records and nothing outstanding.
-pub(crate) fn storing(records: Records) -> Disk {
+pub fn storing(records: Records) -> Disk {
     let queues = disk::no_queues();
     Disk { records, queues }
 }
 
 // An allocated reference without successors at an address, length 4096.
-pub(crate) fn entry_at(addr: u64) -> Entry {
+pub fn entry_at(addr: u64) -> Entry {
     let loc = at(addr, 4096);
     let mut e = sector::empty_entry();
     e.allocated = true;
@@ -119,14 +121,14 @@ pub(crate) fn entry_at(addr: u64) -> Entry {
 }
 
 // An allocated reference without successors and without a location.
-pub(crate) fn entry_nowhere() -> Entry {
+pub fn entry_nowhere() -> Entry {
     let mut e = sector::empty_entry();
     e.allocated = true;
     e
 }
 
 // The root in block 0, reference 1 in block 1.
-pub(crate) fn two_entries() -> Table {
+pub fn two_entries() -> Table {
     let none = sector::empty_table();
     let root = entry_at(BLOCK0);
     let more = entry_at(BLOCK1);
@@ -135,7 +137,7 @@ pub(crate) fn two_entries() -> Table {
 }
 
 // A node with contents 7 in block 0 and a table in area 1, each of length 4096.
-pub(crate) fn stored() -> Records {
+pub fn stored() -> Records {
     let none = disk::no_records();
     let place = at(BLOCK0, 4096);
     let area = at(AREA1, 4096);
@@ -148,7 +150,7 @@ pub(crate) fn stored() -> Records {
 }
 
 // The enum of the phase is not stored to, so the cache is written anew.
-pub(crate) fn in_phase(c: Cache, phase: Phase) -> Cache {
+pub fn in_phase(c: Cache, phase: Phase) -> Cache {
     let tables = c.tables;
     let places = c.places;
     let awaited = c.awaited;
@@ -165,7 +167,7 @@ pub(crate) fn in_phase(c: Cache, phase: Phase) -> Cache {
 }
 
 // A Ready cache loaded from area 1: the root and reference 1, nothing cached, nothing outstanding.
-pub(crate) fn ready() -> Cache {
+pub fn ready() -> Cache {
     let none = cache::unready();
     let phase = Phase::Ready;
     let mut c = in_phase(none, phase);
@@ -190,7 +192,7 @@ pub(crate) fn ready() -> Cache {
     c
 }
 
-pub(crate) fn with_cached(c: Cache, r: usize, node: Node) -> Cache {
+pub fn with_cached(c: Cache, r: usize, node: Node) -> Cache {
     let mut next = c;
     let old = next.nodes;
     let slot = Slot {
@@ -202,7 +204,7 @@ pub(crate) fn with_cached(c: Cache, r: usize, node: Node) -> Cache {
     next
 }
 
-pub(crate) fn with_persistent(c: Cache, t: Table) -> Cache {
+pub fn with_persistent(c: Cache, t: Table) -> Cache {
     let mut next = c;
     let mut ts = next.tables;
     ts.persistent = t;
@@ -210,7 +212,7 @@ pub(crate) fn with_persistent(c: Cache, t: Table) -> Cache {
     next
 }
 
-pub(crate) fn with_ephemeral(c: Cache, t: Table) -> Cache {
+pub fn with_ephemeral(c: Cache, t: Table) -> Cache {
     let mut next = c;
     let mut ts = next.tables;
     ts.ephemeral = t;
@@ -218,7 +220,7 @@ pub(crate) fn with_ephemeral(c: Cache, t: Table) -> Cache {
     next
 }
 
-pub(crate) fn with_frozen(c: Cache, isfrozen: bool, t: Table) -> Cache {
+pub fn with_frozen(c: Cache, isfrozen: bool, t: Table) -> Cache {
     let mut next = c;
     let mut ts = next.tables;
     ts.isfrozen = isfrozen;
@@ -227,25 +229,25 @@ pub(crate) fn with_frozen(c: Cache, isfrozen: bool, t: Table) -> Cache {
     next
 }
 
-pub(crate) fn with_outstanding(c: Cache, writes: Requests, reads: Requests) -> Cache {
+pub fn with_outstanding(c: Cache, writes: Requests, reads: Requests) -> Cache {
     let mut next = c;
     let o = Outstanding { writes, reads };
     next.outstanding = o;
     next
 }
 
-pub(crate) fn with_writes(c: Cache, writes: Requests) -> Cache {
+pub fn with_writes(c: Cache, writes: Requests) -> Cache {
     let reads = queue::none();
     with_outstanding(c, writes, reads)
 }
 
-pub(crate) fn with_reads(c: Cache, reads: Requests) -> Cache {
+pub fn with_reads(c: Cache, reads: Requests) -> Cache {
     let writes = queue::none();
     with_outstanding(c, writes, reads)
 }
 
 // Four queues; kind 1 to 4 has q, the others are empty: table reads, node reads, table writes, node writes.
-pub(crate) fn queues_with(kind: u64, q: Requests) -> Queues {
+pub fn queues_with(kind: u64, q: Requests) -> Queues {
     let mut qs = disk::no_queues();
     match kind {
         1 => {
@@ -265,7 +267,7 @@ pub(crate) fn queues_with(kind: u64, q: Requests) -> Queues {
 }
 
 // A disk that stores nothing, with q in one queue.
-pub(crate) fn queued(kind: u64, q: Requests) -> Disk {
+pub fn queued(kind: u64, q: Requests) -> Disk {
     let queues = queues_with(kind, q);
     let records = disk::no_records();
     Disk { records, queues }

@@ -1,8 +1,8 @@
 -- A queue is filled by a count of turns. Assumes nothing.
 use Prim.Native.Nat.{_-_, _≤_}
 use borrow.Author.Needs.{needs}
-use Rattle.cases.proofs.made.queue_of.Statement.{statement}
-use Rattle.cases.proofs.made.queue_of.Tie as tie
+use Rattle.handmade.proofs.queue_of.Statement.{statement}
+use Rattle.handmade.proofs.queue_of.Tie as tie
 
 abbrev Inv-loop : tie.InvT-loop
 Inv-loop n loc q₀ i₀ q i = i ≤ n
