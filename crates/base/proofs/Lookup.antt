@@ -1,24 +1,23 @@
 -- A queue by ascending key as a partial map: what a lookup gives, also after an entry is put in or taken out. Assumes nothing.
 use mathlib.Core.Path.{_≡_, refl, ap, sym, _∙_, fun-ext}
-use mathlib.Core.Bool.{Bool, true, false, _&&_, _||_, not, cond}
-use mathlib.Core.List.{List, [], _∷_, _++_}
+use mathlib.Core.Bool.{Bool, true, false, _&&_}
+use mathlib.Core.List.{List}
 use mathlib.Core.Logic.{_↔_, _⊎_, inl, inr, ⊎-elim}
 use mathlib.Core.Option.{Option, some, none}
 use Prim.Native.Nat.{ℕ, zero, suc, _+_, _-_, _≤_, _<_}
 use native.Mathlib.Omega.{arith}
 use native.Mathlib.Nat.{lt-trans, not-suc-le-zero}
 use native.Mathlib.Numerals.{add-one}
-use lib.Dec.{ltb, leb, eqb}
-use lib.ListN.{getD, length}
+use lib.Dec.{ltb, eqb}
+use lib.ListN.{getD}
 use borrow.Author.Tests.{ltb-true, ltb-false, lt-ltb, eqb-true, eqb-false, eq-eqb, ne-eqb}
-use Rattle.base.specs.Scan.{someBelow, firstBelow}
-use Rattle.base.specs.Lists.{closed}
-use Rattle.base.specs.Maps.{Map, put, del, isSome, empty, flagged}
+use Rattle.base.specs.Scan.{someBelow}
+use Rattle.base.specs.Maps.{put, del, isSome, empty}
 use Rattle.base.specs.Queue.{keyAt, hasIn, findIn, spotIn, insertIn, removeIn, lookupIn, queueForm}
-use Rattle.base.proofs.Tests.{split, clash, never, and-left, and-right}
+use Rattle.base.proofs.Tests.{split, never, and-left, and-right}
 use Rattle.base.proofs.Scan.{some-at, none-at, some-of-none, first-is, first-found, first-passes, below-or-last}
 use Rattle.base.proofs.Maps.{put-same, put-other, del-same, del-other, flagged-some, flagged-isSome}
-use Rattle.base.proofs.QueueForm.{form-length, form-count, form-step, insert-form, remove-form, spot-used, now-before, now-at, now-behind, left-before, left-behind}
+use Rattle.base.proofs.QueueForm.{form-count, form-step, insert-form, remove-form, spot-used, now-before, now-at, now-behind, left-before, left-behind}
 
 module _ {A : Type 0} (key : A → ℕ) (z : A) (cap : ℕ) where
   -- an id that no entry in use has

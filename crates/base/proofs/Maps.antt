@@ -1,9 +1,9 @@
 -- Laws of partial maps. Assumes nothing.
-use mathlib.Core.Path.{_≡_, refl, sym, fun-ext}
-use mathlib.Core.Bool.{Bool, true, false, cond}
+use mathlib.Core.Path.{_≡_, refl, fun-ext}
+use mathlib.Core.Bool.{Bool, true, false}
 use mathlib.Core.Logic.{_⊎_, inl, inr}
-use mathlib.Core.Option.{Option, some, none}
-use Prim.Native.Nat.{ℕ, _<_}
+use mathlib.Core.Option.{some, none}
+use Prim.Native.Nat.{ℕ}
 use lib.Dec.{eqb}
 use borrow.Author.Tests.{eqb-true, eqb-false, eq-eqb, ne-eqb}
 use Rattle.base.specs.Maps.{Map, put, del, isSome, flagged}

@@ -1,6 +1,6 @@
 -- A queue by ascending key keeps its one written form when an entry with a new key is put in, and when one is taken out. Assumes nothing.
 use mathlib.Core.Path.{_≡_, refl, ap, sym, _∙_}
-use mathlib.Core.Bool.{Bool, true, false, _&&_, _||_, not, or-true}
+use mathlib.Core.Bool.{Bool, true, false, _&&_, _||_, or-true}
 use mathlib.Core.List.{List, [], _∷_, _++_}
 use mathlib.Core.Logic.{_⊎_, inl, inr, ⊎-elim}
 use Prim.Native.Nat.{ℕ, _+_, _-_, _≤_, _<_}
@@ -8,12 +8,12 @@ use native.Mathlib.Omega.{arith}
 use native.Mathlib.Nat.{lt-trans}
 use native.Mathlib.Numerals.{add-one}
 use lib.Dec.{ltb, leb, eqb}
-use lib.ListN.{getD, take, length, length-append, List·getD-eq-default}
+use lib.ListN.{getD, length, length-append, List·getD-eq-default}
 use lib.Seq.{getD-take, length-take-le}
 use borrow.Author.Tests.{ltb-true, ltb-false, leb-true, leb-false, le-leb, lt-leb, lt-ltb, le-ltb, eqb-true, eqb-false, eq-eqb}
 use Rattle.base.specs.Scan.{allBelow}
 use Rattle.base.specs.Lists.{opened, closed}
-use Rattle.base.specs.Queue.{keyAt, hasIn, findIn, spotIn, insertIn, removeIn, spotOk, queueForm}
+use Rattle.base.specs.Queue.{keyAt, hasIn, spotIn, insertIn, spotOk, queueForm}
 use Rattle.base.proofs.Tests.{split, clash, and-left, and-right, or-right}
 use Rattle.base.proofs.Scan.{all-at, all-of, some-at, first-before, first-passes, first-at-most}
 use Rattle.base.proofs.Lists.{length-opened, opened-before, opened-at, opened-behind, length-closed, closed-before, closed-behind, getD-pad}

@@ -1,6 +1,6 @@
 -- A map keyed by an id as document 01 keeps it: an array of `cap` places with a count n, by ascending key, unused places blank.
 -- The element, its key, the blank and the test of an element in use are any: one set of laws serves every queue.
-use mathlib.Core.Bool.{Bool, _&&_, _||_, not, cond}
+use mathlib.Core.Bool.{Bool, _&&_, _||_, not}
 use mathlib.Core.List.{List, [], _∷_, _++_}
 use mathlib.Core.Option.{Option}
 use Prim.Native.Nat.{ℕ, _-_}

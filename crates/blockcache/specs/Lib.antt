@@ -1,3 +1,4 @@
+-- What the cache's contracts cite, and upstream's BlockCache, which the theorem of demand 2 compares with it.
 pub mod Form
 pub mod Narrowings
 pub mod Next

@@ -2,7 +2,7 @@
 use Prim.Native.Nat.{ℕ}
 use mathlib.Core.Bool.{Bool, cond, true}
 use mathlib.Core.Logic.{_⊎_}
-use mathlib.Core.Option.{Option, Option·map, none, some}
+use mathlib.Core.Option.{Option, none, some}
 use mathlib.Core.Path.{_≡_}
 use lib.Dec.{eqb}
 use Rattle.base.specs.Maps.{Map, flagged}
@@ -16,7 +16,7 @@ use Rattle.blockcache.specs.declared.VersionOp.{VersionOp}
 use Rattle.blockcache.specs.declared.VersionOp.the-variants.{AdvanceOp, CleanUpOp, CrashOp, FreezeOp, JournalInternalOp, PopSyncOp, PushSyncOp, SendFrozenLocOp, SendPersistentLocOp, StatesInternalOp}
 use Rattle.blockdisk.specs.Upstream.{Dop, noDiskOp, opOf, reqReadIndirectionTable, reqReadNode, reqWriteIndirectionTable, reqWriteNode, respReadIndirectionTable, respReadNode, respWriteIndirectionTable, respWriteNode}
 use Rattle.disklayout.specs.declared.Location.{Location}
-use Rattle.queue.specs.Queue.{requestsMap}
+use Rattle.queue.specs.Queue.{mapped}
 use Rattle.queue.specs.declared.Request.{Request}
 use Rattle.queue.specs.declared.Requests.{Requests}
 use Rattle.sectortype.specs.Abstract.{IndirectionTable, indirectionTable, nodesMap}
@@ -150,11 +150,11 @@ writeOf w = record { ref = w .reference; loc = w .loc }
 
 -- map<ReqId, OutstandingWrite>
 unfoldable pub writesMap : Requests → Map OutstandingWrite
-writesMap q = λ id. Option·map writeOf (requestsMap q id)
+writesMap = mapped writeOf
 
 -- map<ReqId, OutstandingRead>
 unfoldable pub readsMap : Requests → Map ℕ
-readsMap q = λ id. Option·map (λ (w : Request). w .reference) (requestsMap q id)
+readsMap = mapped (λ w. w .reference)
 
 abbrev pub awaitedId : Awaited → Option ℕ
 awaitedId a = flagged (a .waiting) (a .id)

@@ -2,71 +2,65 @@
 use Prim.Native.Nat.{_<_, ℕ}
 use mathlib.Core.Bool.{Bool, _&&_, _||_, false, not, true}
 use mathlib.Core.Logic.{_↔_, ⊎-elim}
-use mathlib.Core.Option.{Option, Option·map, map-eq-some-iff, none, some}
-use mathlib.Core.Path.{_∙_, _≡_, ap, fun-ext, refl, sym}
+use mathlib.Core.Option.{some}
+use mathlib.Core.Path.{_≡_, refl, sym}
 use borrow.Author.Tests.{eqb-false, ne-eqb}
 use lib.Dec.{eqb, ltb}
 use Rattle.base.proofs.Maps.{del-some, put-some}
 use Rattle.base.proofs.Scan.{all-at, all-of, none-at, some-of-none}
-use Rattle.base.proofs.Tests.{and-both, and-iff, not-iff, split}
-use Rattle.base.specs.Maps.{Map, del, empty, isSome, put}
+use Rattle.base.proofs.Tests.{and-both, and-iff, not-iff}
+use Rattle.base.specs.Maps.{del, empty, isSome, put}
 use Rattle.base.specs.Scan.{allBelow, someBelow}
 use Rattle.blockdisk.specs.Ops.{requestOf}
 use Rattle.blockdisk.specs.Upstream.{places}
 use Rattle.disklayout.specs.declared.Location.{Location}
-use Rattle.queue.proofs.Laws.{entry-map, has-map, insert-form, insert-map, none-map, remove-form, remove-map, scan-iff}
+use Rattle.queue.proofs.Laws.{insert-form, insert-map, none-form, remove-form, remove-map, scan-iff}
+use Rattle.queue.proofs.Mapped.{mapped-at, mapped-empty-iff, mapped-has, mapped-insert, mapped-none-iff, mapped-of, mapped-remove, mapped-some}
 use Rattle.queue.specs.Queue.{entryOf, hasAddr, hasOf, insertOf, noRequests, removeOf, requestAt, requestsForm, requestsMap}
 use Rattle.queue.specs.declared.Request.{Request}
 use Rattle.queue.specs.declared.Requests.{Requests}
 
 -- A MAP OF PLACES
 
--- the places of a map of requests
-abbrev locsIn : Map Request → Map Location
-locsIn m = λ id. Option·map (λ (w : Request). w .loc) (m id)
+-- the place that a request stands for
+abbrev placeIn : Request → Location
+placeIn w = w .loc
 
 pub places-has : (q : Requests) (id : ℕ) → isSome (places q id) ≡ hasOf q id
 unfolding places
-places-has q id = mapped (requestsMap q id) ∙ has-map q id
-  where
-    mapped : (o : Option Request) → isSome (Option·map (λ (w : Request). w .loc) o) ≡ isSome o
-    mapped none = refl
-    mapped (some w) = refl
+places-has = mapped-has placeIn
 
 pub places-at : (q : Requests) (id : ℕ) → hasOf q id ≡ true → places q id ≡ some (entryOf q id .loc)
 unfolding places
-places-at q id h = rw (entry-map q id, h)
+places-at = mapped-at placeIn
 
 pub places-some : (q : Requests) (id : ℕ) {l : Location} → places q id ≡ some l → (w : Request) × (requestsMap q id ≡ some w) × (w .loc ≡ l)
 unfolding places
-places-some q id e = map-eq-some-iff (λ (w : Request). w .loc) (requestsMap q id) .0 e
+places-some q id e = mapped-some placeIn q id e
 
 pub places-of : (q : Requests) (id : ℕ) (w : Request) → requestsMap q id ≡ some w → places q id ≡ some (w .loc)
 unfolding places
-places-of q id w e = rw e
+places-of = mapped-of placeIn
 
 pub places-none : places noRequests ≡ empty
 unfolding places
-places-none = ap locsIn none-map
+places-none = mapped-empty-iff placeIn noRequests none-form .0 refl
 
 module _ (q : Requests) (id : ℕ) (form : requestsForm q ≡ true) where
   pub places-insert : (l : Location) → q .count < 16 → hasOf q id ≡ false → places (insertOf q (requestOf id l)) ≡ put (places q) id l
-  unfolding places put
-  places-insert l room new = ap locsIn (insert-map q form (requestOf id l) room new) ∙ fun-ext (λ j. split (eqb j id) (λ t. rw t) (λ t. rw t))
+  unfolding places
+  places-insert l = mapped-insert placeIn q form (requestOf id l)
 
   pub places-remove : hasOf q id ≡ true → places (removeOf q id) ≡ del (places q) id
-  unfolding places del
-  places-remove there = ap locsIn (remove-map q form id there) ∙ fun-ext (λ j. split (eqb j id) (λ t. rw t) (λ t. rw t))
+  unfolding places
+  places-remove = mapped-remove placeIn q form id
 
 -- no write is outstanding at the address
 pub written-iff : (q : Requests) (a : ℕ) → requestsForm q ≡ true → (hasAddr q a ≡ false) ↔ ((id : ℕ) (l : Location) → places q id ≡ some l → l .addr ≡ a → ⊥)
-unfolding hasAddr
-written-iff q a form = (
-  (λ e id l h same.
-      let w = places-some q id h in
-      eqb-false (w .0 .loc .addr) a (scan-iff q form (λ w. eqb (w .loc .addr) a) .0 e id (w .0) (w .1)) (ap (λ x. x .addr) (w .2) ∙ same)),
-  (λ h. scan-iff q form (λ w. eqb (w .loc .addr) a) .1 (λ id w e. ne-eqb (w .loc .addr) a (h id (w .loc) (places-of q id w e)))),
-)
+unfolding hasAddr places
+written-iff q a form =
+    let h = mapped-none-iff placeIn q form (λ l. eqb (l .addr) a) in
+    ((λ e id l m. eqb-false (l .addr) a (h .0 e id l m)), (λ k. h .1 (λ id l m. ne-eqb (l .addr) a (k id l m))))
 
 -- THE WRITTEN FORM, WITH A TEST THAT EACH REQUEST PASSES
 

@@ -2,10 +2,9 @@
 use Prim.Native.Nat.{ℕ}
 use mathlib.Core.Bool.{Bool, _&&_, _||_, not}
 use mathlib.Core.List.{List, [], _∷_}
-use lib.Dec.{eqb, ltb}
 use lib.ListN.{getD}
 use Rattle.base.specs.Refusals.{Row, _when_}
-use Rattle.base.specs.Scan.{allBelow, someBelow}
+use Rattle.base.specs.Scan.{allBelow}
 use Rattle.blockdisk.specs.Form.{diskForm, recordsChecked}
 use Rattle.blockdisk.specs.Ops.{outcome}
 use Rattle.blockdisk.specs.Records.{noNodeRecord, noTableRecord}
@@ -15,7 +14,7 @@ use Rattle.blockdisk.specs.declared.NodeRecord.{NodeRecord}
 use Rattle.blockdisk.specs.declared.Queues.{Queues}
 use Rattle.blockdisk.specs.declared.Records.{Records}
 use Rattle.blockdisk.specs.declared.TableRecord.{TableRecord}
-use Rattle.queue.specs.Queue.{hasAddr, noRequests, requestAt}
+use Rattle.queue.specs.Queue.{hasAddr, noRequests}
 use Rattle.queue.specs.declared.Requests.{Requests}
 use Rattle.sectortype.specs.Same.{sameLoc, sameNode, sameTable}
 

@@ -1,3 +1,4 @@
+-- What the disk's contracts cite, and upstream's BlockDisk, which the theorem of demand 2 compares with it.
 pub mod Crash
 pub mod Form
 pub mod Ops

@@ -15,8 +15,7 @@ use Rattle.blockdisk.specs.declared.DiskOp.the-variants.{NoDiskOp, ReqRe
 use Rattle.blockdisk.specs.declared.Records.{Records}
 use Rattle.disklayout.specs.Layout.{overlap}
 use Rattle.disklayout.specs.declared.Location.{Location}
-use Rattle.queue.specs.Queue.{requestsMap}
-use Rattle.queue.specs.declared.Request.{Request}
+use Rattle.queue.specs.Queue.{mapped}
 use Rattle.queue.specs.declared.Requests.{Requests}
 use Rattle.sectortype.specs.Abstract.{IndirectionTable, indirectionTable}
 use Rattle.sectortype.specs.declared.Node.{Node}
@@ -202,7 +201,7 @@ pub record Crash (s s' : Variables) : Type 0 where
 
 -- map<ReqId, Location>
 unfoldable pub places : Requests → Map Location
-places q = λ id. Option·map (λ (w : Request). w .loc) (requestsMap q id)
+places = mapped (λ w. w .loc)
 
 unfoldable pub tablesStored : ℕ → Records → Imap Table
 tablesStored d r = λ l. flagged (readTable d r l .present) (readTable d r l .table)

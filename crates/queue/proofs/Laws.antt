@@ -7,7 +7,7 @@ use mathlib.Core.Path.{_≡_, refl}
 use borrow.Author.Tests.{lt-leb, ltb-true}
 use lib.Dec.{eqb, ltb}
 use lib.ListN.{length}
-use Rattle.base.proofs.Lookup.{count-zero-iff as zero-iff-map, find-used as used-found, lookup-empty, lookup-insert as map-inserted, lookup-isSome, lookup-place, lookup-remove as map-removed, none-iff-lookup as none-iff-map}
+use Rattle.base.proofs.Lookup.{count-zero-iff as zero-iff-map, lookup-empty, lookup-insert as map-inserted, lookup-isSome, lookup-place, lookup-remove as map-removed, none-iff-lookup as none-iff-map}
 use Rattle.base.proofs.QueueForm.{form-count as count-of-form, form-length as length-of-form, insert-form as form-inserted, remove-form as form-removed}
 use Rattle.base.proofs.Scan.{first-found, first-passes}
 use Rattle.base.proofs.Tests.{and-left}

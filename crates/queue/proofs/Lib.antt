@@ -1,2 +1,3 @@
 -- The laws of the queue.
 pub mod Laws
+pub mod Mapped

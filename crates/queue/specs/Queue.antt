@@ -1,13 +1,12 @@
 -- The queue of 16 by ascending id, as the generic queue of `base` at one element.
 use mathlib.Core.Bool.{Bool, true, _&&_, cond}
-use mathlib.Core.Option.{Option}
+use mathlib.Core.Option.{Option·map}
 use Prim.Native.Nat.{ℕ, _+_, _-_}
 use lib.ListN.{getD, replicate}
 use lib.Dec.{eqb, leb, ltb}
 use Rattle.base.specs.Maps.{Map}
 use Rattle.base.specs.Scan.{someBelow}
 use Rattle.base.specs.Queue.{hasIn, findIn, spotIn, insertIn, removeIn, lookupIn, spotOk, queueForm}
-use Rattle.disklayout.specs.declared.Location.{Location}
 use Rattle.queue.specs.declared.Request.{Request}
 use Rattle.queue.specs.declared.Requests.{Requests}
 
@@ -64,3 +63,7 @@ removeOf q id = cond (leb 16 (findOf q id)) q (record { count = q .count - 1; at
 -- the partial map that the queue stands for
 unfoldable pub requestsMap : Requests → Map Request
 requestsMap q = lookupIn idOf zeroRequest 16 (q .count) (q .at)
+
+-- the same map, of what a request stands for: a place, a reference
+abbrev pub mapped : {A : Type 0} → (Request → A) → Requests → Map A
+mapped f q = λ id. Option·map f (requestsMap q id)

@@ -1,3 +1,4 @@
+-- What the contracts on records cite: written form, equality, graphs, and upstream's view of a table.
 pub mod Abstract
 pub mod Form
 pub mod Graph

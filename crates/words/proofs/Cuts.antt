@@ -1,6 +1,6 @@
 -- Laws of cutting, for the loops that pass one word or one piece a turn. Assumes nothing.
 use Prim.Native.Nat.{ℕ, zero, suc, _+_, _-_, _<_, _≤_}
-use mathlib.Core.Bool.{Bool, true, false, _&&_, not, cond}
+use mathlib.Core.Bool.{Bool, true, false, _&&_, not}
 use mathlib.Core.List.{List, [], _∷_}
 use mathlib.Core.Path.{_≡_, refl, sym, ap, _∙_}
 use native.Mathlib.Omega.{arith}
@@ -11,7 +11,7 @@ use borrow.Author.Tests.{eq-eqb, ne-eqb, eqb-true, eqb-false}
 use Rattle.base.proofs.Scan.{first-le}
 use Rattle.base.proofs.Tests.{split}
 use Rattle.words.specs.Bytes.{findOf, startsOf, keyOf}
-use Rattle.words.specs.Cut.{wordsFrom, wordsOf, firstWith, wordOf, keyFits, fitFrom, fitOf, piecesFrom, piecesOf, foldFrom}
+use Rattle.words.specs.Cut.{wordsFrom, wordsOf, firstWith, wordOf, fitFrom, piecesFrom, piecesOf, foldFrom}
 
 pub find-le : (s : List ℕ) (b : ℕ) → findOf s b ≤ length s
 unfolding findOf

@@ -1,20 +1,19 @@
 -- Laws of numbers as text, for the loop that reads one. Assumes nothing.
 use Prim.Native.Nat.{ℕ, zero, suc, _+_, _-_, _*_, _^_, _<_, _≤_}
-use mathlib.Core.Bool.{Bool, true, false, _&&_, cond, and-false}
+use mathlib.Core.Bool.{Bool, true, false, _&&_, and-false}
 use mathlib.Core.List.{List}
 use mathlib.Core.Path.{_≡_, refl, sym, ap, _∙_}
-use native.Mathlib.Nat.{not-suc-le-zero}
 use native.Mathlib.Omega.{arith}
 use native.Mathlib.Numerals.{add-one}
 use lib.Dec.{ltb, leb, eqb}
 use lib.ListN.{length, getD}
-use borrow.Author.Tests.{ltb-true, ltb-false, leb-true, leb-false, lt-ltb, le-ltb, le-leb, lt-leb, eqb-false, ne-eqb}
+use borrow.Author.Tests.{ltb-true, ltb-false, leb-true, lt-ltb, le-ltb, le-leb}
 use Rattle.base.specs.Scan.{allBelow}
 use Rattle.base.proofs.Scan.{below-or-last, all-fails, all-turn, all-end, at-end}
 use Rattle.base.proofs.Tests.{split, clash}
 use Rattle.words.specs.declared.digits.Digits.{Digits}
 use Rattle.words.specs.declared.digits.Digits.the-variants.{Value, Bad}
-use Rattle.words.specs.Numbers.{digit, worthOf, appendedOf, valueOf, numeral, numberOf}
+use Rattle.words.specs.Numbers.{digit, worthOf, appendedOf, valueOf, numberOf}
 
 abbrev isValue : Digits → Bool
 isValue (Value n) = true

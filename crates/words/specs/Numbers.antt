@@ -5,7 +5,6 @@ use mathlib.Core.List.{List}
 use lib.Dec.{ltb, leb, eqb}
 use lib.ListN.{length, getD, take, drop}
 use Rattle.base.specs.Scan.{allBelow}
-use Rattle.disklayout.specs.declared.Location.{Location}
 use Rattle.words.specs.declared.digits.Digits.{Digits}
 use Rattle.words.specs.declared.digits.Digits.the-variants.{Value, Bad}
 use Rattle.words.specs.declared.digits.Place.{Place}

@@ -4,7 +4,6 @@ use mathlib.Core.Bool.{Bool, true, false, _||_, not, cond}
 use mathlib.Core.List.{List, [], _∷_}
 use lib.Dec.{ltb, eqb}
 use lib.ListN.{length, getD, set, take, drop}
-use Rattle.disklayout.specs.declared.Location.{Location}
 use Rattle.sectortype.specs.Form.{zeroLoc, zeroSuccs, zeroNode, zeroEntry, emptyTable, withEntry}
 use Rattle.sectortype.specs.declared.Succs.{Succs}
 use Rattle.words.specs.declared.digits.Digits.{Digits}
