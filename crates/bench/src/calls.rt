@@ -95,7 +95,7 @@ pub fn table_place(device: u64, second: bool) -> Location {
 
 // A call that brings neither node nor table.
 pub fn bare(reference: u64, vop: VersionOp, dop: DiskOp) -> Call {
-    let node = sector::empty_node();
+    let node = sector::zero_node();
     let table = sector::empty_table();
     Call {
         reference,
@@ -118,7 +118,7 @@ pub fn with_node(reference: u64, vop: VersionOp, dop: DiskOp, node: Node) -> Cal
 }
 
 pub fn with_table(vop: VersionOp, dop: DiskOp, table: Table) -> Call {
-    let node = sector::empty_node();
+    let node = sector::zero_node();
     Call {
         reference: 0,
         vop,

@@ -38,7 +38,7 @@ fn leaf(base: u64, r: u8) -> Node {
 
 // The root as formatting leaves it.
 fn first_root(base: u64) -> Node {
-    let mut n = sector::empty_node();
+    let mut n = sector::zero_node();
     n.contents = base;
     n
 }

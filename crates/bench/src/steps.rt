@@ -175,7 +175,7 @@ pub fn crash(s: State, vop: VersionOp) -> State {
 // 18, offering nothing
 pub fn crash_to_nothing(s: State) -> State {
     let q = bare(0, VersionOp::CrashOp, DiskOp::NoDiskOp);
-    let offered = disk::no_records();
+    let offered = disk::empty_records();
     offer(s, 18, q, offered)
 }
 

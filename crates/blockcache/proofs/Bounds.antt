@@ -11,7 +11,7 @@ use Rattle.base.proofs.Tests.{and-iff, and-left, and-right, split}
 use Rattle.blockcache.specs.Form.{cacheForm, callForm, eachRequest, readOk, readsForm}
 use Rattle.blockcache.specs.Ops.{dopId}
 use Rattle.blockcache.specs.Rows.{readRef}
-use Rattle.blockcache.specs.declared.Cache.{Cache}
+use Rattle.blockcache.specs.declared.CacheState.{CacheState}
 use Rattle.blockcache.specs.declared.Call.{Call}
 use Rattle.queue.proofs.Laws.{form-length, found-used}
 use Rattle.queue.specs.Queue.{entryOf, findOf, requestAt, requestsForm, zeroRequest}
@@ -39,7 +39,7 @@ entry-reference q id form =
     let m : length (q .at) ≤ findOf q id = omega arith in
     rw (List·getD-eq-default (q .at) zeroRequest m) (omega arith))
 
-pub read-reference : (d : ℕ) (c : Cache) (r : ℕ) (q : Call) → cacheForm c ≡ true → readRef d c r q < 64
+pub read-reference : (d : ℕ) (c : CacheState) (r : ℕ) (q : Call) → cacheForm c ≡ true → readRef d c r q < 64
 unfolding cacheForm
 read-reference d c r q e =
     let h = simp and-iff at e in

@@ -11,7 +11,7 @@ use Rattle.base.specs.Maps.{flagged, isSome}
 use Rattle.base.specs.Scan.{allBelow, someBelow}
 use Rattle.blockcache.proofs.Waiting.{write-holds-iff}
 use Rattle.blockcache.specs.Next.{assigned}
-use Rattle.blockcache.specs.Scan.{NoLocation, heldIn, listNames, named, namesAt, needsCached, wrongNode, wrongTable}
+use Rattle.blockcache.specs.Scan.{NoLocation, heldIn, listNames, hasPredecessor, namesAt, needsCached, nodeRejected, tableRejected}
 use Rattle.blockcache.specs.Steps.{writesMap}
 use Rattle.blockcache.specs.Upstream.{AllLocationsForDifferentRefsDontOverlap, FrozenLocated, In, LocsValid, NoAddr, NoPredecessors, OutstandingWrite, SameSuccs, WFCompleteIndirectionTable, WFIndirectionTable, assignRefToLocation}
 use Rattle.blockcache.specs.declared.Tables.{Tables}
@@ -76,9 +76,9 @@ list-names e r = go (e .allocated)
     go false = some-of-none (λ j. false) 8 (λ k b. refl)
 
 -- 12: NoPredecessors
-pub named-iff : (t : Table) → tableForm t ≡ true → (r : ℕ) → (named t r ≡ false) ↔ NoPredecessors (graphOf t) r
-unfolding named
-named-iff t f r = (
+pub has-predecessor-iff : (t : Table) → tableForm t ≡ true → (r : ℕ) → (hasPredecessor t r ≡ false) ↔ NoPredecessors (graphOf t) r
+unfolding hasPredecessor
+has-predecessor-iff t f r = (
   (λ e j l g. let d = graph-some t j g in
       rw (d .0, d .1) at (sym (list-names (entryAt t j) r) ∙ none-at (λ i. listNames (entryAt t i) r) 64 j e (graph-bounded t f j l g))),
   (λ h. some-of-none (λ i. listNames (entryAt t i) r) 64
@@ -149,21 +149,21 @@ module _ (d : ℕ) (on : made d ≡ true) (t : Table) (f : tableForm t ≡ true)
       complete r = not (allocatedIn t r) || locatedIn t r
 
 -- 9 of a table's page-in
-pub wrong-table-iff : (d : ℕ) (on : made d ≡ true) (b : Brought) (t : Table) → tableForm t ≡ true →
-    (wrongTable b d t ≡ false) ↔ ((somethingIn b ≡ true) × (WFCompleteIndirectionTable d (indirectionTable t) × AllLocationsForDifferentRefsDontOverlap (indirectionTable t)))
-wrong-table-iff d on Something t f = (
+pub table-rejected-iff : (d : ℕ) (on : made d ≡ true) (b : Brought) (t : Table) → tableForm t ≡ true →
+    (tableRejected b d t ≡ false) ↔ ((somethingIn b ≡ true) × (WFCompleteIndirectionTable d (indirectionTable t) × AllLocationsForDifferentRefsDontOverlap (indirectionTable t)))
+table-rejected-iff d on Something t f = (
   (λ e. let h = simp (or-iff, not-iff) at e in (refl, (complete-test-iff d on t f .0 (h .0), λ r q l k. distinct-iff t f .0 (h .1) r q l k))),
   (λ (s, h). simp (or-iff, not-iff) (complete-test-iff d on t f .1 (h .0), distinct-iff t f .1 (λ r q l k. h .1 r q l k))),
 )
-wrong-table-iff d on Nothing t f = ((λ e. absurd (true≢false e)), (λ (s, h). absurd (false≢true s)))
+table-rejected-iff d on Nothing t f = ((λ e. absurd (true≢false e)), (λ (s, h). absurd (false≢true s)))
 
 -- 9 of a node's page-in, for a reference that is allocated
-pub wrong-node-iff : (b : Brought) (e : Entry) (n : Node) → e .allocated ≡ true → (wrongNode b true e n ≡ false) ↔ ((somethingIn b ≡ true) × SameSuccs (e .succs) n)
-wrong-node-iff Something e n a = (
+pub node-rejected-iff : (b : Brought) (e : Entry) (n : Node) → e .allocated ≡ true → (nodeRejected b true e n ≡ false) ↔ ((somethingIn b ≡ true) × SameSuccs (e .succs) n)
+node-rejected-iff Something e n a = (
   (λ h. (refl, same-set-iff (e .succs) (n .succs) .0 (not-iff _ .0 (rw a at h)))),
   (λ (s, h). rw a (not-iff (sameSet (e .succs) (n .succs)) .1 (same-set-iff (e .succs) (n .succs) .1 h))),
 )
-wrong-node-iff Nothing e n a = ((λ h. absurd (true≢false h)), (λ (s, h). absurd (false≢true s)))
+node-rejected-iff Nothing e n a = ((λ h. absurd (true≢false h)), (λ (s, h). absurd (false≢true s)))
 
 -- THE NEXT TABLES
 

@@ -24,10 +24,10 @@ use Rattle.blockcache.specs.Rows.{rows1, rows10, rows11, rows12, rows13,
 use Rattle.blockcache.specs.Step.{cacheRows, stepNext, stepNode, stepRows, wellFormed}
 use Rattle.blockcache.specs.Steps.{Allowed, NextStep, Step, allocStep, cacheVars, callOp, cleanUpStep, crashStep, dirtyStep, evictStep, freezeStep, noOpStep, pageInIndirectionTableReqStep, pageInIndirectionTableRespStep, pageInNodeReqStep, pageInNodeRespStep, readStep, readyVars, receiveLocStep, stepOf, unallocStep, writeBackIndirectionTableReqStep, writeBackIndirectionTableRespStep, writeBackNodeReqStep, writeBackNodeRespStep}
 use Rattle.blockcache.specs.Upstream.{ReadStep, Variables, unready}
-use Rattle.blockcache.specs.declared.Cache.{Cache}
+use Rattle.blockcache.specs.declared.CacheState.{CacheState}
 use Rattle.blockcache.specs.declared.Call.{Call}
 
-module _ (d : ℕ) (c : Cache) (q : Call) where
+module _ (d : ℕ) (c : CacheState) (q : Call) where
   abbrev Next : Step → Variables → Type 0
   Next step s' = NextStep d (cacheVars c) s' (callOp q) (q .vop) step
 
@@ -115,14 +115,14 @@ module _ (d : ℕ) (c : Cache) (q : Call) where
         n
 
 -- no narrowing: the limits are kept
-limits-of : (d : ℕ) (c : Cache) (n : ℕ) (q : Call) → narrowed d c n q ≡ false → outsideLimits d c n q ≡ false
+limits-of : (d : ℕ) (c : CacheState) (n : ℕ) (q : Call) → narrowed d c n q ≡ false → outsideLimits d c n q ≡ false
 unfolding narrowed
 limits-of d c n q e =
     or-left (outsideLimits d c n q) (eqb n 1 && narrowedWrite c q) (or-left (outsideLimits d c n q || (eqb n 1 && narrowedWrite c q)) (eqb n 6 && narrowedRead c q) e)
 
 -- THE THEOREMS
 
-pub cache-accepted : (d : ℕ) (c : Cache) (n : ℕ) (q : Call) → (answer (cacheRows d c n q) ≡ 0) ↔ ((narrowed d c n q ≡ false) × Allowed d c n q)
+pub cache-accepted : (d : ℕ) (c : CacheState) (n : ℕ) (q : Call) → (answer (cacheRows d c n q) ≡ 0) ↔ ((narrowed d c n q ≡ false) × Allowed d c n q)
 cache-accepted d c n q = (
   (λ e. let h = rows-accepted-iff d c n q .0 e in step-accepted d c q (h .0) n .0 (h .1)),
   (λ h. let w = in-form (h .0) in rows-accepted-iff d c n q .1 (w, step-accepted d c q w n .1 h)),
@@ -131,12 +131,12 @@ cache-accepted d c n q = (
     in-form : narrowed d c n q ≡ false → wellFormed d c q ≡ true
     in-form e = not-iff (wellFormed d c q) .0 (or-left (not (wellFormed d c q)) (not (leb 1 n && leb n 18)) (limits-of d c n q e))
 
-pub cache-allowed : (d : ℕ) (c : Cache) (n : ℕ) (q : Call) → answer (cacheRows d c n q) ≡ 0 →
+pub cache-allowed : (d : ℕ) (c : CacheState) (n : ℕ) (q : Call) → answer (cacheRows d c n q) ≡ 0 →
     (step : Step) × (stepOf n (q .reference) (q .node) ≡ some step) × NextStep d (cacheVars c) (cacheVars (stepNext d c n (q .reference) q)) (callOp q) (q .vop) step
 cache-allowed d c n q e = let h = rows-accepted-iff d c n q .0 e in step-allowed d c q (h .0) n (h .1)
 
 -- a read leaves the cache as it is and hands out the node that ReadStep names
-pub cache-read : (d : ℕ) (c : Cache) (q : Call) → answer (cacheRows d c 17 q) ≡ 0 →
+pub cache-read : (d : ℕ) (c : CacheState) (q : Call) → answer (cacheRows d c 17 q) ≡ 0 →
     (isReady c ≡ true) × (stepNext d c 17 (q .reference) q ≡ c) × ReadStep (readyVars c) (q .reference) (stepNode d c 17 (q .reference) q)
 unfolding stepRows stepNext
 cache-read d c q e =
@@ -147,6 +147,6 @@ cache-read d c q e =
     (s .0, refl, rw z (s .1))
 
 -- a crash leaves the cache unready
-pub cache-crash : (d : ℕ) (c : Cache) (q : Call) → cacheVars (stepNext d c 18 (q .reference) q) ≡ unready
+pub cache-crash : (d : ℕ) (c : CacheState) (q : Call) → cacheVars (stepNext d c 18 (q .reference) q) ≡ unready
 unfolding stepNext
 cache-crash d c q = refl

@@ -16,15 +16,16 @@ use Rattle.blockcache.specs.Next.{assigned, cachedSlot, next1, next10, n
 use Rattle.blockcache.specs.Ops.{dopId, dopLoc, vopLoc}
 use Rattle.blockcache.specs.Rows.{rows1, rows10, rows11, rows12, rows13, rows2, rows3, rows4, rows5, rows6, rows7, rows8, rows9}
 use Rattle.blockcache.specs.Step.{cacheRows, stepNext, stepRows}
-use Rattle.blockcache.specs.declared.Cache.{Cache}
+use Rattle.blockcache.specs.declared.CacheState.{CacheState}
 use Rattle.blockcache.specs.declared.Call.{Call}
 use Rattle.blockcache.specs.declared.Phase.{Phase}
 use Rattle.blockcache.specs.declared.Phase.the-variants.{Loading as PhaseLoading, Ready as PhaseReady, Unready as PhaseUnready}
 use Rattle.disklayout.specs.declared.Location.{Location}
 use Rattle.queue.specs.Queue.{entryOf, hasOf}
 use Rattle.queue.specs.declared.Requests.{Requests}
+use Rattle.disklayout.specs.Calls.{zeroLoc}
 use Rattle.sectortype.proofs.Forms.{empty-nodes-form, empty-table-form, table-iff, with-entry-form, with-slot-form, zero-succs-form}
-use Rattle.sectortype.specs.Form.{allocatedAt, entryAt, entryForm, nodeForm, slotForm, tableForm, zeroEntry, zeroLoc, zeroSlot}
+use Rattle.sectortype.specs.Form.{allocatedAt, entryAt, entryForm, nodeForm, slotForm, tableForm, zeroEntry, zeroSlot}
 use Rattle.sectortype.specs.declared.Node.{Node}
 use Rattle.sectortype.specs.declared.Table.{Table}
 
@@ -50,7 +51,7 @@ assigned-absent t r l f b z =
 
 -- BEFORE READY
 
-loading-form : (c : Cache) → loadingPhase (c .phase) ≡ true → idle c ≡ true → phaseForm c ≡ true
+loading-form : (c : CacheState) → loadingPhase (c .phase) ≡ true → idle c ≡ true → phaseForm c ≡ true
 unfolding phaseForm
 loading-form c l i = go (c .phase) l
   where
@@ -85,7 +86,7 @@ received-form l = loading-at-form PhaseLoading l refl
 
 -- THE STEPS
 
-module _ (d : ℕ) (c : Cache) (r : ℕ) (q : Call) (f : CacheForm c) (g : CallForm q) (b : r < 64) where
+module _ (d : ℕ) (c : CacheState) (r : ℕ) (q : Call) (f : CacheForm c) (g : CallForm q) (b : r < 64) where
   abbrev id : ℕ
   id = dopId (q .dop)
 
@@ -326,7 +327,7 @@ module _ (d : ℕ) (c : Cache) (r : ℕ) (q : Call) (f : CacheForm c) (g : CallF
 
 -- THE THEOREM
 
-pub next-form : (d : ℕ) (c : Cache) (n : ℕ) (q : Call) → WellFormed d c q → Clear (stepRows d c n (q .reference) q) → CacheForm (stepNext d c n (q .reference) q)
+pub next-form : (d : ℕ) (c : CacheState) (n : ℕ) (q : Call) → WellFormed d c q → Clear (stepRows d c n (q .reference) q) → CacheForm (stepNext d c n (q .reference) q)
 unfolding stepRows stepNext
 next-form d c n q w =
     by-number (λ n. Clear (stepRows d c n (q .reference) q) → CacheForm (stepNext d c n (q .reference) q))
@@ -351,7 +352,7 @@ next-form d c n q w =
     (λ n f1 f2 f3 f4 f5 f6 f7 f8 f9 f10 f11 f12 f13 f14 f15 f16 f17 f18. rw (f1, f2, f3, f4, f5, f6, f7, f8, f9, f10, f11, f12, f13, f14, f15, f16, f17, f18) (λ k. w .form))
     n
 
-pub cache-form-kept : (d : ℕ) (c : Cache) (n : ℕ) (q : Call) → answer (cacheRows d c n q) ≡ 0 → cacheForm (stepNext d c n (q .reference) q) ≡ true
+pub cache-form-kept : (d : ℕ) (c : CacheState) (n : ℕ) (q : Call) → answer (cacheRows d c n q) ≡ 0 → cacheForm (stepNext d c n (q .reference) q) ≡ true
 cache-form-kept d c n q e =
     let h = rows-accepted-iff d c n q .0 e in
     cache-form-iff (stepNext d c n (q .reference) q) .1 (next-form d c n q (well-formed-iff d c q .0 (h .0)) (h .1))

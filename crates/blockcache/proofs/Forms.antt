@@ -14,14 +14,14 @@ use Rattle.base.specs.Maps.{empty}
 use Rattle.base.specs.Scan.{countBelow}
 use Rattle.blockcache.specs.Form.{awaitedForm, cacheForm, formIn, idle, isReady, loadingPhase, phaseForm, placesForm, readOk, readsForm, readyPhase, writeOk, writesForm}
 use Rattle.blockcache.specs.Step.{wellFormed}
-use Rattle.blockcache.specs.declared.Cache.{Cache}
+use Rattle.blockcache.specs.declared.CacheState.{CacheState}
 use Rattle.blockcache.specs.declared.Call.{Call}
 use Rattle.blockcache.specs.declared.Phase.{Phase}
 use Rattle.blockcache.specs.declared.Phase.the-variants.{Loading as PhaseLoading, Ready as PhaseReady, Unready as PhaseUnready}
 use Rattle.blockdisk.proofs.Outstanding.{queue-iff, queue-insert, queue-remove}
 use Rattle.disklayout.specs.Device.{made}
 use Rattle.queue.proofs.Laws.{entry-map, none-form, none-map}
-use Rattle.queue.specs.Queue.{entryOf, hasOf, insertOf, noRequests, removeOf, requestsForm, requestsMap}
+use Rattle.queue.specs.Queue.{entryOf, hasOf, insertOf, emptyRequests, removeOf, requestsForm, requestsMap}
 use Rattle.queue.specs.declared.Request.{Request}
 use Rattle.queue.specs.declared.Requests.{Requests}
 use Rattle.sectortype.proofs.Forms.{nodes-iff}
@@ -30,7 +30,7 @@ use Rattle.sectortype.specs.Abstract.{nodesMap}
 use Rattle.sectortype.specs.Form.{locZero, nodeForm, nodesForm, presentAt, slotAt, tableForm}
 use Rattle.sectortype.specs.declared.Nodes.{Nodes}
 
-pub record CacheForm (c : Cache) : Type 0 where
+pub record CacheForm (c : CacheState) : Type 0 where
   pub persistent : tableForm (c .tables .persistent) ≡ true
   pub ephemeral : tableForm (c .tables .ephemeral) ≡ true
   pub frozen : tableForm (c .tables .frozen) ≡ true
@@ -42,7 +42,7 @@ pub record CacheForm (c : Cache) : Type 0 where
   pub nodes : nodesForm (c .nodes) ≡ true
   pub phase : phaseForm c ≡ true
 
-pub cache-form-iff : (c : Cache) → (cacheForm c ≡ true) ↔ CacheForm c
+pub cache-form-iff : (c : CacheState) → (cacheForm c ≡ true) ↔ CacheForm c
 unfolding cacheForm
 cache-form-iff c = (
   (λ e. let h = simp and-iff at e in
@@ -87,13 +87,13 @@ pub reads-remove-form : (q : Requests) (id : ℕ) → readsForm q ≡ true → h
 unfolding readsForm
 reads-remove-form q id = queue-remove readOk q id
 
-pub no-writes-form : writesForm noRequests ≡ true
+pub no-writes-form : writesForm emptyRequests ≡ true
 unfolding writesForm
-no-writes-form = queue-iff writeOk noRequests .1 (none-form, λ id w m. never (sym (ap (λ f. f id) none-map) ∙ m))
+no-writes-form = queue-iff writeOk emptyRequests .1 (none-form, λ id w m. never (sym (ap (λ f. f id) none-map) ∙ m))
 
-pub no-reads-form : readsForm noRequests ≡ true
+pub no-reads-form : readsForm emptyRequests ≡ true
 unfolding readsForm
-no-reads-form = queue-iff readOk noRequests .1 (none-form, λ id w m. never (sym (ap (λ f. f id) none-map) ∙ m))
+no-reads-form = queue-iff readOk emptyRequests .1 (none-form, λ id w m. never (sym (ap (λ f. f id) none-map) ∙ m))
 
 -- an awaited read is of one of the 64 references
 pub read-ref-bounded : (q : Requests) (id : ℕ) → readsForm q ≡ true → hasOf q id ≡ true → entryOf q id .reference < 64
@@ -102,7 +102,7 @@ read-ref-bounded q id f h =
     let k = and-left (leb (entryOf q id .reference) 63) (locZero (entryOf q id .loc)) (reads-form-iff q .0 f .1 id (entryOf q id) e) in
     omega (arith, leb-true (entryOf q id .reference) 63 k)
 
-module _ (c : Cache) (f : CacheForm c) where
+module _ (c : CacheState) (f : CacheForm c) where
   pub writes-requests : requestsForm (c .outstanding .writes) ≡ true
   writes-requests = writes-form-iff (c .outstanding .writes) .0 (f .writes) .0
 
@@ -115,7 +115,7 @@ module _ (c : Cache) (f : CacheForm c) where
 -- BEFORE READY
 
 -- no table, no frozen place, nothing outstanding, nothing cached
-pub record Idle (c : Cache) : Type 0 where
+pub record Idle (c : CacheState) : Type 0 where
   pub no-persistent : c .tables .persistent .count ≡ 0
   pub no-ephemeral : c .tables .ephemeral .count ≡ 0
   pub no-frozen : c .tables .isfrozen ≡ false
@@ -124,7 +124,7 @@ pub record Idle (c : Cache) : Type 0 where
   pub no-reads : c .outstanding .reads .count ≡ 0
   pub no-nodes : c .nodes .count ≡ 0
 
-pub idle-iff : (c : Cache) → (idle c ≡ true) ↔ Idle c
+pub idle-iff : (c : CacheState) → (idle c ≡ true) ↔ Idle c
 unfolding idle
 idle-iff c = (
   (λ e. let h = simp (and-iff, not-true-iff, eqb-iff) at e in
@@ -140,7 +140,7 @@ idle-iff c = (
   (λ i. simp (and-iff, not-true-iff, eqb-iff) ((((((i .no-persistent, i .no-ephemeral), i .no-frozen), i .no-place), i .no-writes), i .no-reads), i .no-nodes)),
 )
 
-pub loading-idle : (c : Cache) → phaseForm c ≡ true → loadingPhase (c .phase) ≡ true → Idle c
+pub loading-idle : (c : CacheState) → phaseForm c ≡ true → loadingPhase (c .phase) ≡ true → Idle c
 unfolding phaseForm
 loading-idle c f l = idle-iff c .0 (go (c .phase) f l)
   where
@@ -149,7 +149,7 @@ loading-idle c f l = idle-iff c .0 (go (c .phase) f l)
     go PhaseLoading f l = f
     go PhaseReady f l = absurd (false≢true l)
 
-pub ready-form : (c : Cache) → isReady c ≡ true → phaseForm c ≡ true
+pub ready-form : (c : CacheState) → isReady c ≡ true → phaseForm c ≡ true
 unfolding phaseForm
 ready-form c r = go (c .phase) r
   where
@@ -185,12 +185,12 @@ pub record CallForm (q : Call) : Type 0 where
   pub node : nodeForm (q .node) ≡ true
   pub table : tableForm (q .table) ≡ true
 
-pub record WellFormed (d : ℕ) (c : Cache) (q : Call) : Type 0 where
+pub record WellFormed (d : ℕ) (c : CacheState) (q : Call) : Type 0 where
   pub on : made d ≡ true
   pub form : CacheForm c
   pub call : CallForm q
 
-pub well-formed-iff : (d : ℕ) (c : Cache) (q : Call) → (wellFormed d c q ≡ true) ↔ WellFormed d c q
+pub well-formed-iff : (d : ℕ) (c : CacheState) (q : Call) → (wellFormed d c q ≡ true) ↔ WellFormed d c q
 well-formed-iff d c q = (
   (λ e. let h = simp (cache-form-iff, and-iff) at e in
       let b : q .reference ≤ 63 = leb-true (q .reference) 63 (h .1 .0 .0) in

@@ -12,14 +12,14 @@ use Rattle.blockcache.specs.Form.{isReady, loadingPhase}
 use Rattle.blockcache.specs.Ops.{dopBrought, dopId, dopKind, dopLoc, vopKind, vopLoc, vopNoOp}
 use Rattle.blockcache.specs.Steps.{NextStep, OnBoth, OnLoading, OnReady, OnRespWriteIndirectionTable, Step, TransactionOp, allocStep, awaitedId, cacheVars, callOp, cleanUpStep, dirtyStep, evictStep, freezeStep, pageInIndirectionTableReqStep, pageInIndirectionTableRespStep, pageInNodeReqStep, pageInNodeRespStep, readStep, readyVars, receiveLocStep, unallocStep, writeBackIndirectionTableReqStep, writeBackIndirectionTableRespStep, writeBackNodeReqStep, writeBackNodeRespStep}
 use Rattle.blockcache.specs.Upstream.{Alloc, CleanUp, Dirty, Evict, Freeze, PageInIndirectionTableReq, PageInIndirectionTableResp, PageInNodeReq, PageInNodeResp, ReadStep, Ready, ReceiveLoc, Unalloc, Variables, WriteBackIndirectionTableReq, WriteBackIndirectionTableResp, WriteBackNodeReq, WriteBackNodeResp}
-use Rattle.blockcache.specs.declared.Cache.{Cache}
+use Rattle.blockcache.specs.declared.CacheState.{CacheState}
 use Rattle.blockcache.specs.declared.Call.{Call}
 use Rattle.blockdisk.specs.Ops.{somethingIn}
 use Rattle.disklayout.specs.declared.Location.{Location}
 use Rattle.sectortype.specs.Abstract.{IndirectionTable, indirectionTable}
 use Rattle.sectortype.specs.declared.Node.{Node}
 
-module _ (d : ℕ) (c : Cache) (q : Call) (s' : Variables) where
+module _ (d : ℕ) (c : CacheState) (q : Call) (s' : Variables) where
   abbrev id : ℕ
   id = dopId (q .dop)
 

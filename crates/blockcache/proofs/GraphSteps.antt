@@ -8,7 +8,7 @@ use Rattle.base.proofs.Maps.{put-same}
 use Rattle.base.proofs.Refusals.{Clear}
 use Rattle.base.proofs.Tests.{and-both, and-false-iff, and-iff, clash, none-iff, not-iff, or-iff, split}
 use Rattle.base.specs.Maps.{put}
-use Rattle.blockcache.proofs.Bridge.{named-iff, needs-cached-iff}
+use Rattle.blockcache.proofs.Bridge.{has-predecessor-iff, needs-cached-iff}
 use Rattle.blockcache.proofs.Forms.{CacheForm, CallForm, reads-requests, writes-requests}
 use Rattle.blockcache.proofs.Frames.{frame11, frame15, frame16, frame17, frame5}
 use Rattle.blockcache.proofs.OpKinds.{on-ready-iff}
@@ -19,7 +19,7 @@ use Rattle.blockcache.specs.Rows.{rows11, rows15, rows16, rows17, rows5}
 use Rattle.blockcache.specs.Scan.{writesTo}
 use Rattle.blockcache.specs.Steps.{NextStep, Step, allocStep, cacheVars, callOp, dirtyStep, evictStep, readStep, readyVars, unallocStep}
 use Rattle.blockcache.specs.Upstream.{Alloc, Dirty, Evict, ReadStep, Unalloc, Variables, setCache}
-use Rattle.blockcache.specs.declared.Cache.{Cache}
+use Rattle.blockcache.specs.declared.CacheState.{CacheState}
 use Rattle.blockcache.specs.declared.Call.{Call}
 use Rattle.disklayout.specs.Device.{made}
 use Rattle.queue.specs.declared.Requests.{Requests}
@@ -32,7 +32,7 @@ use Rattle.sectortype.specs.declared.Entry.{Entry}
 use Rattle.sectortype.specs.declared.Slot.{Slot}
 use Rattle.sectortype.specs.declared.Table.{Table}
 
-module _ (d : ℕ) (c : Cache) (r : ℕ) (q : Call) (on : made d ≡ true) (f : CacheForm c) (g : CallForm q) (b : r < 64) where
+module _ (d : ℕ) (c : CacheState) (r : ℕ) (q : Call) (on : made d ≡ true) (f : CacheForm c) (g : CallForm q) (b : r < 64) where
   abbrev table : Table
   table = c .tables .ephemeral
 
@@ -69,7 +69,7 @@ module _ (d : ℕ) (c : Cache) (r : ℕ) (q : Call) (on : made d ≡ true) (f : 
               record {
                 allocated = in-graph table r ∙ h .1 .1 .1 .0;
                 not-root = eqb-false r 0 (rest .1 .1 .0 .0);
-                no-predecessors = named-iff table (f .ephemeral) r .0 (rest .1 .1 .0 .1);
+                no-predecessors = has-predecessor-iff table (f .ephemeral) r .0 (rest .1 .1 .0 .1);
                 frozen-located = needs-cached-iff (c .tables) r .0 (rest .1 .0);
                 persistentIndirectionTable' = refl;
                 locs' = locs-del table r zeroEntry (f .ephemeral) b refl;
@@ -102,7 +102,7 @@ module _ (d : ℕ) (c : Cache) (r : ℕ) (q : Call) (on : made d ≡ true) (f : 
               sym (in-graph table r) ∙ p .allocated,
               (
                 reads-iff reading (reads-requests c f) r .1 (p .not-read),
-                (needs-cached-iff (c .tables) r .1 (p .frozen-located), ((ne-eqb r 0 (p .not-root), named-iff table (f .ephemeral) r .1 (p .no-predecessors)), tt)),
+                (needs-cached-iff (c .tables) r .1 (p .frozen-located), ((ne-eqb r 0 (p .not-root), has-predecessor-iff table (f .ephemeral) r .1 (p .no-predecessors)), tt)),
               ),
             ),
           ),

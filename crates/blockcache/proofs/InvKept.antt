@@ -12,7 +12,7 @@ use Rattle.blockcache.specs.Step.{cacheRows, stepNext}
 use Rattle.blockcache.specs.Steps.{NextStep, OnBoth, Step, allocStep, cacheVars, callOp, cleanUpStep, crashStep, dirtyStep, evictStep, freezeStep, noOpStep, pageInIndirectionTableReqStep, pageInIndirectionTableRespStep, pageInNodeReqStep, pageInNodeRespStep, readStep, receiveLocStep, unallocStep, writeBackIndirectionTableReqStep, writeBackIndirectionTableRespStep, writeBackNodeReqStep, writeBackNodeRespStep}
 use Rattle.blockcache.specs.Upstream.{Alloc, CleanUp, Dirty, Evict, Freeze, Init, PageInNodeReq, PageInNodeResp, Ready, Unalloc, Variables, WriteBackIndirectionTableReq, WriteBackIndirectionTableResp, WriteBackNodeReq, WriteBackNodeResp}
 use Rattle.blockcache.specs.UpstreamInv.{Inv, InvReady}
-use Rattle.blockcache.specs.declared.Cache.{Cache}
+use Rattle.blockcache.specs.declared.CacheState.{CacheState}
 use Rattle.blockcache.specs.declared.Call.{Call}
 use Rattle.blockcache.specs.declared.VersionOp.{VersionOp}
 use Rattle.blockdisk.specs.Upstream.{Dop}
@@ -57,7 +57,7 @@ module _ (d : ℕ) (s s' : Variables) (dop : Dop) (vop : VersionOp) where
   next-inv crashStep (v, e) = λ i. subst (Inv d) (sym e) tt
 
 -- an accepted call keeps it
-pub inv-kept : (d : ℕ) (c : Cache) (n : ℕ) (q : Call) → Inv d (cacheVars c) → answer (cacheRows d c n q) ≡ 0 → Inv d (cacheVars (stepNext d c n (q .reference) q))
+pub inv-kept : (d : ℕ) (c : CacheState) (n : ℕ) (q : Call) → Inv d (cacheVars c) → answer (cacheRows d c n q) ≡ 0 → Inv d (cacheVars (stepNext d c n (q .reference) q))
 inv-kept d c n q i e =
     let a = cache-allowed d c n q e in next-inv d (cacheVars c) (cacheVars (stepNext d c n (q .reference) q)) (callOp q) (q .vop) (a .0) (a .2) i
 

@@ -12,7 +12,7 @@ use Rattle.base.proofs.Tests.{not-iff, split}
 use Rattle.base.specs.Refusals.{Row, _when_, answer, ascending}
 use Rattle.blockcache.specs.Rows.{rows1, rows10, rows11, rows12, rows13, rows14, rows15, rows16, rows17, rows18, rows2, rows3, rows4, rows5, rows6, rows7, rows8, rows9}
 use Rattle.blockcache.specs.Step.{cacheRows, stepRows, wellFormed}
-use Rattle.blockcache.specs.declared.Cache.{Cache}
+use Rattle.blockcache.specs.declared.CacheState.{CacheState}
 use Rattle.blockcache.specs.declared.Call.{Call}
 
 -- a statement that holds of the eighteen steps and of every other number holds of all
@@ -51,7 +51,7 @@ unfolding answer
 outside-iff true = ((λ e. absurd (omega arith)), (λ h. absurd (true≢false (h .1 .0))))
 outside-iff false = ((λ e. absurd (omega arith)), (λ h. absurd (false≢true (h .0))))
 
-pub rows-accepted-iff : (d : ℕ) (c : Cache) (n : ℕ) (q : Call) → (answer (cacheRows d c n q) ≡ 0) ↔ ((wellFormed d c q ≡ true) × Clear (stepRows d c n (q .reference) q))
+pub rows-accepted-iff : (d : ℕ) (c : CacheState) (n : ℕ) (q : Call) → (answer (cacheRows d c n q) ≡ 0) ↔ ((wellFormed d c q ≡ true) × Clear (stepRows d c n (q .reference) q))
 unfolding stepRows
 rows-accepted-iff d c n q =
     by-number (λ n. (answer (cacheRows d c n q) ≡ 0) ↔ ((wellFormed d c q ≡ true) × Clear (stepRows d c n (q .reference) q)))

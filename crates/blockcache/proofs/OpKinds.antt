@@ -12,7 +12,7 @@ use Rattle.blockcache.specs.Form.{isReady, loadingPhase, readyPhase, unr
 use Rattle.blockcache.specs.Ops.{dopBrought, dopId, dopKind, dopLoc, vopKind, vopLoc, vopNoOp}
 use Rattle.blockcache.specs.Steps.{IdleVop, OnLoading, OnReady, OnReqReadIndirectionTable, OnReqReadNode, OnReqWriteIndirectionTable, OnReqWriteNode, OnRespReadIndirectionTable, OnRespReadNode, OnRespWriteIndirectionTable, OnRespWriteNode, awaitedId, cacheVars, readyVars, varsIn}
 use Rattle.blockcache.specs.Upstream.{Ready, loadingIndirectionTable, ready, unready}
-use Rattle.blockcache.specs.declared.Cache.{Cache}
+use Rattle.blockcache.specs.declared.CacheState.{CacheState}
 use Rattle.blockcache.specs.declared.Phase.{Phase}
 use Rattle.blockcache.specs.declared.Phase.the-variants.{Loading as PhaseLoading, Ready as PhaseReady, Unready as PhaseUnready}
 use Rattle.blockcache.specs.declared.VersionOp.{VersionOp}
@@ -242,7 +242,7 @@ module _ (op : DiskOp) (n : Node) (t : Table) where
 
 -- THE PHASE
 
-pub ready-is : (c : Cache) → isReady c ≡ true → cacheVars c ≡ ready (readyVars c)
+pub ready-is : (c : CacheState) → isReady c ≡ true → cacheVars c ≡ ready (readyVars c)
 ready-is c = from (c .phase)
   where
     from : (p : Phase) → readyPhase p ≡ true → varsIn p c ≡ ready (readyVars c)
@@ -250,7 +250,7 @@ ready-is c = from (c .phase)
     from PhaseLoading k = absurd (false≢true k)
     from PhaseReady k = refl
 
-pub on-ready-iff : (c : Cache) (P : Ready → Type 0) → OnReady (cacheVars c) P ↔ ((isReady c ≡ true) × P (readyVars c))
+pub on-ready-iff : (c : CacheState) (P : Ready → Type 0) → OnReady (cacheVars c) P ↔ ((isReady c ≡ true) × P (readyVars c))
 on-ready-iff c P = (to (c .phase), λ (k, p). (readyVars c, ready-is c k, p))
   where
     to : (p : Phase) → OnReady (varsIn p c) P → (readyPhase p ≡ true) × P (readyVars c)
@@ -258,7 +258,7 @@ on-ready-iff c P = (to (c .phase), λ (k, p). (readyVars c, ready-is c k, p))
     to PhaseLoading (x, e, p) = absurd (let z : _≡_ {A = ℕ} 0 1 = cc in omega arith)
     to PhaseReady (x, e, p) = let h : x ≡ readyVars c = cc in (refl, rw h at p)
 
-pub loading-is : (c : Cache) → loadingPhase (c .phase) ≡ true → cacheVars c ≡ loadingIndirectionTable (c .places .persistent) (awaitedId (c .awaited))
+pub loading-is : (c : CacheState) → loadingPhase (c .phase) ≡ true → cacheVars c ≡ loadingIndirectionTable (c .places .persistent) (awaitedId (c .awaited))
 loading-is c = from (c .phase)
   where
     from : (p : Phase) → loadingPhase p ≡ true → varsIn p c ≡ loadingIndirectionTable (c .places .persistent) (awaitedId (c .awaited))
@@ -266,7 +266,7 @@ loading-is c = from (c .phase)
     from PhaseLoading k = refl
     from PhaseReady k = absurd (false≢true k)
 
-pub on-loading-iff : (c : Cache) (P : Location → Option ℕ → Type 0) →
+pub on-loading-iff : (c : CacheState) (P : Location → Option ℕ → Type 0) →
     OnLoading (cacheVars c) P ↔ ((loadingPhase (c .phase) ≡ true) × P (c .places .persistent) (awaitedId (c .awaited)))
 on-loading-iff c P = (to (c .phase), λ (k, p). (c .places .persistent, awaitedId (c .awaited), loading-is c k, p))
   where
@@ -275,7 +275,7 @@ on-loading-iff c P = (to (c .phase), λ (k, p). (c .places .persistent, awaitedI
     to PhaseLoading (l, i, e, p) = let h : l ≡ c .places .persistent = cc in let j : i ≡ awaitedId (c .awaited) = cc in (refl, rw (h, j) at p)
     to PhaseReady (l, i, e, p) = absurd (let z : _≡_ {A = ℕ} 0 1 = cc in omega arith)
 
-pub unready-iff : (c : Cache) → (cacheVars c ≡ unready) ↔ (unreadyPhase (c .phase) ≡ true)
+pub unready-iff : (c : CacheState) → (cacheVars c ≡ unready) ↔ (unreadyPhase (c .phase) ≡ true)
 unready-iff c = (to (c .phase), from (c .phase))
   where
     to : (p : Phase) → varsIn p c ≡ unready → unreadyPhase p ≡ true

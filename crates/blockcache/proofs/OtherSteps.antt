@@ -19,7 +19,7 @@ use Rattle.blockcache.specs.Ops.{dopId, dopKind}
 use Rattle.blockcache.specs.Rows.{rows12, rows13, rows14, rows18}
 use Rattle.blockcache.specs.Steps.{NextStep, Step, awaitedId, cacheVars, callOp, cleanUpStep, crashStep, freezeStep, noOpStep, readyVars}
 use Rattle.blockcache.specs.Upstream.{AwaitsNodeWrite, AwaitsTableWrite, CleanUp, Freeze, IdleOp, In, Variables}
-use Rattle.blockcache.specs.declared.Cache.{Cache}
+use Rattle.blockcache.specs.declared.CacheState.{CacheState}
 use Rattle.blockcache.specs.declared.Call.{Call}
 use Rattle.blockdisk.specs.Upstream.{opOf}
 use Rattle.blockdisk.specs.declared.DiskOp.{DiskOp}
@@ -37,7 +37,7 @@ both-fail-iff a b h = (
   (λ k. split (a && b) (λ t. absurd (k (and-left a b t, h .0 (and-right a b t)))) (λ t. t)),
 )
 
-pub awaits-table-iff : (c : Cache) (id : ℕ) → ((isReady c && (c .awaited .waiting && eqb (c .awaited .id) id)) ≡ false) ↔ (AwaitsTableWrite (cacheVars c) id → ⊥)
+pub awaits-table-iff : (c : CacheState) (id : ℕ) → ((isReady c && (c .awaited .waiting && eqb (c .awaited .id) id)) ≡ false) ↔ (AwaitsTableWrite (cacheVars c) id → ⊥)
 awaits-table-iff c id =
     let on = on-ready-iff c (λ x. x .outstandingIndirectionTableWrite ≡ some id) in
     let is = flagged-is-iff (c .awaited .waiting) (c .awaited .id) id in
@@ -46,7 +46,7 @@ awaits-table-iff c id =
     let k = both-fail-iff (isReady c) (c .awaited .waiting && eqb (c .awaited .id) id) t in
     ((λ e x. k .0 e (on .0 x)), (λ h. k .1 (λ y. h (on .1 y))))
 
-pub awaits-node-iff : (c : Cache) (id : ℕ) → ((isReady c && hasOf (c .outstanding .writes) id) ≡ false) ↔ (AwaitsNodeWrite (cacheVars c) id → ⊥)
+pub awaits-node-iff : (c : CacheState) (id : ℕ) → ((isReady c && hasOf (c .outstanding .writes) id) ≡ false) ↔ (AwaitsNodeWrite (cacheVars c) id → ⊥)
 awaits-node-iff c id =
     let on = on-ready-iff c (λ x. In id (x .outstandingBlockWrites)) in
     let w = writes-has (c .outstanding .writes) id in
@@ -54,7 +54,7 @@ awaits-node-iff c id =
     ((λ e x. k .0 e (on .0 x)), (λ h. k .1 (λ y. h (on .1 y))))
 
 -- NoOp's disk operations
-module _ (c : Cache) (n : Node) (t : Table) where
+module _ (c : CacheState) (n : Node) (t : Table) where
   abbrev idleKind : DiskOp → Bool
   idleKind op = eqb (dopKind op) 0 || eqb (dopKind op) 5 || eqb (dopKind op) 6 || eqb (dopKind op) 7 || eqb (dopKind op) 8
 
@@ -84,7 +84,7 @@ module _ (c : Cache) (n : Node) (t : Table) where
   idle-kind (RespWriteNodeOp id) u = (refl, awaits-node-iff c id .1 u)
   idle-kind NoDiskOp u = (refl, and-false (isReady c))
 
-module _ (d : ℕ) (c : Cache) (r : ℕ) (q : Call) (on : made d ≡ true) (f : CacheForm c) (g : CallForm q) (b : r < 64) where
+module _ (d : ℕ) (c : CacheState) (r : ℕ) (q : Call) (on : made d ≡ true) (f : CacheForm c) (g : CallForm q) (b : r < 64) where
   abbrev Next : Step → Variables → Type 0
   Next step s' = NextStep d (cacheVars c) s' (callOp q) (q .vop) step
 

@@ -11,25 +11,25 @@ use Rattle.base.specs.Refusals.{Row, answer}
 use Rattle.blockcache.proofs.FormKept.{cache-form-kept}
 use Rattle.blockcache.proofs.InvKept.{inv-kept}
 use Rattle.blockcache.specs.Form.{cacheForm}
-use Rattle.blockcache.specs.Step.{cacheRows, cacheStep, obeyed, stepNext, wellFormed}
+use Rattle.blockcache.specs.Step.{cacheRows, cacheStep, stepped, stepNext, wellFormed}
 use Rattle.blockcache.specs.Steps.{cacheVars}
 use Rattle.blockcache.specs.UpstreamInv.{Inv}
-use Rattle.blockcache.specs.declared.Cache.{Cache}
+use Rattle.blockcache.specs.declared.CacheState.{CacheState}
 use Rattle.blockcache.specs.declared.Call.{Call}
 
-module _ (d : ℕ) (c : Cache) (n : ℕ) (q : Call) where
+module _ (d : ℕ) (c : CacheState) (n : ℕ) (q : Call) where
   abbrev rows : List Row
   rows = cacheRows d c n q
 
-  abbrev next : Cache
+  abbrev next : CacheState
   next = stepNext d c n (q .reference) q
 
   pub step-answer : cacheStep d c n q .answer ≡ answer rows
-  unfolding cacheStep obeyed answer
+  unfolding cacheStep stepped answer
   step-answer = split (wellFormed d c q) (λ t. rw t) (λ t. rw t)
 
   pub step-cache : cacheStep d c n q .cache ≡ cond (eqb (answer rows) 0) next c
-  unfolding cacheStep obeyed answer
+  unfolding cacheStep stepped answer
   step-cache = split (wellFormed d c q) (λ t. rw t) (λ t. rw t)
 
   pub step-taken : answer rows ≡ 0 → cacheStep d c n q .cache ≡ next
@@ -39,7 +39,7 @@ module _ (d : ℕ) (c : Cache) (n : ℕ) (q : Call) where
   step-refused h = step-cache ∙ rw (ne-eqb (answer rows) 0 h)
 
   -- what holds of the cache before and of the next one of an accepted call holds after the call
-  step-keeps : (P : Cache → Type 0) → P c → (answer rows ≡ 0 → P next) → P (cacheStep d c n q .cache)
+  step-keeps : (P : CacheState → Type 0) → P c → (answer rows ≡ 0 → P next) → P (cacheStep d c n q .cache)
   step-keeps P p k =
       split (eqb (answer rows) 0)
       (λ t. let e = eqb-true (answer rows) 0 t in subst P (sym (step-taken e)) (k e))

@@ -8,7 +8,7 @@ use lib.Dec.{eqb}
 use Rattle.base.proofs.Refusals.{Clear}
 use Rattle.base.proofs.Tests.{and-both, and-false-iff, and-iff, and-right, none-iff, not-iff, or-iff}
 use Rattle.base.specs.Maps.{flagged, isSome}
-use Rattle.blockcache.proofs.Bridge.{flagged-is-iff, flagged-none-iff, wrong-node-iff, wrong-table-iff}
+use Rattle.blockcache.proofs.Bridge.{flagged-is-iff, flagged-none-iff, node-rejected-iff, table-rejected-iff}
 use Rattle.blockcache.proofs.Forms.{CacheForm, CallForm, loading-idle, no-nodes-map, read-ref-bounded, reads-requests, writes-requests}
 use Rattle.blockcache.proofs.Frames.{frame10, frame6, frame7, frame8, frame9}
 use Rattle.blockcache.proofs.OpKinds.{loading-is, on-ready-iff, unready-iff}
@@ -17,10 +17,10 @@ use Rattle.blockcache.specs.Narrowings.{narrowedRead}
 use Rattle.blockcache.specs.Next.{cachedSlot, next10, next6, next7, next8, next9}
 use Rattle.blockcache.specs.Ops.{dopBrought, dopId, dopLoc, vopLoc}
 use Rattle.blockcache.specs.Rows.{rows10, rows6, rows7, rows8, rows9}
-use Rattle.blockcache.specs.Scan.{wrongNode}
+use Rattle.blockcache.specs.Scan.{nodeRejected}
 use Rattle.blockcache.specs.Steps.{NextStep, Step, cacheVars, callOp, pageInIndirectionTableReqStep, pageInIndirectionTableRespStep, pageInNodeReqStep, pageInNodeRespStep, readyVars, receiveLocStep}
 use Rattle.blockcache.specs.Upstream.{AllLocationsForDifferentRefsDontOverlap, PageInNodeReq, PageInNodeResp, SameSuccs, Variables, WFCompleteIndirectionTable, setCache, setReads}
-use Rattle.blockcache.specs.declared.Cache.{Cache}
+use Rattle.blockcache.specs.declared.CacheState.{CacheState}
 use Rattle.blockcache.specs.declared.Call.{Call}
 use Rattle.blockdisk.specs.Ops.{somethingIn}
 use Rattle.blockdisk.specs.declared.Brought.{Brought}
@@ -29,17 +29,18 @@ use Rattle.disklayout.specs.Layout.{ValidIndirectionTableLocation}
 use Rattle.disklayout.specs.declared.Location.{Location}
 use Rattle.queue.specs.Queue.{entryOf, hasOf}
 use Rattle.queue.specs.declared.Requests.{Requests}
+use Rattle.disklayout.specs.Calls.{zeroLoc}
 use Rattle.sectortype.proofs.Equal.{same-loc-iff}
 use Rattle.sectortype.proofs.Maps.{graph-at, graph-some, in-graph, in-nodes, locs-at, locs-some, nodes-put}
 use Rattle.sectortype.specs.Abstract.{indirectionTable, nodesMap}
-use Rattle.sectortype.specs.Form.{entryAt, slotAt, zeroLoc}
+use Rattle.sectortype.specs.Form.{entryAt, slotAt}
 use Rattle.sectortype.specs.Graph.{hasSucc}
 use Rattle.sectortype.specs.Same.{sameLoc}
 use Rattle.sectortype.specs.declared.Entry.{Entry}
 use Rattle.sectortype.specs.declared.Node.{Node}
 use Rattle.sectortype.specs.declared.Table.{Table}
 
-module _ (d : ℕ) (c : Cache) (r : ℕ) (q : Call) (on : made d ≡ true) (f : CacheForm c) (g : CallForm q) (b : r < 64) where
+module _ (d : ℕ) (c : CacheState) (r : ℕ) (q : Call) (on : made d ≡ true) (f : CacheForm c) (g : CallForm q) (b : r < 64) where
   abbrev id : ℕ
   id = dopId (q .dop)
 
@@ -140,8 +141,8 @@ module _ (d : ℕ) (c : Cache) (r : ℕ) (q : Call) (on : made d ≡ true) (f : 
       let ok = h .1 .1 .0 in
       let there = h .1 .1 .1 .0 in
       let free = simp (not-iff, or-iff) at (and-false-iff known unwanted .0 (h .1 .1 .1 .1 .0) there) in
-      let right : wrongNode brings true wanted (q .node) ≡ false = rw there at (h .1 .1 .1 .1 .1 .0) in
-      let w = wrong-node-iff brings wanted (q .node) (free .1) .0 right in
+      let right : nodeRejected brings true wanted (q .node) ≡ false = rw there at (h .1 .1 .1 .1 .1 .0) in
+      let w = node-rejected-iff brings wanted (q .node) (free .1) .0 right in
       let small = read-ref-bounded reading id (f .reading) there in
       let x = nodes-put (c .nodes) ref (cachedSlot (q .node)) (f .nodes) small refl in
       let y = reads-remove reading (reads-requests c f) id there in
@@ -190,7 +191,7 @@ module _ (d : ℕ) (c : Cache) (r : ℕ) (q : Call) (on : made d ≡ true) (f : 
               there,
               (
                 and-false-iff known unwanted .1 (λ e. simp (not-iff, or-iff) (absent, alloc .0)),
-                (rw there (wrong-node-iff brings wanted (q .node) (alloc .0) .1 (something .0, succs)), tt),
+                (rw there (node-rejected-iff brings wanted (q .node) (alloc .0) .1 (something .0, succs)), tt),
               ),
             ),
           ),
@@ -230,7 +231,7 @@ module _ (d : ℕ) (c : Cache) (r : ℕ) (q : Call) (on : made d ≡ true) (f : 
   sound9 k =
       let h = simp not-iff at k in
       let wait = and-iff (c .awaited .waiting) (eqb (c .awaited .id) id) .0 (h .1 .1 .1 .0) in
-      let w = wrong-table-iff d on brings (q .table) (g .table) .0 (h .1 .1 .1 .1 .0) in
+      let w = table-rejected-iff d on brings (q .table) (g .table) .0 (h .1 .1 .1 .1 .0) in
       let i = loading-idle c (f .phase) (h .1 .1 .0) in
       frame9 d c q (cacheVars (next9 c r q)) .1 (
         h .0,
@@ -279,7 +280,7 @@ module _ (d : ℕ) (c : Cache) (r : ℕ) (q : Call) (on : made d ≡ true) (f : 
             u .1 .1 .0,
             (
               and-both (wait .0) (eq-eqb (c .awaited .id) id (wait .1)),
-              (wrong-table-iff d on brings (q .table) (g .table) .1 (something .0, (wf, distinct)), tt),
+              (table-rejected-iff d on brings (q .table) (g .table) .1 (something .0, (wf, distinct)), tt),
             ),
           ),
         ),

@@ -20,7 +20,7 @@ use Rattle.blockcache.specs.Rows.{rows1, rows2, rows3, rows4}
 use Rattle.blockcache.specs.Scan.{heldIn}
 use Rattle.blockcache.specs.Steps.{NextStep, Step, cacheVars, callOp, readyVars, writeBackIndirectionTableReqStep, writeBackIndirectionTableRespStep, writeBackNodeReqStep, writeBackNodeRespStep}
 use Rattle.blockcache.specs.Upstream.{NoAddr, ValidAllocation, Variables, WriteBackIndirectionTableReq, WriteBackIndirectionTableResp, WriteBackNodeReq, WriteBackNodeResp, assignRefToLocation, setWrites}
-use Rattle.blockcache.specs.declared.Cache.{Cache}
+use Rattle.blockcache.specs.declared.CacheState.{CacheState}
 use Rattle.blockcache.specs.declared.Call.{Call}
 use Rattle.disklayout.specs.Device.{deviceOf, made}
 use Rattle.disklayout.specs.Layout.{ValidIndirectionTableLocation, ValidNodeLocation}
@@ -34,7 +34,7 @@ use Rattle.sectortype.specs.Same.{sameLoc}
 use Rattle.sectortype.specs.declared.Slot.{Slot}
 use Rattle.sectortype.specs.declared.Table.{Table}
 
-module _ (d : ℕ) (c : Cache) (r : ℕ) (q : Call) (on : made d ≡ true) (f : CacheForm c) (g : CallForm q) (b : r < 64) where
+module _ (d : ℕ) (c : CacheState) (r : ℕ) (q : Call) (on : made d ≡ true) (f : CacheForm c) (g : CallForm q) (b : r < 64) where
   abbrev id : ℕ
   id = dopId (q .dop)
 

@@ -4,7 +4,7 @@ use lib.Dec.{eqb, leb, ltb}
 use Rattle.base.specs.Scan.{allBelow}
 use Rattle.blockcache.specs.Scan.{reads}
 use Rattle.blockcache.specs.declared.Awaited.{Awaited}
-use Rattle.blockcache.specs.declared.Cache.{Cache}
+use Rattle.blockcache.specs.declared.CacheState.{CacheState}
 use Rattle.blockcache.specs.declared.Call.{Call}
 use Rattle.blockcache.specs.declared.Outstanding.{Outstanding}
 use Rattle.blockcache.specs.declared.Phase.{Phase}
@@ -12,10 +12,11 @@ use Rattle.blockcache.specs.declared.Phase.the-variants.{Loading, Ready,
 use Rattle.blockcache.specs.declared.Places.{Places}
 use Rattle.blockcache.specs.declared.Tables.{Tables}
 use Rattle.disklayout.specs.declared.Location.{Location}
-use Rattle.queue.specs.Queue.{noRequests, requestAt, requestsForm}
+use Rattle.queue.specs.Queue.{emptyRequests, requestAt, requestsForm}
 use Rattle.queue.specs.declared.Request.{Request}
 use Rattle.queue.specs.declared.Requests.{Requests}
-use Rattle.sectortype.specs.Form.{emptyNodes, emptyTable, locZero, nodeForm, nodesForm, tableForm, zeroLoc}
+use Rattle.disklayout.specs.Calls.{zeroLoc}
+use Rattle.sectortype.specs.Form.{emptyNodes, emptyTable, locZero, nodeForm, nodesForm, tableForm}
 
 abbrev pub readyPhase : Phase → Bool
 readyPhase Unready = false
@@ -32,7 +33,7 @@ unreadyPhase Unready = true
 unreadyPhase Loading = false
 unreadyPhase Ready = false
 
-abbrev pub isReady : Cache → Bool
+abbrev pub isReady : CacheState → Bool
 isReady c = readyPhase (c .phase)
 
 -- each request in use passes the test
@@ -64,20 +65,20 @@ abbrev pub outstandingForm : Outstanding → Bool
 outstandingForm o = writesForm (o .writes) && readsForm (o .reads)
 
 -- no table, no frozen place, nothing outstanding, nothing cached
-unfoldable pub idle : Cache → Bool
+unfoldable pub idle : CacheState → Bool
 idle c =
     eqb (c .tables .persistent .count) 0 && eqb (c .tables .ephemeral .count) 0 && not (c .tables .isfrozen) && not (c .places .isfrozen)
     && eqb (c .outstanding .writes .count) 0 && eqb (c .outstanding .reads .count) 0 && eqb (c .nodes .count) 0
 
-abbrev pub formIn : Phase → Cache → Bool
+abbrev pub formIn : Phase → CacheState → Bool
 formIn Unready c = idle c && locZero (c .places .persistent) && not (c .awaited .waiting)
 formIn Loading c = idle c
 formIn Ready c = true
 
-unfoldable pub phaseForm : Cache → Bool
+unfoldable pub phaseForm : CacheState → Bool
 phaseForm c = formIn (c .phase) c
 
-unfoldable pub cacheForm : Cache → Bool
+unfoldable pub cacheForm : CacheState → Bool
 cacheForm c =
     tablesForm (c .tables) && placesForm (c .places) && awaitedForm (c .awaited) && outstandingForm (c .outstanding) && nodesForm (c .nodes) && phaseForm c
 
@@ -85,23 +86,23 @@ cacheForm c =
 abbrev pub callForm : Call → Bool
 callForm q = leb (q .reference) 63 && nodeForm (q .node) && tableForm (q .table)
 
-abbrev pub noTables : Tables
-noTables = record { persistent = emptyTable; ephemeral = emptyTable; isfrozen = false; frozen = emptyTable }
+abbrev pub emptyTables : Tables
+emptyTables = record { persistent = emptyTable; ephemeral = emptyTable; isfrozen = false; frozen = emptyTable }
 
 abbrev pub notWaiting : Awaited
 notWaiting = record { waiting = false; id = 0 }
 
 -- a cache before Ready: a place at the most
-abbrev pub loadingAt : Phase → Location → Cache
+abbrev pub loadingAt : Phase → Location → CacheState
 loadingAt p l =
     record {
       phase = p;
-      tables = noTables;
+      tables = emptyTables;
       places = record { persistent = l; isfrozen = false; frozen = zeroLoc };
       awaited = notWaiting;
-      outstanding = record { writes = noRequests; reads = noRequests };
+      outstanding = record { writes = emptyRequests; reads = emptyRequests };
       nodes = emptyNodes;
     }
 
-abbrev pub emptyCache : Cache
+abbrev pub emptyCache : CacheState
 emptyCache = loadingAt Unready zeroLoc

@@ -5,7 +5,7 @@ use Rattle.blockcache.specs.Form.{loadingAt, notWaiting}
 use Rattle.blockcache.specs.Ops.{dopId, dopLoc, vopLoc}
 use Rattle.blockcache.specs.Scan.{reads}
 use Rattle.blockcache.specs.declared.Awaited.{Awaited}
-use Rattle.blockcache.specs.declared.Cache.{Cache}
+use Rattle.blockcache.specs.declared.CacheState.{CacheState}
 use Rattle.blockcache.specs.declared.Call.{Call}
 use Rattle.blockcache.specs.declared.Outstanding.{Outstanding}
 use Rattle.blockcache.specs.declared.Phase.the-variants.{Loading, Ready}
@@ -14,7 +14,8 @@ use Rattle.blockcache.specs.declared.Tables.{Tables}
 use Rattle.disklayout.specs.declared.Location.{Location}
 use Rattle.queue.specs.Queue.{entryOf, insertOf, removeOf}
 use Rattle.queue.specs.declared.Requests.{Requests}
-use Rattle.sectortype.specs.Form.{emptyTable, entryAt, withEntry, withSlot, zeroEntry, zeroLoc, zeroSlot}
+use Rattle.disklayout.specs.Calls.{zeroLoc}
+use Rattle.sectortype.specs.Form.{emptyTable, entryAt, withEntry, withSlot, zeroEntry, zeroSlot}
 use Rattle.sectortype.specs.declared.Entry.{Entry}
 use Rattle.sectortype.specs.declared.Node.{Node}
 use Rattle.sectortype.specs.declared.Nodes.{Nodes}
@@ -24,29 +25,29 @@ use Rattle.sectortype.specs.declared.Table.{Table}
 
 -- THE SETTERS
 
-abbrev pub withTables : Cache → Tables → Cache
+abbrev pub withTables : CacheState → Tables → CacheState
 withTables c ts = record { phase = c .phase; tables = ts; places = c .places; awaited = c .awaited; outstanding = c .outstanding; nodes = c .nodes }
 
-abbrev pub withPlaces : Cache → Places → Cache
+abbrev pub withPlaces : CacheState → Places → CacheState
 withPlaces c ps = record { phase = c .phase; tables = c .tables; places = ps; awaited = c .awaited; outstanding = c .outstanding; nodes = c .nodes }
 
-abbrev pub withAwaited : Cache → Awaited → Cache
+abbrev pub withAwaited : CacheState → Awaited → CacheState
 withAwaited c a = record { phase = c .phase; tables = c .tables; places = c .places; awaited = a; outstanding = c .outstanding; nodes = c .nodes }
 
-abbrev pub withOutstanding : Cache → Outstanding → Cache
+abbrev pub withOutstanding : CacheState → Outstanding → CacheState
 withOutstanding c o = record { phase = c .phase; tables = c .tables; places = c .places; awaited = c .awaited; outstanding = o; nodes = c .nodes }
 
-abbrev pub withNodes : Cache → Nodes → Cache
+abbrev pub withNodes : CacheState → Nodes → CacheState
 withNodes c m = record { phase = c .phase; tables = c .tables; places = c .places; awaited = c .awaited; outstanding = c .outstanding; nodes = m }
 
-abbrev pub withEphemeral : Cache → Table → Cache
+abbrev pub withEphemeral : CacheState → Table → CacheState
 withEphemeral c t =
     withTables c (record { persistent = c .tables .persistent; ephemeral = t; isfrozen = c .tables .isfrozen; frozen = c .tables .frozen })
 
-abbrev pub withWrites : Cache → Requests → Cache
+abbrev pub withWrites : CacheState → Requests → CacheState
 withWrites c w = withOutstanding c (record { writes = w; reads = c .outstanding .reads })
 
-abbrev pub withReads : Cache → Requests → Cache
+abbrev pub withReads : CacheState → Requests → CacheState
 withReads c r = withOutstanding c (record { writes = c .outstanding .writes; reads = r })
 
 -- WHAT IS SET
@@ -70,44 +71,44 @@ cachedSlot n = record { present = true; node = n }
 
 -- THE STEPS
 
-module _ (c : Cache) (r : ℕ) (q : Call) where
+module _ (c : CacheState) (r : ℕ) (q : Call) where
   abbrev id : ℕ
   id = dopId (q .dop)
 
   abbrev loc : Location
   loc = dopLoc (q .dop)
 
-  abbrev pub next1 : Cache
+  abbrev pub next1 : CacheState
   next1 =
       withWrites
       (withTables c
       (record { persistent = c .tables .persistent; ephemeral = assigned (c .tables .ephemeral) r loc; isfrozen = c .tables .isfrozen; frozen = assigned (c .tables .frozen) r loc }))
       (insertOf (c .outstanding .writes) (record { id = id; reference = r; loc = loc }))
 
-  abbrev pub next2 : Cache
+  abbrev pub next2 : CacheState
   next2 = withWrites c (removeOf (c .outstanding .writes) id)
 
-  abbrev pub next3 : Cache
+  abbrev pub next3 : CacheState
   next3 = withAwaited (withPlaces c (record { persistent = c .places .persistent; isfrozen = true; frozen = loc })) (waitingFor id)
 
-  abbrev pub next4 : Cache
+  abbrev pub next4 : CacheState
   next4 = withAwaited c notWaiting
 
-  abbrev pub next5 : Cache
+  abbrev pub next5 : CacheState
   next5 = withNodes (withEphemeral c (withEntry (c .tables .ephemeral) r zeroEntry)) (withSlot (c .nodes) r zeroSlot)
 
-  abbrev pub next6 : Cache
+  abbrev pub next6 : CacheState
   next6 = withReads c (insertOf (c .outstanding .reads) (record { id = id; reference = r; loc = zeroLoc }))
 
-  abbrev pub next7 : Cache
+  abbrev pub next7 : CacheState
   next7 =
       withReads (withNodes c (withSlot (c .nodes) (entryOf (c .outstanding .reads) id .reference) (cachedSlot (q .node))))
       (removeOf (c .outstanding .reads) id)
 
-  abbrev pub next8 : Cache
+  abbrev pub next8 : CacheState
   next8 = withAwaited c (waitingFor id)
 
-  abbrev pub next9 : Cache
+  abbrev pub next9 : CacheState
   next9 =
       record {
         phase = Ready;
@@ -118,25 +119,25 @@ module _ (c : Cache) (r : ℕ) (q : Call) where
         nodes = c .nodes;
       }
 
-  abbrev pub next10 : Cache
+  abbrev pub next10 : CacheState
   next10 = loadingAt Loading (vopLoc (q .vop))
 
-  abbrev pub next11 : Cache
+  abbrev pub next11 : CacheState
   next11 = withNodes c (withSlot (c .nodes) r zeroSlot)
 
   -- a frozen place, if set, is dropped
-  abbrev pub next12 : Cache
+  abbrev pub next12 : CacheState
   next12 =
       withPlaces
       (withTables c (record { persistent = c .tables .persistent; ephemeral = c .tables .ephemeral; isfrozen = true; frozen = c .tables .ephemeral }))
       (record { persistent = c .places .persistent; isfrozen = false; frozen = zeroLoc })
 
-  abbrev pub next13 : Cache
+  abbrev pub next13 : CacheState
   next13 =
       withPlaces
       (withTables c (record { persistent = c .tables .frozen; ephemeral = c .tables .ephemeral; isfrozen = false; frozen = emptyTable }))
       (record { persistent = c .places .frozen; isfrozen = false; frozen = zeroLoc })
 
   -- Dirty and Alloc
-  abbrev pub next15 : Cache
+  abbrev pub next15 : CacheState
   next15 = withNodes (withEphemeral c (withEntry (c .tables .ephemeral) r (unlocated (q .node .succs)))) (withSlot (c .nodes) r (cachedSlot (q .node)))

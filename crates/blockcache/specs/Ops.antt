@@ -1,6 +1,7 @@
 -- A version operation and a disk operation as numbers: its kind, and what it carries, zeros where it carries none.
 use Prim.Native.Nat.{ℕ}
 use mathlib.Core.Bool.{Bool, false}
+use Rattle.disklayout.specs.Calls.{zeroLoc}
 use Rattle.blockcache.specs.declared.VersionOp.{VersionOp}
 use Rattle.blockcache.specs.declared.VersionOp.the-variants.{AdvanceOp, CleanUpOp, CrashOp, FreezeOp, JournalInternalOp, PopSyncOp, PushSyncOp, SendFrozenLocOp, SendPersistentLocOp, StatesInternalOp}
 use Rattle.blockdisk.specs.declared.Brought.{Brought}
@@ -8,7 +9,6 @@ use Rattle.blockdisk.specs.declared.Brought.the-variants.{Nothing}
 use Rattle.blockdisk.specs.declared.DiskOp.{DiskOp}
 use Rattle.blockdisk.specs.declared.DiskOp.the-variants.{NoDiskOp, ReqReadIndirectionTableOp, ReqReadNodeOp, ReqWriteIndirectionTableOp, ReqWriteNodeOp, RespReadIndirectionTableOp, RespReadNodeOp, RespWriteIndirectionTableOp, RespWriteNodeOp}
 use Rattle.disklayout.specs.declared.Location.{Location}
-use Rattle.sectortype.specs.Form.{zeroLoc}
 
 abbrev pub vopKind : VersionOp → ℕ
 vopKind StatesInternalOp = 1

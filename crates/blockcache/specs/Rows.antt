@@ -7,8 +7,8 @@ use lib.Dec.{eqb, leb}
 use Rattle.base.specs.Refusals.{Row, _when_}
 use Rattle.blockcache.specs.Form.{isReady, loadingPhase, unreadyPhase}
 use Rattle.blockcache.specs.Ops.{dopBrought, dopId, dopKind, dopLoc, vopKind, vopLoc, vopNoOp}
-use Rattle.blockcache.specs.Scan.{NoLocation, heldIn, named, needsCached, reads, writesTo, wrongNode, wrongTable}
-use Rattle.blockcache.specs.declared.Cache.{Cache}
+use Rattle.blockcache.specs.Scan.{NoLocation, heldIn, hasPredecessor, needsCached, reads, writesTo, nodeRejected, tableRejected}
+use Rattle.blockcache.specs.declared.CacheState.{CacheState}
 use Rattle.blockcache.specs.declared.Call.{Call}
 use Rattle.disklayout.specs.Calls.{flag}
 use Rattle.disklayout.specs.Device.{deviceOf}
@@ -25,7 +25,7 @@ use Rattle.sectortype.specs.declared.Slot.{Slot}
 abbrev pub first : Bool → ℕ → ℕ → ℕ
 first b n rest = cond b n rest
 
-module _ (d : ℕ) (c : Cache) (r : ℕ) (q : Call) where
+module _ (d : ℕ) (c : CacheState) (r : ℕ) (q : Call) where
   abbrev entry : Entry
   entry = entryAt (c .tables .ephemeral) r
 
@@ -113,7 +113,7 @@ module _ (d : ℕ) (c : Cache) (r : ℕ) (q : Call) where
       (8 when not (entry .allocated)) ∷
       (10 when reads reading r) ∷
       (11 when needsCached (c .tables) r) ∷
-      (12 when (eqb r 0 || named (c .tables .ephemeral) r)) ∷
+      (12 when (eqb r 0 || hasPredecessor (c .tables .ephemeral) r)) ∷
       []
 
   -- PageInNodeReq
@@ -140,7 +140,7 @@ module _ (d : ℕ) (c : Cache) (r : ℕ) (q : Call) where
       (4 when not (isReady c)) ∷
       (5 when not (hasOf reading id)) ∷
       (8 when (hasOf reading id && (slotAt (c .nodes) readRef .present || not (entryAt (c .tables .ephemeral) readRef .allocated)))) ∷
-      (9 when wrongNode (dopBrought (q .dop)) (hasOf reading id) (entryAt (c .tables .ephemeral) readRef) (q .node)) ∷
+      (9 when nodeRejected (dopBrought (q .dop)) (hasOf reading id) (entryAt (c .tables .ephemeral) readRef) (q .node)) ∷
       []
 
   -- PageInIndirectionTableReq
@@ -160,7 +160,7 @@ module _ (d : ℕ) (c : Cache) (r : ℕ) (q : Call) where
       (3 when not (isD 5)) ∷
       (4 when not (loadingPhase (c .phase))) ∷
       (5 when not awaits) ∷
-      (9 when wrongTable (dopBrought (q .dop)) d (q .table)) ∷
+      (9 when tableRejected (dopBrought (q .dop)) d (q .table)) ∷
       []
 
   -- ReceiveLoc

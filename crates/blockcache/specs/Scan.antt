@@ -36,8 +36,8 @@ abbrev pub listNames : Entry → ℕ → Bool
 listNames e r = someBelow (λ j. e .allocated && namesAt (e .succs .count) j (succAt (e .succs) j) r) 8
 
 -- some list in the graph names r, its own included
-unfoldable pub named : Table → ℕ → Bool
-named t r = someBelow (λ i. listNames (entryAt t i) r) 64
+unfoldable pub hasPredecessor : Table → ℕ → Bool
+hasPredecessor t r = someBelow (λ i. listNames (entryAt t i) r) 64
 
 -- 7: the address is held by the persistent, ephemeral or frozen table or an outstanding write
 unfoldable pub heldIn : Tables → Requests → ℕ → Bool
@@ -48,11 +48,11 @@ abbrev pub needsCached : Tables → ℕ → Bool
 needsCached ts r = ts .isfrozen && entryAt (ts .frozen) r .allocated && not (entryAt (ts .frozen) r .located)
 
 -- 9 of a node's page-in: nothing brought, or its successors differ from the graph's as sets
-abbrev pub wrongNode : Brought → Bool → Entry → Node → Bool
-wrongNode Something known e n = known && e .allocated && not (sameSet (e .succs) (n .succs))
-wrongNode Nothing known e n = true
+abbrev pub nodeRejected : Brought → Bool → Entry → Node → Bool
+nodeRejected Something known e n = known && e .allocated && not (sameSet (e .succs) (n .succs))
+nodeRejected Nothing known e n = true
 
 -- 9 of a table's page-in: nothing brought, not WFCompleteIndirectionTable, or two references at one address
-abbrev pub wrongTable : Brought → ℕ → Table → Bool
-wrongTable Something d t = not (WFCompleteIndirectionTable d t) || not (DistinctAddrs t)
-wrongTable Nothing d t = true
+abbrev pub tableRejected : Brought → ℕ → Table → Bool
+tableRejected Something d t = not (WFCompleteIndirectionTable d t) || not (DistinctAddrs t)
+tableRejected Nothing d t = true

@@ -8,7 +8,7 @@ use lib.Dec.{eqb}
 use Rattle.base.specs.Maps.{Map, flagged}
 use Rattle.blockcache.specs.Upstream.{Alloc, CleanUp, Dirty, Evict, Freeze, Init, NoOp, OutstandingWrite, PageInIndirectionTableReq, PageInIndirectionTableResp, PageInNodeReq, PageInNodeResp, ReadStep, Ready, ReceiveLoc, Unalloc, Variables, WriteBackIndirectionTableReq, WriteBackIndirectionTableResp, WriteBackNodeReq, WriteBackNodeResp, loadingIndirectionTable, ready, unready}
 use Rattle.blockcache.specs.declared.Awaited.{Awaited}
-use Rattle.blockcache.specs.declared.Cache.{Cache}
+use Rattle.blockcache.specs.declared.CacheState.{CacheState}
 use Rattle.blockcache.specs.declared.Call.{Call}
 use Rattle.blockcache.specs.declared.Phase.{Phase}
 use Rattle.blockcache.specs.declared.Phase.the-variants.{Loading as PhaseLoading, Ready as PhaseReady, Unready as PhaseUnready}
@@ -159,7 +159,7 @@ readsMap = mapped (λ w. w .reference)
 abbrev pub awaitedId : Awaited → Option ℕ
 awaitedId a = flagged (a .waiting) (a .id)
 
-abbrev pub readyVars : Cache → Ready
+abbrev pub readyVars : CacheState → Ready
 readyVars c =
     record {
       persistentIndirectionTable = indirectionTable (c .tables .persistent);
@@ -173,12 +173,12 @@ readyVars c =
       cache = nodesMap (c .nodes);
     }
 
-abbrev pub varsIn : Phase → Cache → Variables
+abbrev pub varsIn : Phase → CacheState → Variables
 varsIn PhaseUnready c = unready
 varsIn PhaseLoading c = loadingIndirectionTable (c .places .persistent) (awaitedId (c .awaited))
 varsIn PhaseReady c = ready (readyVars c)
 
-abbrev pub cacheVars : Cache → Variables
+abbrev pub cacheVars : CacheState → Variables
 cacheVars c = varsIn (c .phase) c
 
 -- the call's disk operation, with its node or table
@@ -186,5 +186,5 @@ abbrev pub callOp : Call → Dop
 callOp q = opOf (q .dop) (q .node) (q .table)
 
 -- some next state: what upstream allows a call to do
-abbrev pub Allowed : ℕ → Cache → ℕ → Call → Type 0
+abbrev pub Allowed : ℕ → CacheState → ℕ → Call → Type 0
 Allowed d c n q = (step : Step) × (stepOf n (q .reference) (q .node) ≡ some step) × ((s' : Variables) × NextStep d (cacheVars c) s' (callOp q) (q .vop) step)

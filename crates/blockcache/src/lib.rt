@@ -40,7 +40,7 @@ pub struct Outstanding {
     pub reads: Requests,
 }
 
-pub struct Cache {
+pub struct CacheState {
     pub phase: Phase,
     pub tables: Tables,
     pub places: Places,
@@ -77,5 +77,5 @@ pub struct Call {
 pub struct CacheOutcome {
     pub answer: u64,
     pub node: Node,
-    pub cache: Cache,
+    pub cache: CacheState,
 }

@@ -10,7 +10,7 @@ use Rattle.base.specs.Refusals.{_when_, answer, ascending}
 use Rattle.blockdisk.proofs.Forms.{DiskForm, disk-form-iff}
 use Rattle.blockdisk.specs.Form.{diskForm}
 use Rattle.blockdisk.specs.Ops.{answerRows, diskRows, opRows, requestRows}
-use Rattle.blockdisk.specs.declared.Disk.{Disk}
+use Rattle.blockdisk.specs.declared.DiskState.{DiskState}
 use Rattle.blockdisk.specs.declared.DiskCall.{DiskCall}
 use Rattle.blockdisk.specs.declared.DiskOp.{DiskOp}
 use Rattle.blockdisk.specs.declared.DiskOp.the-variants.{NoDiskOp, ReqReadIndirectionTableOp, ReqReadNodeOp, ReqWriteIndirectionTableOp, ReqWriteNodeOp, RespReadIndirectionTableOp, RespReadNodeOp, RespWriteIndirectionTableOp, RespWriteNodeOp}
@@ -42,7 +42,7 @@ answer-ok-iff q id wrong = (
 )
 
 -- the numbers ascend
-pub op-ascending : (d : ℕ) (s : Disk) (op : DiskOp) (n : Node) (t : Table) (b : Bool) → ascending ((1 when b) ∷ opRows d s op n t) ≡ true
+pub op-ascending : (d : ℕ) (s : DiskState) (op : DiskOp) (n : Node) (t : Table) (b : Bool) → ascending ((1 when b) ∷ opRows d s op n t) ≡ true
 op-ascending d s (ReqReadIndirectionTableOp id l) n t b = refl
 op-ascending d s (ReqReadNodeOp id l) n t b = refl
 op-ascending d s (ReqWriteIndirectionTableOp id l) n t b = refl
@@ -53,16 +53,16 @@ op-ascending d s (RespWriteIndirectionTableOp id) n t b = refl
 op-ascending d s (RespWriteNodeOp id) n t b = refl
 op-ascending d s NoDiskOp n t b = refl
 
-pub disk-ascending : (d : ℕ) (s : Disk) (c : DiskCall) → ascending (diskRows d s c) ≡ true
+pub disk-ascending : (d : ℕ) (s : DiskState) (c : DiskCall) → ascending (diskRows d s c) ≡ true
 disk-ascending d s c = op-ascending d s (c .op) (c .node) (c .table) (not (diskForm d s && nodeForm (c .node) && tableForm (c .table)))
 
-pub record Accepted (d : ℕ) (s : Disk) (c : DiskCall) : Type 0 where
+pub record Accepted (d : ℕ) (s : DiskState) (c : DiskCall) : Type 0 where
   pub disk : DiskForm d s
   pub node : nodeForm (c .node) ≡ true
   pub table : tableForm (c .table) ≡ true
   pub rows : Clear (opRows d s (c .op) (c .node) (c .table))
 
-pub disk-accepted-iff : (d : ℕ) (s : Disk) (c : DiskCall) → (answer (diskRows d s c) ≡ 0) ↔ Accepted d s c
+pub disk-accepted-iff : (d : ℕ) (s : DiskState) (c : DiskCall) → (answer (diskRows d s c) ≡ 0) ↔ Accepted d s c
 disk-accepted-iff d s c = (
   (λ e. let h = accepted-iff (diskRows d s c) (disk-ascending d s c) .0 e in
       let f = simp (not-iff, disk-form-iff, and-iff) at (h .0) in

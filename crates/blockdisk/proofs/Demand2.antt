@@ -19,11 +19,11 @@ use Rattle.blockdisk.proofs.Outstanding.{places-at, places-has, places-
 use Rattle.blockdisk.proofs.Reading.{node-is-iff, node-leaves-upstream, node-update, table-is-iff, table-leaves-nodes, table-update, upstream-of, upstream-stored}
 use Rattle.blockdisk.specs.Crash.{crashRows, crashed, emptyQueues}
 use Rattle.blockdisk.specs.Form.{diskForm, recordsChecked}
-use Rattle.blockdisk.specs.Ops.{answerRows, diskRows, nextDisk, nodePlace, opRows, requestRows, somethingIn, tablePlace, wrongNode, wrongTable}
+use Rattle.blockdisk.specs.Ops.{answerRows, diskRows, nextDisk, nodePlace, opRows, requestRows, somethingIn, tablePlace, nodeNotStored, tableNotStored}
 use Rattle.blockdisk.specs.Records.{withNode, withTable}
 use Rattle.blockdisk.specs.Upstream.{Crash, Imap, Init, Next, Variables, diskVars, dopOf, nodesStored, opOf, places, setNodes, setTables, setWriteNodes, setWriteTables, tablesStored, upstreamTables}
 use Rattle.blockdisk.specs.declared.Brought.{Brought}
-use Rattle.blockdisk.specs.declared.Disk.{Disk}
+use Rattle.blockdisk.specs.declared.DiskState.{DiskState}
 use Rattle.blockdisk.specs.declared.DiskCall.{DiskCall}
 use Rattle.blockdisk.specs.declared.DiskOp.{DiskOp}
 use Rattle.blockdisk.specs.declared.DiskOp.the-variants.{NoDiskOp, ReqReadIndirectionTableOp, ReqReadNodeOp, ReqWriteIndirectionTableOp, ReqWriteNodeOp, RespReadIndirectionTableOp, RespReadNodeOp, RespWriteIndirectionTableOp, RespWriteNodeOp}
@@ -52,16 +52,16 @@ brought-iff q id m true a there = (
 )
 brought-iff q id m false a there = ((λ h loc e y. absurd (false≢true y)), (λ h y. absurd (false≢true y)))
 
-module _ (d : ℕ) (s : Disk) (f : DiskForm d s) (id : ℕ) (b : Brought) where
-  pub wrong-node-iff : (n : Node) → nodeForm n ≡ true → (wrongNode d s id b n ≡ false) ↔ (somethingIn b ≡ true → nodesStored d (s .records) (entryOf (s .queues .nodereads) id .loc) ≡ some n)
-  unfolding wrongNode
+module _ (d : ℕ) (s : DiskState) (f : DiskForm d s) (id : ℕ) (b : Brought) where
+  pub wrong-node-iff : (n : Node) → nodeForm n ≡ true → (nodeNotStored d s id b n ≡ false) ↔ (somethingIn b ≡ true → nodesStored d (s .records) (entryOf (s .queues .nodereads) id .loc) ≡ some n)
+  unfolding nodeNotStored
   wrong-node-iff n g =
       let l = entryOf (s .queues .nodereads) id .loc in
       let is = node-is-iff d (s .records) (f .on) (f .form) l n g in
       simp (and-false-iff, not-iff, is) Iff·rfl
 
-  pub wrong-table-iff : (t : Table) → tableForm t ≡ true → (wrongTable d s id b t ≡ false) ↔ (somethingIn b ≡ true → upstreamTables d (s .records) (entryOf (s .queues .tablereads) id .loc) ≡ some (indirectionTable t))
-  unfolding wrongTable
+  pub wrong-table-iff : (t : Table) → tableForm t ≡ true → (tableNotStored d s id b t ≡ false) ↔ (somethingIn b ≡ true → upstreamTables d (s .records) (entryOf (s .queues .tablereads) id .loc) ≡ some (indirectionTable t))
+  unfolding tableNotStored
   wrong-table-iff t g =
       let l = entryOf (s .queues .tablereads) id .loc in
       let is = table-is-iff d (s .records) (f .on) (f .form) l t g in
@@ -71,7 +71,7 @@ module _ (d : ℕ) (s : Disk) (f : DiskForm d s) (id : ℕ) (b : Brought) where
 
 -- AN ACCEPTED CALL IS ONE THAT UPSTREAM ALLOWS
 
-module _ (d : ℕ) (s : Disk) (f : DiskForm d s) (n : Node) (t : Table) (fn : nodeForm n ≡ true) (ft : tableForm t ≡ true) where
+module _ (d : ℕ) (s : DiskState) (f : DiskForm d s) (n : Node) (t : Table) (fn : nodeForm n ≡ true) (ft : tableForm t ≡ true) where
   op-allowed : (op : DiskOp) → Clear (opRows d s op n t) → Next (diskVars d s) (diskVars d (nextDisk d s op n t)) (opOf op n t)
   op-allowed (ReqReadIndirectionTableOp id l) c =
       let q = s .queues .tablereads in
@@ -103,7 +103,7 @@ module _ (d : ℕ) (s : Disk) (f : DiskForm d s) (n : Node) (t : Table) (fn : no
       }
   op-allowed (RespReadIndirectionTableOp id b) c =
       let q = s .queues .tablereads in
-      let a = answer-ok-iff q id (wrongTable d s id b t) .0 c in
+      let a = answer-ok-iff q id (tableNotStored d s id b t) .0 c in
       record {
         there = places-has q id ∙ a .there;
         brought = brought-iff q id (upstreamTables d (s .records)) (somethingIn b) (indirectionTable t) (a .there) .0 (wrong-table-iff d s f id b t ft .0 (a .right));
@@ -111,7 +111,7 @@ module _ (d : ℕ) (s : Disk) (f : DiskForm d s) (n : Node) (t : Table) (fn : no
       }
   op-allowed (RespReadNodeOp id b) c =
       let q = s .queues .nodereads in
-      let a = answer-ok-iff q id (wrongNode d s id b n) .0 c in
+      let a = answer-ok-iff q id (nodeNotStored d s id b n) .0 c in
       record {
         there = places-has q id ∙ a .there;
         brought = brought-iff q id (nodesStored d (s .records)) (somethingIn b) n (a .there) .0 (wrong-node-iff d s f id b n fn .0 (a .right));
@@ -125,7 +125,7 @@ module _ (d : ℕ) (s : Disk) (f : DiskForm d s) (n : Node) (t : Table) (fn : no
       record { there = places-has q id ∙ answer-ok-iff q id false .0 c .there; next = op-moves d s f (RespWriteNodeOp id) n t c }
   op-allowed NoDiskOp c = record { next = refl }
 
-pub disk-allowed : (d : ℕ) (s : Disk) (c : DiskCall) → answer (diskRows d s c) ≡ 0 → Next (diskVars d s) (diskVars d (nextDisk d s (c .op) (c .node) (c .table))) (dopOf c)
+pub disk-allowed : (d : ℕ) (s : DiskState) (c : DiskCall) → answer (diskRows d s c) ≡ 0 → Next (diskVars d s) (diskVars d (nextDisk d s (c .op) (c .node) (c .table))) (dopOf c)
 disk-allowed d s c e =
     let a = disk-accepted-iff d s c .0 e in op-allowed d s (a .disk) (c .node) (c .table) (a .node) (a .table) (c .op) (a .rows)
 
@@ -139,7 +139,7 @@ answer-clear : (q : Requests) (id : ℕ) (wrong : Bool) → isSome (places q id)
 answer-clear q id wrong there right =
     let h = sym (places-has q id) ∙ there in answer-ok-iff q id wrong .1 (record { there = h; right = right h })
 
-module _ (d : ℕ) (s : Disk) (f : DiskForm d s) (n : Node) (t : Table) (fn : nodeForm n ≡ true) (ft : tableForm t ≡ true) (s' : Variables) where
+module _ (d : ℕ) (s : DiskState) (f : DiskForm d s) (n : Node) (t : Table) (fn : nodeForm n ≡ true) (ft : tableForm t ≡ true) (s' : Variables) where
   op-clear : (op : DiskOp) → NoneOf (16 ∷ 18 ∷ []) (opRows d s op n t) → Next (diskVars d s) s' (opOf op n t) → Clear (opRows d s op n t)
   op-clear (ReqReadIndirectionTableOp id l) h u = request-clear (s .queues .tablereads) id (tablePlace d l) (u .fresh) h
   op-clear (ReqReadNodeOp id l) h u = request-clear (s .queues .nodereads) id (nodePlace d l) (u .fresh) h
@@ -147,11 +147,11 @@ module _ (d : ℕ) (s : Disk) (f : DiskForm d s) (n : Node) (t : Table) (fn : no
   op-clear (ReqWriteNodeOp id l) h u = request-clear (s .queues .nodewrites) id (nodePlace d l) (u .fresh) h
   op-clear (RespReadIndirectionTableOp id b) h u =
       let q = s .queues .tablereads in
-      answer-clear q id (wrongTable d s id b t) (u .there)
+      answer-clear q id (tableNotStored d s id b t) (u .there)
       (λ a. wrong-table-iff d s f id b t ft .1 (brought-iff q id (upstreamTables d (s .records)) (somethingIn b) (indirectionTable t) a .1 (u .brought)))
   op-clear (RespReadNodeOp id b) h u =
       let q = s .queues .nodereads in
-      answer-clear q id (wrongNode d s id b n) (u .there)
+      answer-clear q id (nodeNotStored d s id b n) (u .there)
       (λ a. wrong-node-iff d s f id b n fn .1 (brought-iff q id (nodesStored d (s .records)) (somethingIn b) n a .1 (u .brought)))
   op-clear (RespWriteIndirectionTableOp id) h u = answer-clear (s .queues .tablewrites) id false (u .there) (λ a. refl)
   op-clear (RespWriteNodeOp id) h u = answer-clear (s .queues .nodewrites) id false (u .there) (λ a. refl)
@@ -160,7 +160,7 @@ module _ (d : ℕ) (s : Disk) (f : DiskForm d s) (n : Node) (t : Table) (fn : no
 -- THE THEOREMS
 
 -- the narrowings of a call are 1, 16 and 18
-pub disk-accepted : (d : ℕ) (s : Disk) (c : DiskCall) →
+pub disk-accepted : (d : ℕ) (s : DiskState) (c : DiskCall) →
     (answer (diskRows d s c) ≡ 0) ↔ (NoneOf (1 ∷ 16 ∷ 18 ∷ []) (diskRows d s c) × ((s' : Variables) × Next (diskVars d s) s' (dopOf c)))
 disk-accepted d s c = (
   (λ e. (clear-none-of (1 ∷ 16 ∷ 18 ∷ []) (diskRows d s c) (accepted-iff (diskRows d s c) (disk-ascending d s c) .0 e), (diskVars d (nextDisk d s (c .op) (c .node) (c .table)), disk-allowed d s c e))),
@@ -175,7 +175,7 @@ disk-accepted d s c = (
         (record { disk = g .0 .0; node = g .0 .1; table = g .1; rows = op-clear d s (g .0 .0) (c .node) (c .table) (g .0 .1) (g .1) s' (c .op) (h .1) u })
 
 -- of a crash they are 1 and the places of the offered records, a part of 19
-pub crash-accepted : (d : ℕ) (s : Disk) (o : Records) →
+pub crash-accepted : (d : ℕ) (s : DiskState) (o : Records) →
     (answer (crashRows d s o) ≡ 0) ↔ (NoneOf (1 ∷ []) (crashRows d s o) × (recordsChecked d o .placed ≡ true) × Crash (diskVars d s) (diskVars d (crashed o)))
 crash-accepted d s o = (
   (λ e. let c = crash-ok-iff d s o .0 e in
@@ -206,7 +206,7 @@ crash-accepted d s o = (
         })
 
 -- a disk with nothing outstanding meets upstream's Init
-pub disk-init : (d : ℕ) (s : Disk) → s .queues ≡ emptyQueues → Init (diskVars d s)
+pub disk-init : (d : ℕ) (s : DiskState) → s .queues ≡ emptyQueues → Init (diskVars d s)
 disk-init d s e =
     record {
       no-table-reads = ap (λ q. places (q .tablereads)) e ∙ places-none;

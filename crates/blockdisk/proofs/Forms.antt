@@ -13,7 +13,7 @@ use Rattle.blockdisk.proofs.Outstanding.{places-some, queue-iff}
 use Rattle.blockdisk.specs.Form.{diskForm, nodeQueueForm, nodeRecordChecked, nodeRequestOk, nodesChecked, queuesForm, recordsChecked, tableQueueForm, tableRecordChecked, tableRequestOk, tablesChecked}
 use Rattle.blockdisk.specs.Records.{nodeRecordAt, tableRecordAt}
 use Rattle.blockdisk.specs.Upstream.{places}
-use Rattle.blockdisk.specs.declared.Disk.{Disk}
+use Rattle.blockdisk.specs.declared.DiskState.{DiskState}
 use Rattle.blockdisk.specs.declared.NodeRecord.{NodeRecord}
 use Rattle.blockdisk.specs.declared.Records.{Records}
 use Rattle.blockdisk.specs.declared.TableRecord.{TableRecord}
@@ -103,7 +103,7 @@ records-placed-iff d r = (
 
 -- THE DISK
 
-pub record DiskForm (d : ℕ) (s : Disk) : Type 0 where
+pub record DiskForm (d : ℕ) (s : DiskState) : Type 0 where
   pub on : made d ≡ true
   pub form : recordsChecked d (s .records) .form ≡ true
   pub placed : recordsChecked d (s .records) .placed ≡ true
@@ -112,7 +112,7 @@ pub record DiskForm (d : ℕ) (s : Disk) : Type 0 where
   pub tablewrites : tableQueueForm d (s .queues .tablewrites) ≡ true
   pub nodewrites : nodeQueueForm d (s .queues .nodewrites) ≡ true
 
-pub disk-form-iff : (d : ℕ) (s : Disk) → (diskForm d s ≡ true) ↔ DiskForm d s
+pub disk-form-iff : (d : ℕ) (s : DiskState) → (diskForm d s ≡ true) ↔ DiskForm d s
 unfolding diskForm queuesForm
 disk-form-iff d s = (
   (λ e. let h = simp and-iff at e in

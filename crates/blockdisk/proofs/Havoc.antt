@@ -7,7 +7,7 @@ use mathlib.Core.Option.{some}
 use mathlib.Core.Path.{_∙_, _≡_, refl, sym}
 use Rattle.base.proofs.Tests.{and-iff, clash, not-iff, or-iff, or-true-iff}
 use Rattle.blockdisk.proofs.Outstanding.{written-iff}
-use Rattle.blockdisk.proofs.Shelf.{Formed, Holds, Laws, Placed, Shelf, reads, reads-iff, recordAt}
+use Rattle.blockdisk.proofs.RecordArray.{Formed, Holds, Laws, Placed, RecordArray, reads, reads-iff, recordAt}
 use Rattle.blockdisk.specs.Upstream.{UntouchedLoc, havocMap, places}
 use Rattle.disklayout.proofs.Facts.{refuted}
 use Rattle.disklayout.specs.declared.Location.{Location}
@@ -16,7 +16,7 @@ use Rattle.queue.specs.declared.Requests.{Requests}
 use Rattle.sectortype.proofs.Equal.{same-loc-iff}
 use Rattle.sectortype.specs.Same.{sameLoc}
 
-module _ {R A : Type 0} (s : Shelf R A) (q : Requests) where
+module _ {R A : Type 0} (s : RecordArray R A) (q : Requests) where
   -- a record x that is there is unchanged in y, unless a write is outstanding at its address
   abbrev pub keptIn : R → R → Bool
   keptIn x y = not (s .there x) || hasAddr q (s .loc x .addr) || (s .there y && sameLoc (s .loc x) (s .loc y) && s .same x y)

@@ -15,11 +15,11 @@ use Rattle.blockdisk.proofs.Accepting.{RequestOk, answer-ok-iff, disk-a
 use Rattle.blockdisk.proofs.Forms.{DiskForm, disk-form-iff, node-form-there, node-placed-iff, records-form-iff, records-placed-iff, table-form-there, table-placed-iff}
 use Rattle.blockdisk.proofs.Outstanding.{queue-insert, queue-remove}
 use Rattle.blockdisk.proofs.Reading.{with-node-is, with-table-is}
-use Rattle.blockdisk.proofs.Shelves.{node-laws, table-laws}
+use Rattle.blockdisk.proofs.RecordArrays.{node-laws, table-laws}
 use Rattle.blockdisk.specs.Form.{diskForm, nodeQueueForm, nodeRecordChecked, nodeRequestOk, recordsChecked, tableQueueForm, tableRecordChecked, tableRequestOk}
-use Rattle.blockdisk.specs.Ops.{diskRows, nextDisk, nodePlace, opRows, requestOf, tablePlace, wrongNode, wrongTable}
-use Rattle.blockdisk.specs.Records.{noNodeRecord, noTableRecord, withNode, withTable}
-use Rattle.blockdisk.specs.declared.Disk.{Disk}
+use Rattle.blockdisk.specs.Ops.{diskRows, nextDisk, nodePlace, opRows, requestOf, tablePlace, nodeNotStored, tableNotStored}
+use Rattle.blockdisk.specs.Records.{defaultNodeRecord, defaultTableRecord, withNode, withTable}
+use Rattle.blockdisk.specs.declared.DiskState.{DiskState}
 use Rattle.blockdisk.specs.declared.DiskCall.{DiskCall}
 use Rattle.blockdisk.specs.declared.DiskOp.{DiskOp}
 use Rattle.blockdisk.specs.declared.DiskOp.the-variants.{NoDiskOp, ReqReadIndirectionTableOp, ReqReadNodeOp, ReqWriteIndirectionTableOp, ReqWriteNodeOp, RespReadIndirectionTableOp, RespReadNodeOp, RespWriteIndirectionTableOp, RespWriteNodeOp}
@@ -72,7 +72,7 @@ module _ (d : ℕ) (r : Records) (on : made d ≡ true) (form : recordsChecked d
         (record {
           nodes-long = length-set (r .nodes) block new-node ∙ h .nodes-long;
           tables-long = h .tables-long;
-          nodes-form = set-each (λ j y. nodeRecordChecked d j y .form) noNodeRecord (r .nodes) 128 block new-node node-fits (node-form-there d block new-node refl f) (h .nodes-form);
+          nodes-form = set-each (λ j y. nodeRecordChecked d j y .form) defaultNodeRecord (r .nodes) 128 block new-node node-fits (node-form-there d block new-node refl f) (h .nodes-form);
           tables-form = h .tables-form;
         }))
 
@@ -83,7 +83,7 @@ module _ (d : ℕ) (r : Records) (on : made d ≡ true) (form : recordsChecked d
         rw (with-node-is d r l x block on node-number)
         (records-placed-iff d node-after .1
         (record {
-          nodes-placed = set-each (λ j y. nodeRecordChecked d j y .placed) noNodeRecord (r .nodes) 128 block new-node node-fits (node-placed-iff d block new-node .1 (λ e. (on, p))) (h .nodes-placed);
+          nodes-placed = set-each (λ j y. nodeRecordChecked d j y .placed) defaultNodeRecord (r .nodes) 128 block new-node node-fits (node-placed-iff d block new-node .1 (λ e. (on, p))) (h .nodes-placed);
           tables-placed = h .tables-placed;
         }))
 
@@ -111,7 +111,7 @@ module _ (d : ℕ) (r : Records) (on : made d ≡ true) (form : recordsChecked d
         (record {
           tables-long = length-set (r .tables) area new-table ∙ h .tables-long;
           nodes-long = h .nodes-long;
-          tables-form = set-each (λ j y. tableRecordChecked d j y .form) noTableRecord (r .tables) 2 area new-table table-fits (table-form-there d area new-table refl f) (h .tables-form);
+          tables-form = set-each (λ j y. tableRecordChecked d j y .form) defaultTableRecord (r .tables) 2 area new-table table-fits (table-form-there d area new-table refl f) (h .tables-form);
           nodes-form = h .nodes-form;
         }))
 
@@ -122,7 +122,7 @@ module _ (d : ℕ) (r : Records) (on : made d ≡ true) (form : recordsChecked d
         rw (with-table-is d r l x area on table-number)
         (records-placed-iff d table-after .1
         (record {
-          tables-placed = set-each (λ j y. tableRecordChecked d j y .placed) noTableRecord (r .tables) 2 area new-table table-fits (table-placed-iff d area new-table .1 (λ e. (on, p))) (h .tables-placed);
+          tables-placed = set-each (λ j y. tableRecordChecked d j y .placed) defaultTableRecord (r .tables) 2 area new-table table-fits (table-placed-iff d area new-table .1 (λ e. (on, p))) (h .tables-placed);
           nodes-placed = h .nodes-placed;
         }))
 
@@ -147,7 +147,7 @@ module _ (d : ℕ) (q : Requests) (id : ℕ) where
 
 -- THE DISK
 
-module _ (d : ℕ) (s : Disk) (f : DiskForm d s) where
+module _ (d : ℕ) (s : DiskState) (f : DiskForm d s) where
   pub op-form-kept : (op : DiskOp) (n : Node) (t : Table) → nodeForm n ≡ true → tableForm t ≡ true → Clear (opRows d s op n t) → DiskForm d (nextDisk d s op n t)
   op-form-kept (ReqReadIndirectionTableOp id l) n t a b c =
       let q = table-request-form d (s .queues .tablereads) id l (f .tablereads) (request-iff (s .queues .tablereads) id (tablePlace d l) .0 c) in search
@@ -168,16 +168,16 @@ module _ (d : ℕ) (s : Disk) (f : DiskForm d s) where
       let y = with-node-placed d (s .records) (f .on) (f .form) (f .placed) l n p in
       search
   op-form-kept (RespReadIndirectionTableOp id x) n t a b c =
-      let q = table-answer-form d (s .queues .tablereads) id (f .tablereads) (answer-ok-iff (s .queues .tablereads) id (wrongTable d s id x t) .0 c .there) in search
+      let q = table-answer-form d (s .queues .tablereads) id (f .tablereads) (answer-ok-iff (s .queues .tablereads) id (tableNotStored d s id x t) .0 c .there) in search
   op-form-kept (RespReadNodeOp id x) n t a b c =
-      let q = node-answer-form d (s .queues .nodereads) id (f .nodereads) (answer-ok-iff (s .queues .nodereads) id (wrongNode d s id x n) .0 c .there) in search
+      let q = node-answer-form d (s .queues .nodereads) id (f .nodereads) (answer-ok-iff (s .queues .nodereads) id (nodeNotStored d s id x n) .0 c .there) in search
   op-form-kept (RespWriteIndirectionTableOp id) n t a b c =
       let q = table-answer-form d (s .queues .tablewrites) id (f .tablewrites) (answer-ok-iff (s .queues .tablewrites) id false .0 c .there) in search
   op-form-kept (RespWriteNodeOp id) n t a b c =
       let q = node-answer-form d (s .queues .nodewrites) id (f .nodewrites) (answer-ok-iff (s .queues .nodewrites) id false .0 c .there) in search
   op-form-kept NoDiskOp n t a b c = f
 
-pub disk-form-kept : (d : ℕ) (s : Disk) (c : DiskCall) → answer (diskRows d s c) ≡ 0 → diskForm d (nextDisk d s (c .op) (c .node) (c .table)) ≡ true
+pub disk-form-kept : (d : ℕ) (s : DiskState) (c : DiskCall) → answer (diskRows d s c) ≡ 0 → diskForm d (nextDisk d s (c .op) (c .node) (c .table)) ≡ true
 disk-form-kept d s c e =
     let a = disk-accepted-iff d s c .0 e in
     disk-form-iff d (nextDisk d s (c .op) (c .node) (c .table)) .1 (op-form-kept d s (a .disk) (c .op) (c .node) (c .table) (a .node) (a .table) (a .rows))

@@ -9,5 +9,5 @@ pub mod Moves
 pub mod Numbers
 pub mod Outstanding
 pub mod Reading
-pub mod Shelf
-pub mod Shelves
+pub mod RecordArray
+pub mod RecordArrays

@@ -10,9 +10,9 @@ use Rattle.blockdisk.proofs.Accepting.{AnswerOk, RequestOk, answer-ok-i
 use Rattle.blockdisk.proofs.Forms.{DiskForm, node-queue-form, table-queue-form}
 use Rattle.blockdisk.proofs.Outstanding.{places-insert, places-remove}
 use Rattle.blockdisk.proofs.Reading.{node-leaves-tables, node-leaves-upstream, nodes-after, replacing, table-leaves-nodes, tables-after, upstream-after}
-use Rattle.blockdisk.specs.Ops.{diskRows, nextDisk, nodePlace, opRows, requestOf, tablePlace, wrongNode, wrongTable}
+use Rattle.blockdisk.specs.Ops.{diskRows, nextDisk, nodePlace, opRows, requestOf, tablePlace, nodeNotStored, tableNotStored}
 use Rattle.blockdisk.specs.Upstream.{Dop, Imap, Variables, diskVars, dopOf, noDiskOp, nodesStored, opOf, places, reqReadIndirectionTable, reqReadNode, reqWriteIndirectionTable, reqWriteNode, respReadIndirectionTable, respReadNode, respWriteIndirectionTable, respWriteNode, setNodes, setReadNodes, setReadTables, setTables, setWriteNodes, setWriteTables, tablesStored, upstreamTables}
-use Rattle.blockdisk.specs.declared.Disk.{Disk}
+use Rattle.blockdisk.specs.declared.DiskState.{DiskState}
 use Rattle.blockdisk.specs.declared.DiskCall.{DiskCall}
 use Rattle.blockdisk.specs.declared.DiskOp.{DiskOp}
 use Rattle.blockdisk.specs.declared.DiskOp.the-variants.{NoDiskOp, ReqReadIndirectionTableOp, ReqReadNodeOp, ReqWriteIndirectionTableOp, ReqWriteNodeOp, RespReadIndirectionTableOp, RespReadNodeOp, RespWriteIndirectionTableOp, RespWriteNodeOp}
@@ -55,7 +55,7 @@ request-places q id l f r = places-insert q id f l (r .room) (r .fresh)
 pub answer-places : (q : Requests) (id : ℕ) {wrong : Bool} → requestsForm q ≡ true → AnswerOk q id wrong → places (removeOf q id) ≡ del (places q) id
 answer-places q id f a = places-remove q id f (a .there)
 
-module _ (d : ℕ) (s : Disk) (f : DiskForm d s) where
+module _ (d : ℕ) (s : DiskState) (f : DiskForm d s) where
   pub op-moves : (op : DiskOp) (n : Node) (t : Table) → Clear (opRows d s op n t) → diskVars d (nextDisk d s op n t) ≡ nextVars (diskVars d s) (opOf op n t)
   op-moves (ReqReadIndirectionTableOp id l) n t c =
       let q = s .queues .tablereads in
@@ -79,10 +79,10 @@ module _ (d : ℕ) (s : Disk) (f : DiskForm d s) where
       λ i. setTables (setNodes (setWriteNodes (diskVars d s) (p i)) (x i)) (y i)
   op-moves (RespReadIndirectionTableOp id b) n t c =
       let q = s .queues .tablereads in
-      ap (setReadTables (diskVars d s)) (answer-places q id (table-queue-form d q (f .tablereads)) (answer-ok-iff q id (wrongTable d s id b t) .0 c))
+      ap (setReadTables (diskVars d s)) (answer-places q id (table-queue-form d q (f .tablereads)) (answer-ok-iff q id (tableNotStored d s id b t) .0 c))
   op-moves (RespReadNodeOp id b) n t c =
       let q = s .queues .nodereads in
-      ap (setReadNodes (diskVars d s)) (answer-places q id (node-queue-form d q (f .nodereads)) (answer-ok-iff q id (wrongNode d s id b n) .0 c))
+      ap (setReadNodes (diskVars d s)) (answer-places q id (node-queue-form d q (f .nodereads)) (answer-ok-iff q id (nodeNotStored d s id b n) .0 c))
   op-moves (RespWriteIndirectionTableOp id) n t c =
       let q = s .queues .tablewrites in
       ap (setWriteTables (diskVars d s)) (answer-places q id (table-queue-form d q (f .tablewrites)) (answer-ok-iff q id false .0 c))
@@ -106,12 +106,12 @@ module _ (d : ℕ) (s : Disk) (f : DiskForm d s) where
   op-tables-move NoDiskOp n t c = refl
 
 -- all six components at once
-pub disk-moves : (d : ℕ) (s : Disk) (c : DiskCall) → answer (diskRows d s c) ≡ 0 → diskVars d (nextDisk d s (c .op) (c .node) (c .table)) ≡ nextVars (diskVars d s) (dopOf c)
+pub disk-moves : (d : ℕ) (s : DiskState) (c : DiskCall) → answer (diskRows d s c) ≡ 0 → diskVars d (nextDisk d s (c .op) (c .node) (c .table)) ≡ nextVars (diskVars d s) (dopOf c)
 disk-moves d s c e = let a = disk-accepted-iff d s c .0 e in op-moves d s (a .disk) (c .op) (c .node) (c .table) (a .rows)
 
 -- and each by itself
-module _ (d : ℕ) (s : Disk) (c : DiskCall) (e : answer (diskRows d s c) ≡ 0) where
-  abbrev next : Disk
+module _ (d : ℕ) (s : DiskState) (c : DiskCall) (e : answer (diskRows d s c) ≡ 0) where
+  abbrev next : DiskState
   next = nextDisk d s (c .op) (c .node) (c .table)
 
   pub table-reads-move : places (next .queues .tablereads) ≡ nextVars (diskVars d s) (dopOf c) .reqReadIndirectionTables

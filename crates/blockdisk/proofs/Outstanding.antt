@@ -16,7 +16,7 @@ use Rattle.blockdisk.specs.Upstream.{places}
 use Rattle.disklayout.specs.declared.Location.{Location}
 use Rattle.queue.proofs.Laws.{insert-form, insert-map, none-form, remove-form, remove-map, scan-iff}
 use Rattle.queue.proofs.Mapped.{mapped-at, mapped-empty-iff, mapped-has, mapped-insert, mapped-none-iff, mapped-of, mapped-remove, mapped-some}
-use Rattle.queue.specs.Queue.{entryOf, hasAddr, hasOf, insertOf, noRequests, removeOf, requestAt, requestsForm, requestsMap}
+use Rattle.queue.specs.Queue.{entryOf, hasAddr, hasOf, insertOf, emptyRequests, removeOf, requestAt, requestsForm, requestsMap}
 use Rattle.queue.specs.declared.Request.{Request}
 use Rattle.queue.specs.declared.Requests.{Requests}
 
@@ -42,9 +42,9 @@ pub places-of : (q : Requests) (id : ℕ) (w : Request) → requestsMap q id ≡
 unfolding places
 places-of = mapped-of placeIn
 
-pub places-none : places noRequests ≡ empty
+pub places-none : places emptyRequests ≡ empty
 unfolding places
-places-none = mapped-empty-iff placeIn noRequests none-form .0 refl
+places-none = mapped-empty-iff placeIn emptyRequests none-form .0 refl
 
 module _ (q : Requests) (id : ℕ) (form : requestsForm q ≡ true) where
   pub places-insert : (l : Location) → q .count < 16 → hasOf q id ≡ false → places (insertOf q (requestOf id l)) ≡ put (places q) id l

@@ -12,8 +12,8 @@ use Rattle.base.proofs.Maps.{flagged-some}
 use Rattle.base.proofs.Tests.{and-both, and-iff, clash, split}
 use Rattle.base.specs.Maps.{flagged}
 use Rattle.blockdisk.proofs.Forms.{records-form-iff}
-use Rattle.blockdisk.proofs.Shelf.{reads, reads-iff, replaced-away, replaced-elsewhere, replaced-same, replaced-update}
-use Rattle.blockdisk.proofs.Shelves.{node-laws, nodeShelf, nodes-are-formed, nodes-are-placed, nodes-read, table-laws, tableShelf, tables-are-formed, tables-are-placed, tables-read, upstream-laws, upstream-read, upstreamShelf}
+use Rattle.blockdisk.proofs.RecordArray.{reads, reads-iff, replaced-away, replaced-elsewhere, replaced-same, replaced-update}
+use Rattle.blockdisk.proofs.RecordArrays.{node-laws, nodeArray, nodes-are-formed, nodes-are-placed, nodes-read, table-laws, tableArray, tables-are-formed, tables-are-placed, tables-read, upstream-laws, upstream-read, upstreamArray}
 use Rattle.blockdisk.specs.Form.{recordsChecked}
 use Rattle.blockdisk.specs.Records.{nodeRecordAt, readNode, readTable, tableRecordAt, withNode, withTable}
 use Rattle.blockdisk.specs.Upstream.{DiskMapUpdate, Imap, nodesStored, tablesStored, upstreamTables}
@@ -95,18 +95,18 @@ upstream-of d r l t e = rw e
 module _ (d : ℕ) (r : Records) (on : made d ≡ true) where
   pub read-node-some : (l : Location) (n : Node) → (nodesStored d r l ≡ some n) ↔ ((k : ℕ) × NodeAt d r l n k)
   read-node-some l n = (
-    (λ e. let h = reads-iff (nodeShelf d) (r .nodes) l n .0 (rw (nodes-read d r on) at e) in
+    (λ e. let h = reads-iff (nodeArray d) (r .nodes) l n .0 (rw (nodes-read d r on) at e) in
         let j = h .1 in
         (h .0, record { within = node-laws d .below (l .addr) (h .0) (j .number); block = j .number; present = j .there; loc = j .loc; node = j .thing })),
-    (λ (k, h). rw (nodes-read d r on) (reads-iff (nodeShelf d) (r .nodes) l n .1 (k, record { number = h .block; there = h .present; loc = h .loc; thing = h .node }))),
+    (λ (k, h). rw (nodes-read d r on) (reads-iff (nodeArray d) (r .nodes) l n .1 (k, record { number = h .block; there = h .present; loc = h .loc; thing = h .node }))),
   )
 
   pub read-table-some : (l : Location) (t : Table) → (tablesStored d r l ≡ some t) ↔ ((k : ℕ) × TableAt d r l t k)
   read-table-some l t = (
-    (λ e. let h = reads-iff (tableShelf d) (r .tables) l t .0 (rw (tables-read d r on) at e) in
+    (λ e. let h = reads-iff (tableArray d) (r .tables) l t .0 (rw (tables-read d r on) at e) in
         let j = h .1 in
         (h .0, record { within = table-laws d .below (l .addr) (h .0) (j .number); area = j .number; present = j .there; loc = j .loc; table = j .thing })),
-    (λ (k, h). rw (tables-read d r on) (reads-iff (tableShelf d) (r .tables) l t .1 (k, record { number = h .area; there = h .present; loc = h .loc; thing = h .table }))),
+    (λ (k, h). rw (tables-read d r on) (reads-iff (tableArray d) (r .tables) l t .1 (k, record { number = h .area; there = h .present; loc = h .loc; thing = h .table }))),
   )
 
   -- a stored place is one that 16 allows
@@ -178,17 +178,17 @@ module _ (d : ℕ) (r : Records) (on : made d ≡ true) (form : recordsChecked d
   node-fits : block < length (r .nodes)
   node-fits = omega (arith, records-form-iff d r .0 form .nodes-long, node-laws d .below (l .addr) block node-at)
 
-  now : nodesStored d (withNode d r l n) ≡ reads (nodeShelf d) (set (r .nodes) block newNode)
+  now : nodesStored d (withNode d r l n) ≡ reads (nodeArray d) (set (r .nodes) block newNode)
   now = ap (nodesStored d) (with-node-is d r l n block on node-at) ∙ nodes-read d (record { tables = r .tables; nodes = set (r .nodes) block newNode }) on
 
   pub node-written : nodesStored d (withNode d r l n) l ≡ some n
-  node-written = rw now (replaced-same (nodeShelf d) (node-laws d) (r .nodes) block newNode node-fits refl node-at)
+  node-written = rw now (replaced-same (nodeArray d) (node-laws d) (r .nodes) block newNode node-fits refl node-at)
 
   pub node-elsewhere : (k : Location) → (k .addr ≡ l .addr → ⊥) → nodesStored d (withNode d r l n) k ≡ nodesStored d r k
-  node-elsewhere k ne = rw (now, nodes-read d r on) (replaced-elsewhere (nodeShelf d) (node-laws d) (r .nodes) block newNode node-fits refl node-at k ne)
+  node-elsewhere k ne = rw (now, nodes-read d r on) (replaced-elsewhere (nodeArray d) (node-laws d) (r .nodes) block newNode node-fits refl node-at k ne)
 
   pub node-replaced : (k : Location) → k .addr ≡ l .addr → (k ≡ l → ⊥) → nodesStored d (withNode d r l n) k ≡ none
-  node-replaced k e ne = rw now (replaced-away (nodeShelf d) (node-laws d) (r .nodes) block newNode node-fits refl node-at k e ne)
+  node-replaced k e ne = rw now (replaced-away (nodeArray d) (node-laws d) (r .nodes) block newNode node-fits refl node-at k e ne)
 
   -- all that is stored afterwards
   pub nodes-after : nodesStored d (withNode d r l n) ≡ replacing (nodesStored d r) l n
@@ -197,7 +197,7 @@ module _ (d : ℕ) (r : Records) (on : made d ≡ true) (form : recordsChecked d
   -- upstream's DiskMapUpdate
   pub node-update : recordsChecked d r .placed ≡ true → DiskMapUpdate (nodesStored d r) (nodesStored d (withNode d r l n)) l n
   node-update placed =
-      rw (now, nodes-read d r on) (replaced-update (nodeShelf d) (node-laws d) (r .nodes) block newNode node-fits refl node-at (nodes-are-placed d r placed) place)
+      rw (now, nodes-read d r on) (replaced-update (nodeArray d) (node-laws d) (r .nodes) block newNode node-fits refl node-at (nodes-are-placed d r placed) place)
 
 -- A TABLE WRITTEN
 
@@ -227,20 +227,20 @@ module _ (d : ℕ) (r : Records) (on : made d ≡ true) (form : recordsChecked d
   abbrev after : Records
   after = record { tables = set (r .tables) area newTable; nodes = r .nodes }
 
-  then : tablesStored d (withTable d r l t) ≡ reads (tableShelf d) (set (r .tables) area newTable)
+  then : tablesStored d (withTable d r l t) ≡ reads (tableArray d) (set (r .tables) area newTable)
   then = ap (tablesStored d) (with-table-is d r l t area on table-at) ∙ tables-read d after on
 
-  upstream-then : upstreamTables d (withTable d r l t) ≡ reads (upstreamShelf d) (set (r .tables) area newTable)
+  upstream-then : upstreamTables d (withTable d r l t) ≡ reads (upstreamArray d) (set (r .tables) area newTable)
   upstream-then = ap (upstreamTables d) (with-table-is d r l t area on table-at) ∙ upstream-read d after on
 
   pub table-written : tablesStored d (withTable d r l t) l ≡ some t
-  table-written = rw then (replaced-same (tableShelf d) (table-laws d) (r .tables) area newTable table-fits refl table-at)
+  table-written = rw then (replaced-same (tableArray d) (table-laws d) (r .tables) area newTable table-fits refl table-at)
 
   pub table-elsewhere : (k : Location) → (k .addr ≡ l .addr → ⊥) → tablesStored d (withTable d r l t) k ≡ tablesStored d r k
-  table-elsewhere k ne = rw (then, tables-read d r on) (replaced-elsewhere (tableShelf d) (table-laws d) (r .tables) area newTable table-fits refl table-at k ne)
+  table-elsewhere k ne = rw (then, tables-read d r on) (replaced-elsewhere (tableArray d) (table-laws d) (r .tables) area newTable table-fits refl table-at k ne)
 
   pub table-replaced : (k : Location) → k .addr ≡ l .addr → (k ≡ l → ⊥) → tablesStored d (withTable d r l t) k ≡ none
-  table-replaced k e ne = rw then (replaced-away (tableShelf d) (table-laws d) (r .tables) area newTable table-fits refl table-at k e ne)
+  table-replaced k e ne = rw then (replaced-away (tableArray d) (table-laws d) (r .tables) area newTable table-fits refl table-at k e ne)
 
   pub tables-after : tablesStored d (withTable d r l t) ≡ replacing (tablesStored d r) l t
   tables-after = replaced-map (tablesStored d r) (tablesStored d (withTable d r l t)) l t table-written table-elsewhere table-replaced
@@ -257,4 +257,4 @@ module _ (d : ℕ) (r : Records) (on : made d ≡ true) (form : recordsChecked d
   pub table-update : recordsChecked d r .placed ≡ true → DiskMapUpdate (upstreamTables d r) (upstreamTables d (withTable d r l t)) l (indirectionTable t)
   table-update placed =
       rw (upstream-then, upstream-read d r on)
-      (replaced-update (upstreamShelf d) (upstream-laws d) (r .tables) area newTable table-fits refl table-at (tables-are-placed d r indirectionTable placed) place)
+      (replaced-update (upstreamArray d) (upstream-laws d) (r .tables) area newTable table-fits refl table-at (tables-are-placed d r indirectionTable placed) place)

@@ -7,14 +7,14 @@ use Rattle.base.specs.Refusals.{Row, _when_}
 use Rattle.base.specs.Scan.{allBelow}
 use Rattle.blockdisk.specs.Form.{diskForm, recordsChecked}
 use Rattle.blockdisk.specs.Ops.{outcome}
-use Rattle.blockdisk.specs.Records.{noNodeRecord, noTableRecord}
-use Rattle.blockdisk.specs.declared.Disk.{Disk}
+use Rattle.blockdisk.specs.Records.{defaultNodeRecord, defaultTableRecord}
+use Rattle.blockdisk.specs.declared.DiskState.{DiskState}
 use Rattle.blockdisk.specs.declared.DiskOutcome.{DiskOutcome}
 use Rattle.blockdisk.specs.declared.NodeRecord.{NodeRecord}
 use Rattle.blockdisk.specs.declared.Queues.{Queues}
 use Rattle.blockdisk.specs.declared.Records.{Records}
 use Rattle.blockdisk.specs.declared.TableRecord.{TableRecord}
-use Rattle.queue.specs.Queue.{hasAddr, noRequests}
+use Rattle.queue.specs.Queue.{hasAddr, emptyRequests}
 use Rattle.queue.specs.declared.Requests.{Requests}
 use Rattle.sectortype.specs.Same.{sameLoc, sameNode, sameTable}
 
@@ -32,26 +32,26 @@ abbrev pub keptNode : Requests → NodeRecord → NodeRecord → Bool
 keptNode q a b = not (a .present) || hasAddr q (a .loc .addr) || sameNodeRecord a b
 
 unfoldable pub tablesKept : Requests → List TableRecord → List TableRecord → Bool
-tablesKept q old new = keptTable q (getD old 0 noTableRecord) (getD new 0 noTableRecord) && keptTable q (getD old 1 noTableRecord) (getD new 1 noTableRecord)
+tablesKept q old new = keptTable q (getD old 0 defaultTableRecord) (getD new 0 defaultTableRecord) && keptTable q (getD old 1 defaultTableRecord) (getD new 1 defaultTableRecord)
 
 unfoldable pub nodesKept : Requests → List NodeRecord → List NodeRecord → Bool
-nodesKept q old new = allBelow (λ k. keptNode q (getD old k noNodeRecord) (getD new k noNodeRecord)) 128
+nodesKept q old new = allBelow (λ k. keptNode q (getD old k defaultNodeRecord) (getD new k defaultNodeRecord)) 128
 
 unfoldable pub recordsKept : Queues → Records → Records → Bool
 recordsKept qs old new = tablesKept (qs .tablewrites) (old .tables) (new .tables) && nodesKept (qs .nodewrites) (old .nodes) (new .nodes)
 
 abbrev pub emptyQueues : Queues
-emptyQueues = record { tablereads = noRequests; nodereads = noRequests; tablewrites = noRequests; nodewrites = noRequests }
+emptyQueues = record { tablereads = emptyRequests; nodereads = emptyRequests; tablewrites = emptyRequests; nodewrites = emptyRequests }
 
 -- an offered record's place is judged by 19 alone, its node or table, and an absent one that isn't zeros, by 1
-abbrev pub crashRows : ℕ → Disk → Records → List Row
+abbrev pub crashRows : ℕ → DiskState → Records → List Row
 crashRows d s o =
     (1 when not (diskForm d s && recordsChecked d o .form)) ∷
     (19 when not (recordsChecked d o .placed && recordsKept (s .queues) (s .records) o)) ∷
     []
 
-abbrev pub crashed : Records → Disk
+abbrev pub crashed : Records → DiskState
 crashed o = record { records = o; queues = emptyQueues }
 
-unfoldable pub diskCrash : ℕ → Disk → Records → DiskOutcome
+unfoldable pub diskCrash : ℕ → DiskState → Records → DiskOutcome
 diskCrash d s o = outcome (crashRows d s o) (crashed o) s

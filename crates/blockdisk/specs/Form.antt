@@ -5,9 +5,9 @@ use mathlib.Core.List.{List}
 use lib.Dec.{eqb, ltb}
 use lib.ListN.{getD, length}
 use Rattle.base.specs.Scan.{allBelow}
-use Rattle.blockdisk.specs.Records.{noNodeRecord, noTableRecord}
+use Rattle.blockdisk.specs.Records.{defaultNodeRecord, defaultTableRecord}
 use Rattle.blockdisk.specs.declared.Checked.{Checked}
-use Rattle.blockdisk.specs.declared.Disk.{Disk}
+use Rattle.blockdisk.specs.declared.DiskState.{DiskState}
 use Rattle.blockdisk.specs.declared.NodeRecord.{NodeRecord}
 use Rattle.blockdisk.specs.declared.Queues.{Queues}
 use Rattle.blockdisk.specs.declared.Records.{Records}
@@ -40,15 +40,15 @@ nodeRecordChecked d k r =
 unfoldable pub tablesChecked : ℕ → List TableRecord → Checked
 tablesChecked d l =
     record {
-      form = tableRecordChecked d 0 (getD l 0 noTableRecord) .form && tableRecordChecked d 1 (getD l 1 noTableRecord) .form;
-      placed = tableRecordChecked d 0 (getD l 0 noTableRecord) .placed && tableRecordChecked d 1 (getD l 1 noTableRecord) .placed;
+      form = tableRecordChecked d 0 (getD l 0 defaultTableRecord) .form && tableRecordChecked d 1 (getD l 1 defaultTableRecord) .form;
+      placed = tableRecordChecked d 0 (getD l 0 defaultTableRecord) .placed && tableRecordChecked d 1 (getD l 1 defaultTableRecord) .placed;
     }
 
 unfoldable pub nodesChecked : ℕ → List NodeRecord → Checked
 nodesChecked d l =
     record {
-      form = allBelow (λ k. nodeRecordChecked d k (getD l k noNodeRecord) .form) 128;
-      placed = allBelow (λ k. nodeRecordChecked d k (getD l k noNodeRecord) .placed) 128;
+      form = allBelow (λ k. nodeRecordChecked d k (getD l k defaultNodeRecord) .form) 128;
+      placed = allBelow (λ k. nodeRecordChecked d k (getD l k defaultNodeRecord) .placed) 128;
     }
 
 -- form: two areas and 128 blocks, each record in its own form. placed: each in its own area or block
@@ -76,5 +76,5 @@ unfoldable pub queuesForm : ℕ → Queues → Bool
 queuesForm d qs =
     tableQueueForm d (qs .tablereads) && nodeQueueForm d (qs .nodereads) && tableQueueForm d (qs .tablewrites) && nodeQueueForm d (qs .nodewrites)
 
-unfoldable pub diskForm : ℕ → Disk → Bool
+unfoldable pub diskForm : ℕ → DiskState → Bool
 diskForm d s = made d && recordsChecked d (s .records) .form && recordsChecked d (s .records) .placed && queuesForm d (s .queues)

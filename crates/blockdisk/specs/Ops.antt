@@ -8,7 +8,7 @@ use Rattle.blockdisk.specs.Form.{diskForm}
 use Rattle.blockdisk.specs.Records.{readNode, readTable, withNode, withTable}
 use Rattle.blockdisk.specs.declared.Brought.{Brought}
 use Rattle.blockdisk.specs.declared.Brought.the-variants.{Nothing, Something}
-use Rattle.blockdisk.specs.declared.Disk.{Disk}
+use Rattle.blockdisk.specs.declared.DiskState.{DiskState}
 use Rattle.blockdisk.specs.declared.DiskCall.{DiskCall}
 use Rattle.blockdisk.specs.declared.DiskOp.{DiskOp}
 use Rattle.blockdisk.specs.declared.DiskOp.the-variants.{NoDiskOp, ReqReadIndirectionTableOp, ReqReadNodeOp, ReqWriteIndirectionTableOp, ReqWriteNodeOp, RespReadIndirectionTableOp, RespReadNodeOp, RespWriteIndirectionTableOp, RespWriteNodeOp}
@@ -64,13 +64,13 @@ somethingIn Something = true
 somethingIn Nothing = false
 
 -- 17: something other than what is stored at exactly the place asked for
-unfoldable pub wrongTable : ℕ → Disk → ℕ → Brought → Table → Bool
-wrongTable d s id b t =
+unfoldable pub tableNotStored : ℕ → DiskState → ℕ → Brought → Table → Bool
+tableNotStored d s id b t =
     somethingIn b &&
     not (readTable d (s .records) (entryOf (s .queues .tablereads) id .loc) .present && sameTable (readTable d (s .records) (entryOf (s .queues .tablereads) id .loc) .table) t)
 
-unfoldable pub wrongNode : ℕ → Disk → ℕ → Brought → Node → Bool
-wrongNode d s id b n =
+unfoldable pub nodeNotStored : ℕ → DiskState → ℕ → Brought → Node → Bool
+nodeNotStored d s id b n =
     somethingIn b &&
     not (readNode d (s .records) (entryOf (s .queues .nodereads) id .loc) .present && sameNode (readNode d (s .records) (entryOf (s .queues .nodereads) id .loc) .node) n)
 
@@ -82,39 +82,39 @@ tablePlace d l = flag d (ValidIndirectionTableLocation (deviceOf d) l) .yes
 abbrev pub nodePlace : ℕ → Location → Bool
 nodePlace d l = flag d (NodePlace (deviceOf d) l) .yes
 
-abbrev pub opRows : ℕ → Disk → DiskOp → Node → Table → List Row
+abbrev pub opRows : ℕ → DiskState → DiskOp → Node → Table → List Row
 opRows d s (ReqReadIndirectionTableOp id l) n t = requestRows (s .queues .tablereads) id (tablePlace d l)
 opRows d s (ReqReadNodeOp id l) n t = requestRows (s .queues .nodereads) id (nodePlace d l)
 opRows d s (ReqWriteIndirectionTableOp id l) n t = requestRows (s .queues .tablewrites) id (tablePlace d l)
 opRows d s (ReqWriteNodeOp id l) n t = requestRows (s .queues .nodewrites) id (nodePlace d l)
-opRows d s (RespReadIndirectionTableOp id b) n t = answerRows (s .queues .tablereads) id (wrongTable d s id b t)
-opRows d s (RespReadNodeOp id b) n t = answerRows (s .queues .nodereads) id (wrongNode d s id b n)
+opRows d s (RespReadIndirectionTableOp id b) n t = answerRows (s .queues .tablereads) id (tableNotStored d s id b t)
+opRows d s (RespReadNodeOp id b) n t = answerRows (s .queues .nodereads) id (nodeNotStored d s id b n)
 opRows d s (RespWriteIndirectionTableOp id) n t = answerRows (s .queues .tablewrites) id false
 opRows d s (RespWriteNodeOp id) n t = answerRows (s .queues .nodewrites) id false
 opRows d s NoDiskOp n t = []
 
 -- THE NEXT DISK OF EACH OPERATION
 
-abbrev pub withTableReads : Disk → Requests → Disk
+abbrev pub withTableReads : DiskState → Requests → DiskState
 withTableReads s q =
     record { records = s .records; queues = record { tablereads = q; nodereads = s .queues .nodereads; tablewrites = s .queues .tablewrites; nodewrites = s .queues .nodewrites } }
 
-abbrev pub withNodeReads : Disk → Requests → Disk
+abbrev pub withNodeReads : DiskState → Requests → DiskState
 withNodeReads s q =
     record { records = s .records; queues = record { tablereads = s .queues .tablereads; nodereads = q; tablewrites = s .queues .tablewrites; nodewrites = s .queues .nodewrites } }
 
-abbrev pub withTableWrites : Disk → Requests → Disk
+abbrev pub withTableWrites : DiskState → Requests → DiskState
 withTableWrites s q =
     record { records = s .records; queues = record { tablereads = s .queues .tablereads; nodereads = s .queues .nodereads; tablewrites = q; nodewrites = s .queues .nodewrites } }
 
-abbrev pub withNodeWrites : Disk → Requests → Disk
+abbrev pub withNodeWrites : DiskState → Requests → DiskState
 withNodeWrites s q =
     record { records = s .records; queues = record { tablereads = s .queues .tablereads; nodereads = s .queues .nodereads; tablewrites = s .queues .tablewrites; nodewrites = q } }
 
-abbrev pub withRecords : Disk → Records → Disk
+abbrev pub withRecords : DiskState → Records → DiskState
 withRecords s r = record { records = r; queues = s .queues }
 
-abbrev pub nextDisk : ℕ → Disk → DiskOp → Node → Table → Disk
+abbrev pub nextDisk : ℕ → DiskState → DiskOp → Node → Table → DiskState
 nextDisk d s (ReqReadIndirectionTableOp id l) n t = withTableReads s (insertOf (s .queues .tablereads) (requestOf id l))
 nextDisk d s (ReqReadNodeOp id l) n t = withNodeReads s (insertOf (s .queues .nodereads) (requestOf id l))
 nextDisk d s (ReqWriteIndirectionTableOp id l) n t = withRecords (withTableWrites s (insertOf (s .queues .tablewrites) (requestOf id l))) (withTable d (s .records) l t)
@@ -127,18 +127,18 @@ nextDisk d s NoDiskOp n t = s
 
 -- THE CALL
 
-abbrev pub outcome : List Row → Disk → Disk → DiskOutcome
+abbrev pub outcome : List Row → DiskState → DiskState → DiskOutcome
 outcome rows next old = record { answer = answer rows; disk = settled rows next old }
 
-abbrev pub obeyedOp : ℕ → Disk → DiskOp → Node → Table → DiskOutcome
-obeyedOp d s op n t = outcome (opRows d s op n t) (nextDisk d s op n t) s
+abbrev pub opOutcome : ℕ → DiskState → DiskOp → Node → Table → DiskOutcome
+opOutcome d s op n t = outcome (opRows d s op n t) (nextDisk d s op n t) s
 
 -- an operation on a disk in its written form
-unfoldable pub obeyed : ℕ → Disk → DiskCall → DiskOutcome
-obeyed d s c = obeyedOp d s (c .op) (c .node) (c .table)
+unfoldable pub callOutcome : ℕ → DiskState → DiskCall → DiskOutcome
+callOutcome d s c = opOutcome d s (c .op) (c .node) (c .table)
 
-abbrev pub diskRows : ℕ → Disk → DiskCall → List Row
+abbrev pub diskRows : ℕ → DiskState → DiskCall → List Row
 diskRows d s c = (1 when not (diskForm d s && nodeForm (c .node) && tableForm (c .table))) ∷ opRows d s (c .op) (c .node) (c .table)
 
-unfoldable pub diskStep : ℕ → Disk → DiskCall → DiskOutcome
+unfoldable pub diskStep : ℕ → DiskState → DiskCall → DiskOutcome
 diskStep d s c = outcome (diskRows d s c) (nextDisk d s (c .op) (c .node) (c .table)) s

@@ -7,11 +7,11 @@ use Rattle.blockdisk.specs.declared.NodeRecord.{NodeRecord}
 use Rattle.blockdisk.specs.declared.Records.{Records}
 use Rattle.blockdisk.specs.declared.TableRecord.{TableRecord}
 use Rattle.disklayout.specs.Blocks.{NodeBlockOf, TableAreaOf}
-use Rattle.disklayout.specs.Calls.{numberOption}
+use Rattle.disklayout.specs.Calls.{numberOption, zeroLoc}
 use Rattle.disklayout.specs.Device.{deviceOf}
 use Rattle.disklayout.specs.declared.Location.{Location}
 use Rattle.disklayout.specs.declared.NumberOption.{NumberOption}
-use Rattle.sectortype.specs.Form.{emptyTable, noSuccs, zeroLoc, zeroNode}
+use Rattle.sectortype.specs.Form.{emptyTable, defaultSuccs, zeroNode}
 use Rattle.sectortype.specs.Same.{sameLoc}
 use Rattle.sectortype.specs.declared.Node.{Node}
 use Rattle.sectortype.specs.declared.Table.{Table}
@@ -26,17 +26,17 @@ abbrev pub emptyRecords : Records
 emptyRecords = record { tables = replicate 2 zeroTableRecord; nodes = replicate 128 zeroNodeRecord }
 
 -- what a read past the end would give
-abbrev pub noTableRecord : TableRecord
-noTableRecord = record { present = false; loc = zeroLoc; table = record { count = 0; entries = [] } }
+abbrev pub defaultTableRecord : TableRecord
+defaultTableRecord = record { present = false; loc = zeroLoc; table = record { count = 0; entries = [] } }
 
-abbrev pub noNodeRecord : NodeRecord
-noNodeRecord = record { present = false; loc = zeroLoc; node = record { contents = 0; succs = noSuccs } }
+abbrev pub defaultNodeRecord : NodeRecord
+defaultNodeRecord = record { present = false; loc = zeroLoc; node = record { contents = 0; succs = defaultSuccs } }
 
 abbrev pub tableRecordAt : Records → ℕ → TableRecord
-tableRecordAt r k = getD (r .tables) k noTableRecord
+tableRecordAt r k = getD (r .tables) k defaultTableRecord
 
 abbrev pub nodeRecordAt : Records → ℕ → NodeRecord
-nodeRecordAt r k = getD (r .nodes) k noNodeRecord
+nodeRecordAt r k = getD (r .nodes) k defaultNodeRecord
 
 -- the area, the block that has a place's address
 abbrev pub areaOf : ℕ → Location → NumberOption

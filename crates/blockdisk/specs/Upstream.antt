@@ -8,7 +8,7 @@ use mathlib.Core.Path.{_≡_}
 use Rattle.base.specs.Maps.{Map, del, empty, flagged, isSome, put}
 use Rattle.blockdisk.specs.Ops.{somethingIn}
 use Rattle.blockdisk.specs.Records.{readNode, readTable}
-use Rattle.blockdisk.specs.declared.Disk.{Disk}
+use Rattle.blockdisk.specs.declared.DiskState.{DiskState}
 use Rattle.blockdisk.specs.declared.DiskCall.{DiskCall}
 use Rattle.blockdisk.specs.declared.DiskOp.{DiskOp}
 use Rattle.blockdisk.specs.declared.DiskOp.the-variants.{NoDiskOp, ReqReadIndirectionTableOp, ReqReadNodeOp, ReqWriteIndirectionTableOp, ReqWriteNodeOp, RespReadIndirectionTableOp, RespReadNodeOp, RespWriteIndirectionTableOp, RespWriteNodeOp}
@@ -213,7 +213,7 @@ nodesStored d r = λ l. flagged (readNode d r l .present) (readNode d r l .node)
 unfoldable pub upstreamTables : ℕ → Records → Imap IndirectionTable
 upstreamTables d r = λ l. Option·map indirectionTable (tablesStored d r l)
 
-abbrev pub diskVars : ℕ → Disk → Variables
+abbrev pub diskVars : ℕ → DiskState → Variables
 diskVars d s =
     record {
       reqReadIndirectionTables = places (s .queues .tablereads);

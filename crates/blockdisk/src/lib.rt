@@ -33,7 +33,7 @@ pub struct Queues {
     pub nodewrites: Requests,
 }
 
-pub struct Disk {
+pub struct DiskState {
     pub records: Records,
     pub queues: Queues,
 }
@@ -67,7 +67,7 @@ pub struct DiskCall {
 // What a call of the disk returns: document 01's number, and the disk, unchanged where the number is not 0.
 pub struct DiskOutcome {
     pub answer: u64,
-    pub disk: Disk,
+    pub disk: DiskState,
 }
 
 // What one walk over stored or offered records finds: each record is in its written form; each lies in its own area or block.

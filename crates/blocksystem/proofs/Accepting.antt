@@ -11,7 +11,7 @@ use Rattle.base.proofs.Tests.{never}
 use Rattle.base.specs.Refusals.{answer, lowest}
 use Rattle.blockcache.proofs.Outcomes.{step-answer, step-taken}
 use Rattle.blockcache.specs.Step.{cacheRows, cacheStep, stepNext}
-use Rattle.blockcache.specs.declared.Cache.{Cache}
+use Rattle.blockcache.specs.declared.CacheState.{CacheState}
 use Rattle.blockcache.specs.declared.Call.{Call}
 use Rattle.blockdisk.proofs.Crashing.{crash-keeps-node, crash-keeps-table}
 use Rattle.blockdisk.proofs.Outstanding.{places-none}
@@ -19,16 +19,16 @@ use Rattle.blockdisk.proofs.Reading.{upstream-of, upstream-some}
 use Rattle.blockdisk.specs.Crash.{crashRows, crashed, diskCrash}
 use Rattle.blockdisk.specs.Ops.{diskRows, diskStep, nextDisk}
 use Rattle.blockdisk.specs.Upstream.{diskVars, places}
-use Rattle.blockdisk.specs.declared.Disk.{Disk}
+use Rattle.blockdisk.specs.declared.DiskState.{DiskState}
 use Rattle.blockdisk.specs.declared.Records.{Records}
-use Rattle.queue.specs.Queue.{noRequests}
+use Rattle.queue.specs.Queue.{emptyRequests}
 use Rattle.blocksystem.proofs.Invariant.{NoneQueued}
 use Rattle.blocksystem.proofs.KeepQueues.{Survives}
 use Rattle.blocksystem.specs.Joined.{diskAsked, diskCall, joined, joinedAnswer, startRows}
 
 -- THE DISK'S HALF
 
-module _ (d : ℕ) (n : ℕ) (q : Call) (o : Records) (s : Disk) where
+module _ (d : ℕ) (n : ℕ) (q : Call) (o : Records) (s : DiskState) where
   module _ (e : eqb n 18 ≡ false) where
     pub disk-answer : diskAsked d n q o s .answer ≡ answer (diskRows d s (diskCall n q))
     unfolding diskAsked diskStep
@@ -48,22 +48,22 @@ module _ (d : ℕ) (n : ℕ) (q : Call) (o : Records) (s : Disk) where
     crash-next z = rw (e, eq-eqb _ _ z)
 
 -- a crash leaves what no write was outstanding for
-pub survives : (d : ℕ) (s : Disk) (o : Records) → answer (crashRows d s o) ≡ 0 → Survives (diskVars d s) (diskVars d (crashed o))
+pub survives : (d : ℕ) (s : DiskState) (o : Records) → answer (crashRows d s o) ≡ 0 → Survives (diskVars d s) (diskVars d (crashed o))
 survives d s o e =
     record {
-      idle = record { no-table-reads = quiet; no-node-reads = quiet; no-table-writes = quiet; no-node-writes = quiet };
+      idle = record { no-table-reads = none-queued; no-node-reads = none-queued; no-table-writes = none-queued; no-node-writes = none-queued };
       tables = λ k t h free.
           let x = upstream-some d (s .records) k h in
           upstream-of d o k (x .0) (crash-keeps-table d s o e k (x .0) (x .1) free) ∙ ap some (x .2);
       nodes = λ k n h free. crash-keeps-node d s o e k n h free;
     }
   where
-    quiet : NoneQueued (places noRequests)
-    quiet id k h = never (rw places-none at h)
+    none-queued : NoneQueued (places emptyRequests)
+    none-queued id k h = never (rw places-none at h)
 
 -- BOTH
 
-module _ (d : ℕ) (n : ℕ) (q : Call) (o : Records) (c : Cache) (s : Disk) where
+module _ (d : ℕ) (n : ℕ) (q : Call) (o : Records) (c : CacheState) (s : DiskState) where
   -- accepted exactly where cache, disk and the row of a start accept
   pub joined-zero : (joinedAnswer d n q o c s ≡ 0) ↔ ((answer (cacheRows d c n q) ≡ 0) × (diskAsked d n q o s .answer ≡ 0) × (answer (startRows d n q s) ≡ 0))
   unfolding joinedAnswer

@@ -13,7 +13,7 @@ use Rattle.base.specs.Refusals.{Row, _when_, answer, ascending, holds, lowest}
 use Rattle.blockcache.proofs.Numbers.{by-number}
 use Rattle.blockcache.proofs.Outcomes.{step-answer}
 use Rattle.blockcache.specs.Step.{cacheRows, stepRows, wellFormed}
-use Rattle.blockcache.specs.declared.Cache.{Cache}
+use Rattle.blockcache.specs.declared.CacheState.{CacheState}
 use Rattle.blockcache.specs.declared.Call.{Call}
 use Rattle.blockdisk.proofs.Accepting.{disk-ascending}
 use Rattle.blockdisk.proofs.Crashing.{crash-ascending}
@@ -87,7 +87,7 @@ outside-lowest b =
     is : (b : Bool) (k : ℕ) → ((eqb 1 k && b) || ((eqb 1 k && true) || false)) ≡ true → 1 ≤ k
     is b k h = split (eqb 1 k) (λ t. let e : 1 ≡ k = eqb-true 1 k t in omega arith) (λ t. absurd (false≢true (rw t at h)))
 
-pub cache-lowest : (d : ℕ) (c : Cache) (n : ℕ) (q : Call) → Lowest (answer (cacheRows d c n q)) (λ k. holds k (cacheRows d c n q))
+pub cache-lowest : (d : ℕ) (c : CacheState) (n : ℕ) (q : Call) → Lowest (answer (cacheRows d c n q)) (λ k. holds k (cacheRows d c n q))
 unfolding stepRows
 cache-lowest d c n q =
     by-number (λ n. Lowest (answer (cacheRows d c n q)) (λ k. holds k (cacheRows d c n q)))

@@ -9,7 +9,7 @@ use Rattle.base.specs.Maps.{isSome}
 use Rattle.blockdisk.proofs.Reading.{node-read-iff, table-read-iff, upstream-some}
 use Rattle.blockdisk.specs.Records.{readNode, readTable, zeroNodeRecord}
 use Rattle.blockdisk.specs.Upstream.{diskVars}
-use Rattle.blockdisk.specs.declared.Disk.{Disk}
+use Rattle.blockdisk.specs.declared.DiskState.{DiskState}
 use Rattle.blockdisk.specs.declared.NodeRecord.{NodeRecord}
 use Rattle.sectortype.proofs.Equal.{same-node-iff}
 use Rattle.sectortype.proofs.Maps.{in-locs, in-nodes, locs-at, nodes-form-at, nodes-some}
@@ -45,7 +45,7 @@ module _ (x : NodeRecord) (s : Slot) (a : Agrees x s) where
   not-altered : isAltered x s ≡ false
   not-altered = split (x .present) (λ e. rw (e, sym (a .both) ∙ e, a .same e)) (λ e. rw e)
 
-module _ (d : ℕ) (s : Disk) (m : Named) (h : KeptOn d (diskVars d s) (m .place) (nodesMap (m .picture))) (form : nodesForm (m .picture) ≡ true) where
+module _ (d : ℕ) (s : DiskState) (m : Named) (h : KeptOn d (diskVars d s) (m .place) (nodesMap (m .picture))) (form : nodesForm (m .picture) ≡ true) where
   abbrev stored : Table
   stored = upstream-some d (s .records) (m .place) (h .stored) .0
 
@@ -61,8 +61,8 @@ module _ (d : ℕ) (s : Disk) (m : Named) (h : KeptOn d (diskVars d s) (m .place
       let l = entryAt stored k .loc in
       let z = h .located k l (rw locs-are at (locs-at stored k e)) in
       let x = node-read-iff d (s .records) l (z .node) .0 (z .stored) in
-      let p = nodes-some (m .picture) k (z .drawn) in
-      let f = nodes-form-at (m .picture) form k (z .node) (z .drawn) in
+      let p = nodes-some (m .picture) k (z .pictured) in
+      let f = nodes-form-at (m .picture) form k (z .node) (z .pictured) in
       record { both = x .0 ∙ sym (p .0); same = λ y. rw (x .1, p .1) (same-node-iff (z .node) (z .node) f f .1 refl) }
 
   -- any other is neither on the disk nor in the picture

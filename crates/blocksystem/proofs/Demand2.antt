@@ -17,7 +17,7 @@ use Rattle.blockcache.specs.Ops.{vopKind, vopLoc}
 use Rattle.blockcache.specs.Step.{stepNext}
 use Rattle.blockcache.specs.Steps.{IdleVop, NextStep, Step, cacheVars, callOp, crashStep, readStep, stepOf}
 use Rattle.blockcache.specs.Upstream.{Variables as MVariables, unready}
-use Rattle.blockcache.specs.declared.Cache.{Cache}
+use Rattle.blockcache.specs.declared.CacheState.{CacheState}
 use Rattle.blockcache.specs.declared.Call.{Call}
 use Rattle.blockcache.specs.declared.VersionOp.{VersionOp}
 use Rattle.blockcache.specs.declared.VersionOp.the-variants.{AdvanceOp, CleanUpOp, CrashOp, FreezeOp, JournalInternalOp, PopSyncOp, PushSyncOp, SendFrozenLocOp, SendPersistentLocOp, StatesInternalOp}
@@ -26,7 +26,7 @@ use Rattle.blockdisk.proofs.Demand2.{crash-accepted, disk-accepted, disk-allowe
 use Rattle.blockdisk.specs.Crash.{crashRows, crashed}
 use Rattle.blockdisk.specs.Ops.{diskRows, nextDisk}
 use Rattle.blockdisk.specs.Upstream.{Dop, diskVars}
-use Rattle.blockdisk.specs.declared.Disk.{Disk}
+use Rattle.blockdisk.specs.declared.DiskState.{DiskState}
 use Rattle.blockdisk.specs.declared.Records.{Records}
 use Rattle.disklayout.specs.declared.Location.{Location}
 use Rattle.sectortype.specs.declared.Node.{Node}
@@ -105,7 +105,7 @@ module _ (d : ℕ) (s s' : MVariables) (q : Call) where
 
 -- THE ROW OF A START
 
-start-iff : (d n : ℕ) (q : Call) (s : Disk) → (answer (startRows d n q s) ≡ 0) ↔ (eqb n 10 ≡ true → wholeGraph d (s .records) (vopLoc (q .vop)) ≡ true)
+start-iff : (d n : ℕ) (q : Call) (s : DiskState) → (answer (startRows d n q s) ≡ 0) ↔ (eqb n 10 ≡ true → wholeGraph d (s .records) (vopLoc (q .vop)) ≡ true)
 start-iff d n q s = (
   (λ e. let h = simp (and-false-iff, not-iff) at (accepted-iff (startRows d n q s) refl .0 e) in h .0),
   (λ h. accepted-iff (startRows d n q s) refl .1 (simp (and-false-iff, not-iff) (h, tt))),
@@ -113,7 +113,7 @@ start-iff d n q s = (
 
 -- A STEP OF THE MACHINE
 
-module _ (d n : ℕ) (q : Call) (o : Records) (c : Cache) (s : Disk) where
+module _ (d n : ℕ) (q : Call) (o : Records) (c : CacheState) (s : DiskState) where
   module _ (ne : eqb n 18 ≡ false) where
     abbrev after : Variables
     after = record { machine = cacheVars (stepNext d c n (q .reference) q); disk = diskVars d (nextDisk d s (diskCall n q .op) (q .node) (q .table)) }
@@ -154,7 +154,7 @@ module _ (d n : ℕ) (q : Call) (o : Records) (c : Cache) (s : Disk) where
 
 -- A CRASH
 
-module _ (d : ℕ) (q : Call) (o : Records) (c : Cache) (s : Disk) where
+module _ (d : ℕ) (q : Call) (o : Records) (c : CacheState) (s : DiskState) where
   crash-op : (s' : MVariables) → ((step : Step) × (stepOf 18 (q .reference) (q .node) ≡ some step) × NextStep d (cacheVars c) s' (callOp q) (q .vop) step) → q .vop ≡ CrashOp
   unfolding stepOf
   crash-op s' x = next-of d (cacheVars c) s' q (callOp q) (q .vop) (stepOf 18 (q .reference) (q .node)) (x .0) (x .1) (x .2) .0
@@ -176,7 +176,7 @@ module _ (d : ℕ) (q : Call) (o : Records) (c : Cache) (s : Disk) where
 
 -- THE THEOREMS
 
-module _ (d n : ℕ) (q : Call) (o : Records) (c : Cache) (s : Disk) where
+module _ (d n : ℕ) (q : Call) (o : Records) (c : CacheState) (s : DiskState) where
   pub joined-accepted : (joinedAnswer d n q o c s ≡ 0) ↔ (NoNarrowing d n q o c s × SystemAllows d n q o c s)
   joined-accepted = (to, (λ h. from (h .0) (h .1)))
     where

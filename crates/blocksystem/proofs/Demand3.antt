@@ -28,8 +28,8 @@ all-answered d (k ∷ ks) s = (answered-as d s k, all-answered d ks (moved d s k
 -- where the invariant holds, nothing is lost, added or altered
 pub holds-nothing-lost : (d : ℕ) (s : State) → Invariant d s → nothingLost d s
 holds-nothing-lost d s v = (
-  (λ e. none-counted d (s .disk) (s .story .first) (v .whole .first) (v .story-form .first)),
-  (λ e. none-counted d (s .disk) (s .story .second) (v .whole .second (s .story .second .place) (rw e)) (v .story-form .second)),
+  (λ e. none-counted d (s .disk) (s .pictures .first) (v .whole .first) (v .pictures-form .first)),
+  (λ e. none-counted d (s .disk) (s .pictures .second) (v .whole .second (s .pictures .second .place) (rw e)) (v .pictures-form .second)),
 )
 
 pub nothing-lost : (d : ℕ) → made d ≡ true → (x : ℕ) (calls : List JoinedCall) → startsNamed d (start d x) calls ≡ true → Answered d (start d x) calls × nothingLost d (after d (start d x) calls)

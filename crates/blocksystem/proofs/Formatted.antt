@@ -30,7 +30,7 @@ use Rattle.disklayout.specs.Blocks.{NodeBlockOf, NodePlace, TableAreaOf}
 use Rattle.disklayout.specs.Device.{deviceOf, devices, made}
 use Rattle.disklayout.specs.Layout.{ValidIndirectionTableAddr, ValidIndirectionTableLocation, ValidNodeAddr, ValidNodeLocation}
 use Rattle.disklayout.specs.declared.Location.{Location}
-use Rattle.queue.specs.Queue.{noRequests}
+use Rattle.queue.specs.Queue.{emptyRequests}
 use Rattle.sectortype.proofs.Forms.{empty-nodes-form, empty-table-form, with-entry-form, with-slot-form, zero-succs-form}
 use Rattle.sectortype.proofs.Maps.{empty-graph, empty-locs, empty-nodes, graph-put, locs-put, nodes-put}
 use Rattle.sectortype.specs.Abstract.{graphOf, indirectionTable, locsOf, nodesMap}
@@ -38,7 +38,7 @@ use Rattle.sectortype.specs.Form.{emptyNodes, emptyTable, nodesForm, succAt, ta
 use Rattle.blocksystem.proofs.Invariant.{Invariant, KeptOn, ListsAgree, NoneQueued}
 use Rattle.blocksystem.proofs.Laws.{in-put-same, put-none, same-put}
 use Rattle.blocksystem.specs.Format.{emptyDisk, formatted, formattedDisk, formattedRecords, rootNode, rootPlace, rootTable, tablePlaceOf}
-use Rattle.blocksystem.specs.Names.{firstStory, withRoot}
+use Rattle.blocksystem.specs.Names.{firstPictures, withRoot}
 use Rattle.blocksystem.specs.Run.{start}
 
 -- THE TWO PLACES, DEVICE BY DEVICE
@@ -138,8 +138,8 @@ module _ (d x : ℕ) (on : made d ≡ true) where
   formatted-node =
       rw (records-are, table-leaves-nodes d rooted k (rootTable l)) (node-written d emptyRecords on (empty-records-form d) l (rootNode x) (root-place d on))
 
-  quiet : NoneQueued (places noRequests)
-  quiet id m h = never (rw places-none at h)
+  none-queued : NoneQueued (places emptyRequests)
+  none-queued id m h = never (rw places-none at h)
 
   pub root-complete : WFCompleteIndirectionTable d (indirectionTable (rootTable (rootPlace d)))
   root-complete =
@@ -176,12 +176,12 @@ module _ (d x : ℕ) (on : made d ≡ true) where
         lists = root-lists;
         located = λ ref m e.
             ⊎-elim
-            (λ (z : (ref ≡ 0) × (l ≡ m)). rw (← (z .1), z .0) (record { node = rootNode x; stored = formatted-node; drawn = rw (root-picture x) (put-same empty 0 (rootNode x)) }))
+            (λ (z : (ref ≡ 0) × (l ≡ m)). rw (← (z .1), z .0) (record { node = rootNode x; stored = formatted-node; pictured = rw (root-picture x) (put-same empty 0 (rootNode x)) }))
             (λ z. never (z .1))
             (put-some empty 0 l ref (rw (root-locs l) at e));
         no-more = λ ref e. let z = put-none empty 0 l ref (rw (root-locs l) at e) in rw (root-picture x) (put-other empty 0 (rootNode x) ref (z .0));
-        quiet = λ id m h a. quiet id m h;
-        quiet-nodes = λ ref m e id n h a. quiet id n h;
+        none-at-place = λ id m h a. none-queued id m h;
+        none-at-nodes = λ ref m e id n h a. none-queued id n h;
       }
 
   chosen : {A : Type 0} (b : Bool) (y z : A) → b ≡ true → cond b y z ≡ y
@@ -195,20 +195,20 @@ module _ (d x : ℕ) (on : made d ≡ true) where
       chosen (made d) (record { answer = 0; node = zeroNode; cache = emptyCache; disk = formattedDisk d x }) (record { answer = 1; node = zeroNode; cache = emptyCache; disk = emptyDisk }) on
 
   pub formatted-holds : Invariant d (start d x)
-  unfolding firstStory
+  unfolding firstPictures
   formatted-holds =
       rw formatted-is
       (record {
         made-device = on;
         cache-form = cache-form-iff emptyCache .1 empty-cache-form;
         disk-form = formatted-form;
-        story-form = record { first = root-picture-form x; second = empty-nodes-form; working = root-picture-form x; frozen = empty-nodes-form };
+        pictures-form = record { first = root-picture-form x; second = empty-nodes-form; working = root-picture-form x; frozen = empty-nodes-form };
         first-named = refl;
         whole = record {
           inv = tt;
           first = formatted-kept;
           second = λ m h. never h;
           apart = λ m h. never h;
-          phase = record { no-table-reads = quiet; no-node-reads = quiet; no-table-writes = quiet; no-node-writes = quiet };
+          phase = record { no-table-reads = none-queued; no-node-reads = none-queued; no-table-writes = none-queued; no-node-writes = none-queued };
         };
       })

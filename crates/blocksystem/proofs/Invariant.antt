@@ -1,4 +1,4 @@
--- THE invariant: what holds of cache, disk and story after any list of joined calls. It is stated over what they stand for: the cache's and the
+-- THE invariant: what holds of cache, disk and pictures after any list of joined calls. It is stated over what they stand for: the cache's and the
 -- disk's upstream variables, and the pictures as maps. Assumes nothing.
 use Prim.Native.Nat.{ℕ}
 use mathlib.Core.Bool.{true}
@@ -18,11 +18,11 @@ use Rattle.sectortype.specs.Form.{nodesForm}
 use Rattle.sectortype.specs.declared.Node.{Node}
 use Rattle.sectortype.specs.declared.Succs.{Succs}
 use Rattle.blocksystem.specs.Run.{State}
-use Rattle.blocksystem.specs.declared.Story.{Story}
+use Rattle.blocksystem.specs.declared.Pictures.{Pictures}
 
 -- THE STORY AS MAPS
 
-pub record Tale : Type 0 where
+pub record PictureMaps : Type 0 where
   -- the place that formatting, a start or a clean-up left named, and its picture
   pub place : Location
   pub picture : Map Node
@@ -32,8 +32,8 @@ pub record Tale : Type 0 where
   pub working : Map Node
   pub frozen : Map Node
 
-abbrev pub taleOf : Story → Tale
-taleOf t =
+abbrev pub pictureMaps : Pictures → PictureMaps
+pictureMaps t =
     record {
       place = t .first .place;
       picture = nodesMap (t .first .picture);
@@ -50,18 +50,18 @@ abbrev pub NoneQueued : Map Location → Type 0
 NoneQueued queue = (id : ℕ) (k : Location) → queue id ≡ some k → ⊥
 
 -- no queued request has the address
-abbrev pub Quiet : Map Location → ℕ → Type 0
-Quiet queue a = (id : ℕ) (k : Location) → queue id ≡ some k → k .addr ≡ a → ⊥
+abbrev pub NoneAt : Map Location → ℕ → Type 0
+NoneAt queue a = (id : ℕ) (k : Location) → queue id ≡ some k → k .addr ≡ a → ⊥
 
 -- what is stored at exactly the location is the picture's node
-pub record Stands (nodes : Imap Node) (l : Location) (pictured : Option Node) : Type 0 where
+pub record StoredPictured (nodes : Imap Node) (l : Location) (shown : Option Node) : Type 0 where
   pub node : Node
   pub stored : nodes l ≡ some node
-  pub drawn : pictured ≡ some node
+  pub pictured : shown ≡ some node
 
 -- each location of a table has its picture's node on the disk
 abbrev pub Located : Imap Node → Map Location → Map Node → Type 0
-Located nodes locs pic = (ref : ℕ) (l : Location) → locs ref ≡ some l → Stands nodes l (pic ref)
+Located nodes locs pic = (ref : ℕ) (l : Location) → locs ref ≡ some l → StoredPictured nodes l (pic ref)
 
 -- a list of the graph is, as a set, the successors of the picture's node
 abbrev pub ListsAgree : Map Succs → Map Node → Type 0
@@ -80,8 +80,8 @@ pub record Kept (d : ℕ) (tables : Imap IndirectionTable) (nodes : Imap Node) (
   pub no-more : (ref : ℕ) → table .locs ref ≡ none → pic ref ≡ none
   pub lists : ListsAgree (table .graph) pic
   -- no table write is queued in its area, and no node write at an address of the table
-  pub quiet : Quiet tableWrites (l .addr)
-  pub quiet-nodes : (ref : ℕ) (k : Location) → table .locs ref ≡ some k → Quiet nodeWrites (k .addr)
+  pub none-at-place : NoneAt tableWrites (l .addr)
+  pub none-at-nodes : (ref : ℕ) (k : Location) → table .locs ref ≡ some k → NoneAt nodeWrites (k .addr)
 
 abbrev pub KeptOn : ℕ → DVariables → Location → Map Node → Type 0
 KeptOn d v l pic = Kept d (v .indirectionTables) (v .nodes) (v .reqWriteIndirectionTables) (v .reqWriteNodes) l pic
@@ -135,7 +135,7 @@ pub record FrozenOk (nodes : Imap Node) (t : IndirectionTable) (cache pic : Map 
 
 -- THE INVARIANT, PHASE BY PHASE
 
-pub record ReadyOk (x : Ready) (v : DVariables) (t : Tale) : Type 0 where
+pub record ReadyOk (x : Ready) (v : DVariables) (t : PictureMaps) : Type 0 where
   -- the first named place is the persistent one, and the persistent table is stored there
   pub persistent-place : t .place ≡ x .persistentIndirectionTableLoc
   pub persistent-stored : v .indirectionTables (x .persistentIndirectionTableLoc) ≡ some (x .persistentIndirectionTable)
@@ -159,7 +159,7 @@ pub record ReadyOk (x : Ready) (v : DVariables) (t : Tale) : Type 0 where
   pub persistent-apart : WritesApart (x .outstandingBlockWrites) (x .persistentIndirectionTable .locs)
   pub frozen-apart : (l : Location) (f : IndirectionTable) → x .frozenIndirectionTableLoc ≡ some l → x .frozenIndirectionTable ≡ some f → WritesApart (x .outstandingBlockWrites) (f .locs)
 
-pub record LoadingOk (at : Location) (read : Option ℕ) (v : DVariables) (t : Tale) : Type 0 where
+pub record LoadingOk (at : Location) (read : Option ℕ) (v : DVariables) (t : PictureMaps) : Type 0 where
   -- only the place being loaded is named, and its picture is the working one
   pub place : t .place ≡ at
   pub no-second : t .second ≡ none
@@ -177,13 +177,13 @@ pub record UnreadyOk (v : DVariables) : Type 0 where
   pub no-table-writes : NoneQueued (v .reqWriteIndirectionTables)
   pub no-node-writes : NoneQueued (v .reqWriteNodes)
 
-abbrev pub InPhase : Variables → DVariables → Tale → Type 0
+abbrev pub InPhase : Variables → DVariables → PictureMaps → Type 0
 InPhase (ready x) v t = ReadyOk x v t
 InPhase (loadingIndirectionTable at read) v t = LoadingOk at read v t
 InPhase unready v t = UnreadyOk v
 
 -- of the abstract states
-pub record Whole (d : ℕ) (s : Variables) (v : DVariables) (t : Tale) : Type 0 where
+pub record Whole (d : ℕ) (s : Variables) (v : DVariables) (t : PictureMaps) : Type 0 where
   -- upstream's Inv, widened
   pub inv : Inv d s
   -- each named place is kept
@@ -194,7 +194,7 @@ pub record Whole (d : ℕ) (s : Variables) (v : DVariables) (t : Tale) : Type 0 
   pub phase : InPhase s v t
 
 -- each picture is in its form
-pub record StoryForm (t : Story) : Type 0 where
+pub record PicturesForm (t : Pictures) : Type 0 where
   pub first : nodesForm (t .first .picture) ≡ true
   pub second : nodesForm (t .second .picture) ≡ true
   pub working : nodesForm (t .working) ≡ true
@@ -205,6 +205,6 @@ pub record Invariant (d : ℕ) (s : State) : Type 0 where
   pub made-device : made d ≡ true
   pub cache-form : cacheForm (s .cache) ≡ true
   pub disk-form : diskForm d (s .disk) ≡ true
-  pub story-form : StoryForm (s .story)
-  pub first-named : s .story .first .present ≡ true
-  pub whole : Whole d (cacheVars (s .cache)) (diskVars d (s .disk)) (taleOf (s .story))
+  pub pictures-form : PicturesForm (s .pictures)
+  pub first-named : s .pictures .first .present ≡ true
+  pub whole : Whole d (cacheVars (s .cache)) (diskVars d (s .disk)) (pictureMaps (s .pictures))

@@ -24,28 +24,28 @@ use Rattle.blockdisk.specs.Ops.{diskRows, nextDisk}
 use Rattle.blockdisk.specs.Upstream.{diskVars}
 use Rattle.blockdisk.specs.declared.Records.{Records}
 use Rattle.blocksystem.proofs.Accepting.{crash-answer, crash-next, disk-answer, disk-next, joined-cache, joined-disk, joined-zero, refused-cache, refused-disk, survives}
-use Rattle.blocksystem.proofs.Invariant.{Invariant, taleOf}
+use Rattle.blocksystem.proofs.Invariant.{Invariant, pictureMaps}
 use Rattle.blocksystem.proofs.KeepQueues.{keep-crash}
-use Rattle.blocksystem.proofs.Stories.{step-kept}
+use Rattle.blocksystem.proofs.PictureSteps.{step-kept}
 use Rattle.blocksystem.specs.Joined.{diskAsked, diskCall, joined, joinedAnswer}
-use Rattle.blocksystem.specs.Names.{names, told}
+use Rattle.blocksystem.specs.Names.{names, picturesAfter}
 use Rattle.blocksystem.specs.Run.{JoinedCall, State, accepts, moved, startNamed}
 
 -- AN ACCEPTED CALL
 
 module _ (d : ℕ) (q : Call) (o : Records) (s : State) (v : Invariant d s) where
   abbrev nextState : ℕ → State
-  nextState n = record { cache = stepNext d (s .cache) n (q .reference) q; disk = diskAsked d n q o (s .disk) .disk; story = told n q (s .story) }
+  nextState n = record { cache = stepNext d (s .cache) n (q .reference) q; disk = diskAsked d n q o (s .disk) .disk; pictures = picturesAfter n q (s .pictures) }
 
   abbrev Accepted : ℕ → Type 0
   Accepted n = joinedAnswer d n q o (s .cache) (s .disk) ≡ 0
 
   -- an accepted start is given a place then named
   abbrev Named : ℕ → Type 0
-  Named n = eqb n 10 ≡ true → (names (s .story .first) (vopLoc (q .vop)) || names (s .story .second) (vopLoc (q .vop))) ≡ true
+  Named n = eqb n 10 ≡ true → (names (s .pictures .first) (vopLoc (q .vop)) || names (s .pictures .second) (vopLoc (q .vop))) ≡ true
 
   crash-keeps : Accepted 18 → Invariant d (nextState 18)
-  unfolding told
+  unfolding picturesAfter
   crash-keeps e =
       let z = joined-zero d 18 q o (s .cache) (s .disk) .0 e in
       let a : answer (crashRows d (s .disk) o) ≡ 0 = sym (crash-answer d 18 q o (s .disk) refl) ∙ z .1 in
@@ -54,10 +54,10 @@ module _ (d : ℕ) (q : Call) (o : Records) (s : State) (v : Invariant d s) wher
         made-device = v .made-device;
         cache-form = cache-form-kept d (s .cache) 18 q (z .0);
         disk-form = rw after (crash-form-kept d (s .disk) o a);
-        story-form = v .story-form;
+        pictures-form = v .pictures-form;
         first-named = v .first-named;
         whole = rw (after, cache-crash d (s .cache) q)
-            (keep-crash d (cacheVars (s .cache)) (diskVars d (s .disk)) (diskVars d (crashed o)) (taleOf (s .story)) (v .whole) (survives d (s .disk) o a));
+            (keep-crash d (cacheVars (s .cache)) (diskVars d (s .disk)) (diskVars d (crashed o)) (pictureMaps (s .pictures)) (v .whole) (survives d (s .disk) o a));
       }
 
   step-keeps : (n : ℕ) → eqb n 18 ≡ false → Named n → Accepted n → Invariant d (nextState n)
@@ -71,13 +71,13 @@ module _ (d : ℕ) (q : Call) (o : Records) (s : State) (v : Invariant d s) wher
       let x = cache-allowed d (s .cache) n q (z .0) in
       let s' = cacheVars (stepNext d (s .cache) n (q .reference) q) in
       let inv = inv-kept d (s .cache) n q (v .whole .inv) (z .0) in
-      let r = step-kept d q (cacheVars (s .cache)) s' (diskVars d (s .disk)) (diskVars d next) (s .story) (v .whole) (v .story-form) (v .first-named) inv (f .call .reference) (f .call .node) n ne
+      let r = step-kept d q (cacheVars (s .cache)) s' (diskVars d (s .disk)) (diskVars d next) (s .pictures) (v .whole) (v .pictures-form) (v .first-named) inv (f .call .reference) (f .call .node) n ne
       (record { cache = rw (x .1) (x .2); disk = disk-allowed d (s .disk) c a; move = disk-moves d (s .disk) c a; start = named }) in
       record {
         made-device = v .made-device;
         cache-form = cache-form-kept d (s .cache) n q (z .0);
         disk-form = rw after (disk-form-kept d (s .disk) c a);
-        story-form = r .form;
+        pictures-form = r .form;
         first-named = r .named;
         whole = rw after (r .whole);
       }
@@ -105,8 +105,8 @@ module _ (d : ℕ) (s : State) (k : JoinedCall) (v : Invariant d s) (named : sta
       let e : joinedAnswer d n q (k .offered) (s .cache) (s .disk) ≡ 0 = eqb-true _ _ t in
       let c = joined-cache d n q (k .offered) (s .cache) (s .disk) e in
       let y = joined-disk d n q (k .offered) (s .cache) (s .disk) e in
-      let at : (eqb n 10 ≡ true → (names (s .story .first) (vopLoc (q .vop)) || names (s .story .second) (vopLoc (q .vop))) ≡ true) =
-      λ u. start-place (accepts d s k && eqb n 10) (names (s .story .first) (vopLoc (q .vop))) (names (s .story .second) (vopLoc (q .vop))) named (rw (t, u)) in
+      let at : (eqb n 10 ≡ true → (names (s .pictures .first) (vopLoc (q .vop)) || names (s .pictures .second) (vopLoc (q .vop))) ≡ true) =
+      λ u. start-place (accepts d s k && eqb n 10) (names (s .pictures .first) (vopLoc (q .vop))) (names (s .pictures .second) (vopLoc (q .vop))) named (rw (t, u)) in
       rw (c, y, t) (accepted-keeps d q (k .offered) s v n at e)
 
   when-refused : accepts d s k ≡ false → Invariant d (moved d s k)

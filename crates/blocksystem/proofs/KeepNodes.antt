@@ -15,12 +15,12 @@ use Rattle.disklayout.specs.declared.Location.{Location}
 use Rattle.sectortype.specs.Abstract.{IndirectionTable}
 use Rattle.sectortype.specs.declared.Node.{Node}
 use Rattle.sectortype.specs.declared.Succs.{Succs}
-use Rattle.blocksystem.proofs.Invariant.{FrozenOk, Tale, Whole}
+use Rattle.blocksystem.proofs.Invariant.{FrozenOk, PictureMaps, Whole}
 use Rattle.blocksystem.proofs.Laws.{del-in, in-del, in-of, in-put, none-del, not-both, put-in, same-del, same-put, some-of}
 
 -- the working picture drawn anew
-abbrev pub drawnTale : Tale → Map Node → Tale
-drawnTale t w = record { place = t .place; picture = t .picture; second = t .second; secondPicture = t .secondPicture; working = w; frozen = t .frozen }
+abbrev pub workingMaps : PictureMaps → Map Node → PictureMaps
+workingMaps t w = record { place = t .place; picture = t .picture; second = t .second; secondPicture = t .secondPicture; working = w; frozen = t .frozen }
 
 -- the frozen table needs a cached node only of a reference that it doesn't locate
 module _ (nodes : Imap Node) (f : IndirectionTable) (cache pic : Map Node) (o : FrozenOk nodes f cache pic) (ref : ℕ) where
@@ -43,7 +43,7 @@ module _ (nodes : Imap Node) (f : IndirectionTable) (cache pic : Map Node) (o : 
 
 -- A NODE PAGED IN
 
-pub keep-page-in : (d : ℕ) (x y : Ready) (v v' : DVariables) (t : Tale) (id : ℕ) (n : Option Node) → Whole d (ready x) v t → Inv d (ready y) → PageInNodeResp x y id n → AckReadNode v v' id n →
+pub keep-page-in : (d : ℕ) (x y : Ready) (v v' : DVariables) (t : PictureMaps) (id : ℕ) (n : Option Node) → Whole d (ready x) v t → Inv d (ready y) → PageInNodeResp x y id n → AckReadNode v v' id n →
     Whole d (ready y) (nextVars v (respReadNode id n)) t
 keep-page-in d x y v v' t id n w i u a =
     let p = w .phase in
@@ -73,7 +73,7 @@ keep-page-in d x y v v' t id n w i u a =
         working-lists = p .working-lists;
         located = p .located;
         cached = λ r m g q.
-            ⊎-elim (λ (z : (r ≡ u .ref) × (u .block ≡ m)). rw (z .0) (drawn ∙ ap some (z .1))) (λ z. p .cached r m g (z .1)) (put-some (x .cache) (u .ref) (u .block) r q);
+            ⊎-elim (λ (z : (r ≡ u .ref) × (u .block ≡ m)). rw (z .0) (pictured ∙ ap some (z .1))) (λ z. p .cached r m g (z .1)) (put-some (x .cache) (u .ref) (u .block) r q);
         frozen = λ f q.
             let o = p .frozen f q in
             frozen-cache (v .nodes) f (x .cache) (t .frozen) o (u .ref) (put (x .cache) (u .ref) (u .block)) (spared-uncached (v .nodes) f (x .cache) (t .frozen) o (u .ref) (u .not-cached))
@@ -84,19 +84,19 @@ keep-page-in d x y v v' t id n w i u a =
     })
   where
     -- what is brought is what is stored at the ephemeral location, the picture's node
-    drawn : t .working (u .ref) ≡ some (u .block)
-    drawn =
+    pictured : t .working (u .ref) ≡ some (u .block)
+    pictured =
         let l = some-of (v .reqReadNodes) id (a .there) in
         let e = a .brought (l .0) (l .1) (ap isSome (u .brought)) in
         let h = w .phase .node-reads id (l .0) (l .1) in
         let same : some (u .ref) ≡ some (h .0) = sym (u .there) ∙ h .1 in
         let r : u .ref ≡ h .0 = cc in
         let s = w .phase .located (h .0) (l .0) (h .2) in
-        rw r (s .drawn ∙ sym (s .stored) ∙ sym e ∙ u .brought)
+        rw r (s .pictured ∙ sym (s .stored) ∙ sym e ∙ u .brought)
 
 -- A NODE LET GO
 
-pub keep-evict : (d : ℕ) (x y : Ready) (v : DVariables) (t : Tale) (ref : ℕ) → Whole d (ready x) v t → Inv d (ready y) → Evict x y ref → Whole d (ready y) v t
+pub keep-evict : (d : ℕ) (x y : Ready) (v : DVariables) (t : PictureMaps) (ref : ℕ) → Whole d (ready x) v t → Inv d (ready y) → Evict x y ref → Whole d (ready y) v t
 keep-evict d x y v t ref w i u =
     let p = w .phase in
     rw (u .next)
@@ -147,7 +147,7 @@ working x locs graph cache =
 table-of : {t : IndirectionTable} {l : Map Location} {g : Map Succs} → t .locs ≡ l → t .graph ≡ g → t ≡ record { locs = l; graph = g }
 table-of a b = λ i. record { locs = a i; graph = b i }
 
-pub keep-unalloc : (d : ℕ) (x y : Ready) (v : DVariables) (t : Tale) (ref : ℕ) → Whole d (ready x) v t → Inv d (ready y) → Unalloc x y ref → Whole d (ready y) v (drawnTale t (del (t .working) ref))
+pub keep-unalloc : (d : ℕ) (x y : Ready) (v : DVariables) (t : PictureMaps) (ref : ℕ) → Whole d (ready x) v t → Inv d (ready y) → Unalloc x y ref → Whole d (ready y) v (workingMaps t (del (t .working) ref))
 keep-unalloc d x y v t ref w i u =
     let p = w .phase in
     let is : y ≡ working x (del (x .ephemeralIndirectionTable .locs) ref) (del (x .ephemeralIndirectionTable .graph) ref) (del (x .cache) ref) =
@@ -177,7 +177,7 @@ keep-unalloc d x y v t ref w i u =
         located = λ r l q.
             let e = del-some (x .ephemeralIndirectionTable .locs) ref r q in
             let s = p .located r l (e .1) in
-            record { node = s .node; stored = s .stored; drawn = del-other (t .working) ref r (e .0) ∙ s .drawn };
+            record { node = s .node; stored = s .stored; pictured = del-other (t .working) ref r (e .0) ∙ s .pictured };
         cached = λ r m g q.
             let e = del-in (x .ephemeralIndirectionTable .graph) ref r g in
             del-other (t .working) ref r (e .0) ∙ p .cached r m (e .1) (del-some (x .cache) ref r q .1);
@@ -190,17 +190,17 @@ keep-unalloc d x y v t ref w i u =
     })
 
 -- a reference's node set in the cache and the picture, its list in the graph; its location, if it had one, is dropped
-module _ (d : ℕ) (x y : Ready) (v : DVariables) (t : Tale) (ref : ℕ) (n : Node) (list : Succs) (locs : Map Location) (w : Whole d (ready x) v t) (i : Inv d (ready y)) where
+module _ (d : ℕ) (x y : Ready) (v : DVariables) (t : PictureMaps) (ref : ℕ) (n : Node) (list : Succs) (locs : Map Location) (w : Whole d (ready x) v t) (i : Inv d (ready y)) where
   abbrev put-ready : Ready
   put-ready = working x locs (put (x .ephemeralIndirectionTable .graph) ref list) (put (x .cache) ref n)
 
-  keep-drawn : y ≡ put-ready → SameSuccs list n →
+  keep-set : y ≡ put-ready → SameSuccs list n →
       ((k : ℕ) (l : Location) → locs k ≡ some l → (k ≡ ref → ⊥) × (x .ephemeralIndirectionTable .locs k ≡ some l)) →
       ((k : ℕ) → (k ≡ ref → ⊥) → locs k ≡ x .ephemeralIndirectionTable .locs k) →
       ((id k : ℕ) → x .outstandingBlockReads id ≡ some k → k ≡ ref → ⊥) →
       ((f : IndirectionTable) → x .frozenIndirectionTable ≡ some f → (k : ℕ) → In k (f .graph) → f .locs k ≡ none → k ≡ ref → ⊥) →
-      Whole d (ready y) v (drawnTale t (put (t .working) ref n))
-  keep-drawn is succs back there unread spared =
+      Whole d (ready y) v (workingMaps t (put (t .working) ref n))
+  keep-set is succs back there unread spared =
       let p = w .phase in
       rw is
       (record {
@@ -230,7 +230,7 @@ module _ (d : ℕ) (x y : Ready) (v : DVariables) (t : Tale) (ref : ℕ) (n : No
           located = λ r l q.
               let e = back r l q in
               let s = p .located r l (e .1) in
-              record { node = s .node; stored = s .stored; drawn = put-other (t .working) ref n r (e .0) ∙ s .drawn };
+              record { node = s .node; stored = s .stored; pictured = put-other (t .working) ref n r (e .0) ∙ s .pictured };
           cached = λ r m g q.
               ⊎-elim (λ (z : (r ≡ ref) × (n ≡ m)). rw (z .0) (put-same (t .working) ref n ∙ ap some (z .1)))
               (λ z. put-other (t .working) ref n r (z .0) ∙ p .cached r m (put-in (x .ephemeralIndirectionTable .graph) ref list r g (z .0)) (z .1)) (put-some (x .cache) ref n r q);
@@ -240,10 +240,10 @@ module _ (d : ℕ) (x y : Ready) (v : DVariables) (t : Tale) (ref : ℕ) (n : No
         };
       })
 
-pub keep-dirty : (d : ℕ) (x y : Ready) (v : DVariables) (t : Tale) (ref : ℕ) (n : Node) → Whole d (ready x) v t → Inv d (ready y) → Dirty x y ref n → Whole d (ready y) v (drawnTale t (put (t .working) ref n))
+pub keep-dirty : (d : ℕ) (x y : Ready) (v : DVariables) (t : PictureMaps) (ref : ℕ) (n : Node) → Whole d (ready x) v t → Inv d (ready y) → Dirty x y ref n → Whole d (ready y) v (workingMaps t (put (t .working) ref n))
 keep-dirty d x y v t ref n w i u =
     let locs = x .ephemeralIndirectionTable .locs in
-    keep-drawn d x y v t ref n (u .list) (del locs ref) w i
+    keep-set d x y v t ref n (u .list) (del locs ref) w i
     (let e = table-of (u .locs') (u .graph') in search ready-ext)
     (u .succs)
     (λ k l q. del-some locs ref k q)
@@ -251,10 +251,10 @@ keep-dirty d x y v t ref n w i u =
     (λ id k q z. not-both (x .cache) ref (u .cached) (rw z at (w .phase .reads-uncached id k q .1)))
     (λ f q. spared-located (v .nodes) f (x .cache) (t .frozen) (w .phase .frozen f q) ref (u .frozen-located f q))
 
-pub keep-alloc : (d : ℕ) (x y : Ready) (v : DVariables) (t : Tale) (ref : ℕ) (n : Node) → Whole d (ready x) v t → Inv d (ready y) → Alloc x y ref n → Whole d (ready y) v (drawnTale t (put (t .working) ref n))
+pub keep-alloc : (d : ℕ) (x y : Ready) (v : DVariables) (t : PictureMaps) (ref : ℕ) (n : Node) → Whole d (ready x) v t → Inv d (ready y) → Alloc x y ref n → Whole d (ready y) v (workingMaps t (put (t .working) ref n))
 keep-alloc d x y v t ref n w i u =
     let locs = x .ephemeralIndirectionTable .locs in
-    keep-drawn d x y v t ref n (u .list) locs w i
+    keep-set d x y v t ref n (u .list) locs w i
     (let e = table-of (u .locs') (u .graph') in search ready-ext)
     (u .succs)
     (λ k l q. ((λ z. not-both (x .ephemeralIndirectionTable .graph) ref (rw z at (w .inv .ephemeral .keys k (in-of locs k q))) (u .not-allocated)), q))

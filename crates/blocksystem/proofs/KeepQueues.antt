@@ -13,7 +13,7 @@ use Rattle.blockdisk.specs.Upstream.{Dop, Variables as DVariables, noDiskOp, re
 use Rattle.disklayout.specs.declared.Location.{Location}
 use Rattle.sectortype.specs.Abstract.{IndirectionTable}
 use Rattle.sectortype.specs.declared.Node.{Node}
-use Rattle.blocksystem.proofs.Invariant.{InPhase, KeptOn, Quiet, Tale, UnreadyOk, Whole}
+use Rattle.blocksystem.proofs.Invariant.{InPhase, KeptOn, NoneAt, PictureMaps, UnreadyOk, Whole}
 use Rattle.blocksystem.proofs.Laws.{Fewer, fewer-del, kept-crash, kept-fewer, none-fewer}
 
 -- REQUESTS ANSWERED, WHICH THE CACHE DID NOT AWAIT
@@ -30,7 +30,7 @@ withQueues v tr nr tw nw =
       nodes = v .nodes;
     }
 
-module _ (d : ℕ) (v : DVariables) (t : Tale) (tr nr tw nw : Map Location) (a : Fewer tr (v .reqReadIndirectionTables)) (b : Fewer nr (v .reqReadNodes)) (c : Fewer tw (v .reqWriteIndirectionTables)) (e : Fewer nw (v .reqWriteNodes)) where
+module _ (d : ℕ) (v : DVariables) (t : PictureMaps) (tr nr tw nw : Map Location) (a : Fewer tr (v .reqReadIndirectionTables)) (b : Fewer nr (v .reqReadNodes)) (c : Fewer tw (v .reqWriteIndirectionTables)) (e : Fewer nw (v .reqWriteNodes)) where
   kept-less : (l : Location) (pic : Map Node) → KeptOn d v l pic → KeptOn d (withQueues v tr nr tw nw) l pic
   kept-less l pic k = kept-fewer d (v .indirectionTables) (v .nodes) (v .reqWriteIndirectionTables) (v .reqWriteNodes) l pic k tw nw c e
 
@@ -83,7 +83,7 @@ module _ (d : ℕ) (v : DVariables) (t : Tale) (tr nr tw nw : Map Location) (a :
       }
 
 -- NoOp, with no disk operation or any answer
-pub keep-idle : (d : ℕ) (s : Variables) (v : DVariables) (t : Tale) → Whole d s v t → (dop : Dop) → IdleOp s dop → Whole d s (nextVars v dop) t
+pub keep-idle : (d : ℕ) (s : Variables) (v : DVariables) (t : PictureMaps) → Whole d s v t → (dop : Dop) → IdleOp s dop → Whole d s (nextVars v dop) t
 keep-idle d s v t w (reqReadIndirectionTable id l) i = absurd i
 keep-idle d s v t w (reqReadNode id l) i = absurd i
 keep-idle d s v t w (reqWriteIndirectionTable id l x) i = absurd i
@@ -106,10 +106,10 @@ keep-idle d s v t w noDiskOp i = w
 
 pub record Survives (v v' : DVariables) : Type 0 where
   pub idle : UnreadyOk v'
-  pub tables : (k : Location) (t : IndirectionTable) → v .indirectionTables k ≡ some t → Quiet (v .reqWriteIndirectionTables) (k .addr) → v' .indirectionTables k ≡ some t
-  pub nodes : (k : Location) (n : Node) → v .nodes k ≡ some n → Quiet (v .reqWriteNodes) (k .addr) → v' .nodes k ≡ some n
+  pub tables : (k : Location) (t : IndirectionTable) → v .indirectionTables k ≡ some t → NoneAt (v .reqWriteIndirectionTables) (k .addr) → v' .indirectionTables k ≡ some t
+  pub nodes : (k : Location) (n : Node) → v .nodes k ≡ some n → NoneAt (v .reqWriteNodes) (k .addr) → v' .nodes k ≡ some n
 
-pub keep-crash : (d : ℕ) (s : Variables) (v v' : DVariables) (t : Tale) → Whole d s v t → Survives v v' → Whole d unready v' t
+pub keep-crash : (d : ℕ) (s : Variables) (v v' : DVariables) (t : PictureMaps) → Whole d s v t → Survives v v' → Whole d unready v' t
 keep-crash d s v v' t w c = record { inv = tt; first = still (t .place) (t .picture) (w .first); second = λ l q. still l (t .secondPicture) (w .second l q); apart = w .apart; phase = c .idle }
   where
     still : (l : Location) (pic : Map Node) → KeptOn d v l pic → KeptOn d v' l pic
@@ -120,14 +120,14 @@ keep-crash d s v v' t w c = record { inv = tt; first = still (t .place) (t .pict
 -- BEFORE READY
 
 -- the names after a start at the place
-pub record Started (t t' : Tale) (l : Location) : Type 0 where
+pub record Started (t t' : PictureMaps) (l : Location) : Type 0 where
   pub place : t' .place ≡ l
   pub no-second : t' .second ≡ none
   pub working : t' .working ≡ t' .picture
   -- the picture of a place then named
   pub named : ((t .place ≡ l) × (t' .picture ≡ t .picture)) ⊎ ((t .second ≡ some l) × (t' .picture ≡ t .secondPicture))
 
-pub keep-receive : (d : ℕ) (s' : Variables) (v : DVariables) (t t' : Tale) (l : Location) → Whole d unready v t → Inv d s' → ReceiveLoc d unready s' l → Started t t' l → Whole d s' v t'
+pub keep-receive : (d : ℕ) (s' : Variables) (v : DVariables) (t t' : PictureMaps) (l : Location) → Whole d unready v t → Inv d s' → ReceiveLoc d unready s' l → Started t t' l → Whole d s' v t'
 keep-receive d s' v t t' l w i u n =
     rw (u .next)
     (record {
@@ -146,7 +146,7 @@ keep-receive d s' v t t' l w i u n =
       };
     })
 
-pub keep-table-read : (d : ℕ) (at : Location) (read : Option ℕ) (s' : Variables) (v : DVariables) (t : Tale) (id : ℕ) (loc : Location) →
+pub keep-table-read : (d : ℕ) (at : Location) (read : Option ℕ) (s' : Variables) (v : DVariables) (t : PictureMaps) (id : ℕ) (loc : Location) →
     Whole d (loadingIndirectionTable at read) v t → Inv d s' → PageInIndirectionTableReq at read s' id loc → Whole d s' (nextVars v (reqReadIndirectionTable id loc)) t
 keep-table-read d at read s' v t id loc w i u =
     rw (u .next)
@@ -170,7 +170,7 @@ keep-table-read d at read s' v t id loc w i u =
 
 -- A NODE WRITE ANSWERED
 
-pub keep-write-resp : (d : ℕ) (x y : Ready) (v : DVariables) (t : Tale) (id : ℕ) → Whole d (ready x) v t → Inv d (ready y) → WriteBackNodeResp x y id → Whole d (ready y) (nextVars v (respWriteNode id)) t
+pub keep-write-resp : (d : ℕ) (x y : Ready) (v : DVariables) (t : PictureMaps) (id : ℕ) → Whole d (ready x) v t → Inv d (ready y) → WriteBackNodeResp x y id → Whole d (ready y) (nextVars v (respWriteNode id)) t
 keep-write-resp d x y v t id w i u =
     let p = w .phase in
     rw (u .next)
@@ -209,7 +209,7 @@ keep-write-resp d x y v t id w i u =
 
 -- A NODE READ ASKED FOR
 
-pub keep-read-req : (d : ℕ) (x y : Ready) (v : DVariables) (t : Tale) (id ref : ℕ) (loc : Location) → Whole d (ready x) v t → Inv d (ready y) → PageInNodeReq x y id loc ref →
+pub keep-read-req : (d : ℕ) (x y : Ready) (v : DVariables) (t : PictureMaps) (id ref : ℕ) (loc : Location) → Whole d (ready x) v t → Inv d (ready y) → PageInNodeReq x y id loc ref →
     Whole d (ready y) (nextVars v (reqReadNode id loc)) t
 keep-read-req d x y v t id ref loc w i u =
     let p = w .phase in

@@ -15,17 +15,17 @@ use Rattle.disklayout.proofs.Places.{table-overlap-iff}
 use Rattle.disklayout.specs.Device.{deviceOf}
 use Rattle.disklayout.specs.declared.Location.{Location}
 use Rattle.sectortype.specs.declared.Node.{Node}
-use Rattle.blocksystem.proofs.Invariant.{Tale, Whole}
-use Rattle.blocksystem.proofs.KeepNodes.{drawnTale, keep-alloc, keep-dirty, keep-evict, keep-page-in, keep-unalloc}
+use Rattle.blocksystem.proofs.Invariant.{PictureMaps, Whole}
+use Rattle.blocksystem.proofs.KeepNodes.{workingMaps, keep-alloc, keep-dirty, keep-evict, keep-page-in, keep-unalloc}
 use Rattle.blocksystem.proofs.KeepQueues.{Started, keep-idle, keep-read-req, keep-receive, keep-table-read, keep-write-resp}
-use Rattle.blocksystem.proofs.KeepTables.{cleanedTale, frozeTale, frozen-named, keep-clean-up, keep-freeze, keep-table-page-in, keep-table-resp, keep-table-write, namedTale}
+use Rattle.blocksystem.proofs.KeepTables.{cleanedMaps, frozeMaps, frozen-named, keep-clean-up, keep-freeze, keep-table-page-in, keep-table-resp, keep-table-write, namedMaps}
 use Rattle.blocksystem.proofs.KeepWrite.{keep-write-req}
 
 -- both states are Ready
 on-both : {X : Type 0} (s s' : Variables) (P : Ready → Ready → Type 0) → OnBoth s s' P → ((x y : Ready) → s ≡ ready x → s' ≡ ready y → P x y → X) → X
 on-both s s' P h f = f (h .0) (h .2 .0) (h .1) (h .2 .1) (h .2 .2)
 
-module _ (d : ℕ) (s s' : Variables) (v v' : DVariables) (dop : Dop) (vop : VersionOp) (t : Tale) (w : Whole d s v t) (i : Inv d s') (disk : Next v v' dop) (move : v' ≡ nextVars v dop) where
+module _ (d : ℕ) (s s' : Variables) (v v' : DVariables) (dop : Dop) (vop : VersionOp) (t : PictureMaps) (w : Whole d s v t) (i : Inv d s') (disk : Next v v' dop) (move : v' ≡ nextVars v dop) where
   pub kept1 : (ref : ℕ) → NextStep d s s' dop vop (writeBackNodeReqStep ref) → Whole d s' v' t
   kept1 ref g =
       let id = g .1 .0 in
@@ -57,7 +57,7 @@ module _ (d : ℕ) (s s' : Variables) (v v' : DVariables) (dop : Dop) (vop : Ver
       (keep-table-write d x y v t id loc f k (rw ey at i) u
       (λ e. clash (table-overlap-iff (deviceOf d) loc (x .persistentIndirectionTableLoc) (u .valid) (k .inv .persistent-valid) .1 e) (u .apart))))
 
-  pub kept4 : (l : Location) → vop ≡ SendFrozenLocOp l → NextStep d s s' dop vop writeBackIndirectionTableRespStep → Whole d s' v' (namedTale t l)
+  pub kept4 : (l : Location) → vop ≡ SendFrozenLocOp l → NextStep d s s' dop vop writeBackIndirectionTableRespStep → Whole d s' v' (namedMaps t l)
   kept4 l q g =
       let m = g .0 in
       let a = g .1 in
@@ -69,7 +69,7 @@ module _ (d : ℕ) (s s' : Variables) (v v' : DVariables) (dop : Dop) (vop : Ver
       let e : m ≡ l = cc in
       rw (ey, move, b) (rw e at (keep-table-resp d x y v t id m (rw ex at w) (rw ey at i) u)))
 
-  pub kept5 : (ref : ℕ) → NextStep d s s' dop vop (unallocStep ref) → Whole d s' v' (drawnTale t (del (t .working) ref))
+  pub kept5 : (ref : ℕ) → NextStep d s s' dop vop (unallocStep ref) → Whole d s' v' (workingMaps t (del (t .working) ref))
   kept5 ref g =
       let b = g .1 in
       let h = g .2 in
@@ -118,7 +118,7 @@ module _ (d : ℕ) (s s' : Variables) (v v' : DVariables) (dop : Dop) (vop : Ver
       let u = g .1 .3 .3 .2 in
       let k = rw b at disk in rw (ey, move, b) (keep-table-page-in d at read y v v' t id f (rw ex at w) (rw ey at i) u k)
 
-  pub kept10 : (l : Location) (t' : Tale) → vop ≡ SendPersistentLocOp l → Started t t' l → NextStep d s s' dop vop receiveLocStep → Whole d s' v' t'
+  pub kept10 : (l : Location) (t' : PictureMaps) → vop ≡ SendPersistentLocOp l → Started t t' l → NextStep d s s' dop vop receiveLocStep → Whole d s' v' t'
   kept10 l t' q n g =
       let b = g .0 in
       let m = g .1 .0 in
@@ -136,7 +136,7 @@ module _ (d : ℕ) (s s' : Variables) (v v' : DVariables) (dop : Dop) (vop : Ver
       on-both s s' (λ x y. Evict x y ref) h
       (λ x y ex ey u. rw (ey, move, b) (keep-evict d x y v t ref (rw ex at w) (rw ey at i) u))
 
-  pub kept12 : (blank : Map Node) → NextStep d s s' dop vop freezeStep → Whole d s' v' (frozeTale t blank)
+  pub kept12 : (blank : Map Node) → NextStep d s s' dop vop freezeStep → Whole d s' v' (frozeMaps t blank)
   kept12 blank g =
       let b = g .1 in
       let h = g .2 in
@@ -144,7 +144,7 @@ module _ (d : ℕ) (s s' : Variables) (v v' : DVariables) (dop : Dop) (vop : Ver
       (λ x y ex ey u. rw (ey, move, b) (keep-freeze d x y v t blank (rw ex at w) (rw ey at i) u))
 
   -- the place that is left named is the one that was named as frozen
-  pub kept13 : (blank : Map Node) → NextStep d s s' dop vop cleanUpStep → (l : Location) × (t .second ≡ some l) × Whole d s' v' (cleanedTale t l blank)
+  pub kept13 : (blank : Map Node) → NextStep d s s' dop vop cleanUpStep → (l : Location) × (t .second ≡ some l) × Whole d s' v' (cleanedMaps t l blank)
   kept13 blank g =
       let b = g .1 in
       let h = g .2 in
@@ -158,14 +158,14 @@ module _ (d : ℕ) (s s' : Variables) (v v' : DVariables) (dop : Dop) (vop : Ver
       let u = g .1 in
       rw (u .next, move) (keep-idle d s v t w dop (u .op))
 
-  pub kept15 : (ref : ℕ) (n : Node) → NextStep d s s' dop vop (dirtyStep ref n) → Whole d s' v' (drawnTale t (put (t .working) ref n))
+  pub kept15 : (ref : ℕ) (n : Node) → NextStep d s s' dop vop (dirtyStep ref n) → Whole d s' v' (workingMaps t (put (t .working) ref n))
   kept15 ref n g =
       let b = g .0 .1 in
       let h = g .1 in
       on-both s s' (λ x y. Dirty x y ref n) h
       (λ x y ex ey u. rw (ey, move, b) (keep-dirty d x y v t ref n (rw ex at w) (rw ey at i) u))
 
-  pub kept16 : (ref : ℕ) (n : Node) → NextStep d s s' dop vop (allocStep ref n) → Whole d s' v' (drawnTale t (put (t .working) ref n))
+  pub kept16 : (ref : ℕ) (n : Node) → NextStep d s s' dop vop (allocStep ref n) → Whole d s' v' (workingMaps t (put (t .working) ref n))
   kept16 ref n g =
       let b = g .0 .1 in
       let h = g .1 in
@@ -173,5 +173,5 @@ module _ (d : ℕ) (s s' : Variables) (v v' : DVariables) (dop : Dop) (vop : Ver
       (λ x y ex ey u. rw (ey, move, b) (keep-alloc d x y v t ref n (rw ex at w) (rw ey at i) u))
 
 -- a read changes nothing; it takes no disk operation
-pub kept17 : (d : ℕ) (s s' : Variables) (v v' : DVariables) (dop : Dop) (vop : VersionOp) (t : Tale) (ref : ℕ) → Whole d s v t → v' ≡ v → NextStep d s s' dop vop (readStep ref) → Whole d s' v' t
+pub kept17 : (d : ℕ) (s s' : Variables) (v v' : DVariables) (dop : Dop) (vop : VersionOp) (t : PictureMaps) (ref : ℕ) → Whole d s v t → v' ≡ v → NextStep d s s' dop vop (readStep ref) → Whole d s' v' t
 kept17 d s s' v v' dop vop t ref w e g = rw (g .0, e) w

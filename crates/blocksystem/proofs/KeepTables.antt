@@ -18,16 +18,16 @@ use Rattle.disklayout.specs.Device.{deviceOf}
 use Rattle.disklayout.specs.declared.Location.{Location}
 use Rattle.sectortype.specs.Abstract.{IndirectionTable}
 use Rattle.sectortype.specs.declared.Node.{Node}
-use Rattle.blocksystem.proofs.Invariant.{FrozenOk, Kept, NoneQueued, ReadyOk, Tale, Whole}
+use Rattle.blocksystem.proofs.Invariant.{FrozenOk, Kept, NoneQueued, ReadyOk, PictureMaps, Whole}
 use Rattle.blocksystem.proofs.Laws.{fewer-del, frozen-none, kept-fewer, kept-keys, kept-table-write, not-both, same-none, some-of}
 
 -- FREEZE
 
-abbrev pub frozeTale : Tale → Map Node → Tale
-frozeTale t p = record { place = t .place; picture = t .picture; second = none; secondPicture = p; working = t .working; frozen = t .working }
+abbrev pub frozeMaps : PictureMaps → Map Node → PictureMaps
+frozeMaps t p = record { place = t .place; picture = t .picture; second = none; secondPicture = p; working = t .working; frozen = t .working }
 
 -- the ephemeral table with the working picture is what a frozen one is to be
-frozen-of-ephemeral : (d : ℕ) (x : Ready) (v : DVariables) (t : Tale) → Whole d (ready x) v t → FrozenOk (v .nodes) (x .ephemeralIndirectionTable) (x .cache) (t .working)
+frozen-of-ephemeral : (d : ℕ) (x : Ready) (v : DVariables) (t : PictureMaps) → Whole d (ready x) v t → FrozenOk (v .nodes) (x .ephemeralIndirectionTable) (x .cache) (t .working)
 frozen-of-ephemeral d x v t w =
     let p = w .phase in
     record {
@@ -38,7 +38,7 @@ frozen-of-ephemeral d x v t w =
           ⊎-elim (λ c. let n = some-of (x .cache) ref c in (n .0, n .1, p .cached ref (n .0) g (n .1))) (λ l. not-both (x .ephemeralIndirectionTable .locs) ref l e) (w .inv .consistent ref g);
     }
 
-pub keep-freeze : (d : ℕ) (x y : Ready) (v : DVariables) (t : Tale) (blank : Map Node) → Whole d (ready x) v t → Inv d (ready y) → Freeze x y → Whole d (ready y) v (frozeTale t blank)
+pub keep-freeze : (d : ℕ) (x y : Ready) (v : DVariables) (t : PictureMaps) (blank : Map Node) → Whole d (ready x) v t → Inv d (ready y) → Freeze x y → Whole d (ready y) v (frozeMaps t blank)
 keep-freeze d x y v t blank w i u =
     let p = w .phase in
     rw (u .next)
@@ -69,14 +69,14 @@ keep-freeze d x y v t blank w i u =
 
 -- CLEANUP
 
-abbrev pub cleanedTale : Tale → Location → Map Node → Tale
-cleanedTale t l p = record { place = l; picture = t .secondPicture; second = none; secondPicture = p; working = t .working; frozen = t .frozen }
+abbrev pub cleanedMaps : PictureMaps → Location → Map Node → PictureMaps
+cleanedMaps t l p = record { place = l; picture = t .secondPicture; second = none; secondPicture = p; working = t .working; frozen = t .frozen }
 
 -- with no write of it outstanding, a frozen place that is set is named
-pub frozen-named : (d : ℕ) (x : Ready) (v : DVariables) (t : Tale) (l : Location) → Whole d (ready x) v t → x .outstandingIndirectionTableWrite ≡ none → x .frozenIndirectionTableLoc ≡ some l → t .second ≡ some l
+pub frozen-named : (d : ℕ) (x : Ready) (v : DVariables) (t : PictureMaps) (l : Location) → Whole d (ready x) v t → x .outstandingIndirectionTableWrite ≡ none → x .frozenIndirectionTableLoc ≡ some l → t .second ≡ some l
 frozen-named d x v t l w a b = w .phase .frozen-place ∙ rw (a, b)
 
-pub keep-clean-up : (d : ℕ) (x y : Ready) (v : DVariables) (t : Tale) (blank : Map Node) → Whole d (ready x) v t → Inv d (ready y) → (u : CleanUp x y) → Whole d (ready y) v (cleanedTale t (u .loc) blank)
+pub keep-clean-up : (d : ℕ) (x y : Ready) (v : DVariables) (t : PictureMaps) (blank : Map Node) → Whole d (ready x) v t → Inv d (ready y) → (u : CleanUp x y) → Whole d (ready y) v (cleanedMaps t (u .loc) blank)
 keep-clean-up d x y v t blank w i u =
     let p = w .phase in
     rw (u .next)
@@ -107,7 +107,7 @@ keep-clean-up d x y v t blank w i u =
 
 -- THE FROZEN TABLE WRITTEN
 
-pub keep-table-write : (d : ℕ) (x y : Ready) (v : DVariables) (t : Tale) (id : ℕ) (loc : Location) (f : IndirectionTable) → Whole d (ready x) v t → Inv d (ready y) →
+pub keep-table-write : (d : ℕ) (x y : Ready) (v : DVariables) (t : PictureMaps) (id : ℕ) (loc : Location) (f : IndirectionTable) → Whole d (ready x) v t → Inv d (ready y) →
     WriteBackIndirectionTableReq d x y id loc f → (loc .addr ≡ x .persistentIndirectionTableLoc .addr → ⊥) → Whole d (ready y) (nextVars v (reqWriteIndirectionTable id loc f)) t
 keep-table-write d x y v t id loc f w i u apart =
     let p = w .phase in
@@ -143,11 +143,11 @@ keep-table-write d x y v t id loc f w i u apart =
       };
     })
 
-abbrev pub namedTale : Tale → Location → Tale
-namedTale t l = record { place = t .place; picture = t .picture; second = some l; secondPicture = t .frozen; working = t .working; frozen = t .frozen }
+abbrev pub namedMaps : PictureMaps → Location → PictureMaps
+namedMaps t l = record { place = t .place; picture = t .picture; second = some l; secondPicture = t .frozen; working = t .working; frozen = t .frozen }
 
-pub keep-table-resp : (d : ℕ) (x y : Ready) (v : DVariables) (t : Tale) (id : ℕ) (loc : Location) → Whole d (ready x) v t → Inv d (ready y) →
-    WriteBackIndirectionTableResp x y id loc → Whole d (ready y) (nextVars v (respWriteIndirectionTable id)) (namedTale t loc)
+pub keep-table-resp : (d : ℕ) (x y : Ready) (v : DVariables) (t : PictureMaps) (id : ℕ) (loc : Location) → Whole d (ready x) v t → Inv d (ready y) →
+    WriteBackIndirectionTableResp x y id loc → Whole d (ready y) (nextVars v (respWriteIndirectionTable id)) (namedMaps t loc)
 keep-table-resp d x y v t id loc w i u =
     rw (u .next)
     (record {
@@ -202,15 +202,15 @@ keep-table-resp d x y v t id loc w i u =
           located = o .located;
           lists = o .lists;
           no-more = λ ref e. same-none (t .frozen) (f .table .locs) (λ k. o .refs k ∙ f .wf .keys k) ref e;
-          quiet = λ j k q a. no-more j k q;
-          quiet-nodes = λ ref k e j q b a.
+          none-at-place = λ j k q a. no-more j k q;
+          none-at-nodes = λ ref k e j q b a.
               let h = w .phase .node-writes j q b in
               w .phase .frozen-apart loc (f .table) (sym (u .frozen-loc)) (f .is) j (h .0) (h .1) ref k e (sym a ∙ ap (λ l. l .addr) (sym (h .2)));
         }
 
 -- THE TABLE PAGED IN
 
-pub keep-table-page-in : (d : ℕ) (at : Location) (read : Option ℕ) (y : Ready) (v v' : DVariables) (t : Tale) (id : ℕ) (brought : Option IndirectionTable) →
+pub keep-table-page-in : (d : ℕ) (at : Location) (read : Option ℕ) (y : Ready) (v v' : DVariables) (t : PictureMaps) (id : ℕ) (brought : Option IndirectionTable) →
     Whole d (loadingIndirectionTable at read) v t → Inv d (ready y) → PageInIndirectionTableResp d at read y id brought → AckReadIndirectionTable v v' id brought →
     Whole d (ready y) (nextVars v (respReadIndirectionTable id brought)) t
 keep-table-page-in d at read y v v' t id brought w i u a =

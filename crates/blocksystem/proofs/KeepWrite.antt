@@ -16,8 +16,8 @@ use Rattle.blockdisk.specs.Upstream.{Variables as DVariables, reqWriteNode}
 use Rattle.disklayout.specs.declared.Location.{Location}
 use Rattle.sectortype.specs.Abstract.{IndirectionTable}
 use Rattle.sectortype.specs.declared.Node.{Node}
-use Rattle.blocksystem.proofs.Invariant.{Located, ReadyOk, Tale, Whole, frozenNow}
-use Rattle.blocksystem.proofs.Laws.{kept-node-write, put-none, stands-elsewhere}
+use Rattle.blocksystem.proofs.Invariant.{Located, ReadyOk, PictureMaps, Whole, frozenNow}
+use Rattle.blocksystem.proofs.Laws.{kept-node-write, put-none, stored-elsewhere}
 
 -- A TABLE THAT GETS A LOCATION
 
@@ -81,7 +81,7 @@ written x id ref loc =
       cache = x .cache;
     }
 
-module _ (d : ℕ) (x y : Ready) (v : DVariables) (t : Tale) (id ref : ℕ) (loc : Location) (n : Node) (w : Whole d (ready x) v t) (u : WriteBackNodeReq d x y id loc n ref) where
+module _ (d : ℕ) (x y : Ready) (v : DVariables) (t : PictureMaps) (id ref : ℕ) (loc : Location) (n : Node) (w : Whole d (ready x) v t) (u : WriteBackNodeReq d x y id loc n ref) where
   abbrev p : ReadyOk x v t
   p = w .phase
 
@@ -114,8 +114,8 @@ module _ (d : ℕ) (x y : Ready) (v : DVariables) (t : Tale) (id ref : ℕ) (loc
       Located (replacing (v .nodes) loc n) (assignRefToLocation f ref loc .locs) pic
   grown pic f free here old j k q =
       ⊎-elim
-      (λ (z : (j ≡ ref) × (loc ≡ k) × In ref (f .graph) × (f .locs ref ≡ none)). rw (← (z .1), z .0) (record { node = n; stored = replacing-same (v .nodes) loc n; drawn = here (z .2) (z .3) }))
-      (λ z. stands-elsewhere (v .nodes) loc n k (old j k z) (free j k z))
+      (λ (z : (j ≡ ref) × (loc ≡ k) × In ref (f .graph) × (f .locs ref ≡ none)). rw (← (z .1), z .0) (record { node = n; stored = replacing-same (v .nodes) loc n; pictured = here (z .2) (z .3) }))
+      (λ z. stored-elsewhere (v .nodes) loc n k (old j k z) (free j k z))
       (assign-some f ref loc j q)
 
   -- the named places: the persistent table and the frozen one

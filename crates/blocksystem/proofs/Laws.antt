@@ -15,7 +15,7 @@ use Rattle.blockdisk.specs.Upstream.{Imap}
 use Rattle.disklayout.specs.declared.Location.{Location}
 use Rattle.sectortype.specs.Abstract.{IndirectionTable}
 use Rattle.sectortype.specs.declared.Node.{Node}
-use Rattle.blocksystem.proofs.Invariant.{Kept, Located, NoneQueued, Quiet, SameKeys, Stands, frozenNow}
+use Rattle.blocksystem.proofs.Invariant.{Kept, Located, NoneQueued, NoneAt, SameKeys, StoredPictured, frozenNow}
 
 -- MAPS
 
@@ -93,12 +93,12 @@ none-fewer a b f n id k e = n id k (f id k e)
 
 -- WHAT STANDS ON THE DISK
 
-pub stands-elsewhere : (nodes : Imap Node) (k : Location) (n : Node) (l : Location) {p : Option Node} → Stands nodes l p → (l .addr ≡ k .addr → ⊥) → Stands (replacing nodes k n) l p
-stands-elsewhere nodes k n l s ne = record { node = s .node; stored = replacing-other nodes k n l ne ∙ s .stored; drawn = s .drawn }
+pub stored-elsewhere : (nodes : Imap Node) (k : Location) (n : Node) (l : Location) {p : Option Node} → StoredPictured nodes l p → (l .addr ≡ k .addr → ⊥) → StoredPictured (replacing nodes k n) l p
+stored-elsewhere nodes k n l s ne = record { node = s .node; stored = replacing-other nodes k n l ne ∙ s .stored; pictured = s .pictured }
 
 -- a write to an address that no location has
 pub located-write : (nodes : Imap Node) (k : Location) (n : Node) (locs : Map Location) (pic : Map Node) → Located nodes locs pic → NoAddr locs (k .addr) → Located (replacing nodes k n) locs pic
-located-write nodes k n locs pic h free ref l e = stands-elsewhere nodes k n l (h ref l e) (free ref l e)
+located-write nodes k n locs pic h free ref l e = stored-elsewhere nodes k n l (h ref l e) (free ref l e)
 
 -- A NAMED PLACE
 
@@ -109,8 +109,8 @@ module _ (d : ℕ) (tables : Imap IndirectionTable) (nodes : Imap Node) (tw nw :
       (λ e. let d = some-of (h .table .locs) ref e in e' (h .located ref (d .0) (d .1)) e)
       (λ e. rw (e, h .no-more ref (none-iff (h .table .locs ref) .0 e)))
     where
-      e' : {k : Location} → Stands nodes k (pic ref) → isSome (h .table .locs ref) ≡ true → isSome (pic ref) ≡ isSome (h .table .locs ref)
-      e' s e = rw (e, s .drawn)
+      e' : {k : Location} → StoredPictured nodes k (pic ref) → isSome (h .table .locs ref) ≡ true → isSome (pic ref) ≡ isSome (h .table .locs ref)
+      e' s e = rw (e, s .pictured)
 
   -- a node written to an address that no location of its table has
   pub kept-node-write : (id : ℕ) (k : Location) (n : Node) → NoAddr (h .table .locs) (k .addr) → Kept d tables (replacing nodes k n) tw (put nw id k) l pic
@@ -123,9 +123,9 @@ module _ (d : ℕ) (tables : Imap IndirectionTable) (nodes : Imap Node) (tw nw :
         complete = h .complete;
         distinct = h .distinct;
         lists = h .lists;
-        quiet = h .quiet;
-        quiet-nodes = λ ref m e j q p a.
-            ⊎-elim (λ (x : (j ≡ id) × (k ≡ q)). free ref m e (sym (ap (λ y. y .addr) (x .1) ∙ a))) (λ x. h .quiet-nodes ref m e j q (x .1) a) (put-some nw id k j p);
+        none-at-place = h .none-at-place;
+        none-at-nodes = λ ref m e j q p a.
+            ⊎-elim (λ (x : (j ≡ id) × (k ≡ q)). free ref m e (sym (ap (λ y. y .addr) (x .1) ∙ a))) (λ x. h .none-at-nodes ref m e j q (x .1) a) (put-some nw id k j p);
       }
 
   -- a table written in another area
@@ -139,8 +139,8 @@ module _ (d : ℕ) (tables : Imap IndirectionTable) (nodes : Imap Node) (tw nw :
         complete = h .complete;
         distinct = h .distinct;
         lists = h .lists;
-        quiet = λ j q p a. ⊎-elim (λ (x : (j ≡ id) × (k ≡ q)). apart (ap (λ y. y .addr) (x .1) ∙ a)) (λ x. h .quiet j q (x .1) a) (put-some tw id k j p);
-        quiet-nodes = h .quiet-nodes;
+        none-at-place = λ j q p a. ⊎-elim (λ (x : (j ≡ id) × (k ≡ q)). apart (ap (λ y. y .addr) (x .1) ∙ a)) (λ x. h .none-at-place j q (x .1) a) (put-some tw id k j p);
+        none-at-nodes = h .none-at-nodes;
       }
 
   -- requests answered
@@ -154,23 +154,23 @@ module _ (d : ℕ) (tables : Imap IndirectionTable) (nodes : Imap Node) (tw nw :
         complete = h .complete;
         distinct = h .distinct;
         lists = h .lists;
-        quiet = λ j q p. h .quiet j q (f j q p);
-        quiet-nodes = λ ref m e j q p. h .quiet-nodes ref m e j q (g j q p);
+        none-at-place = λ j q p. h .none-at-place j q (f j q p);
+        none-at-nodes = λ ref m e j q p. h .none-at-nodes ref m e j q (g j q p);
       }
 
   -- a crash leaves what no write is queued for, and nothing queued
   pub kept-crash : (tables' : Imap IndirectionTable) (nodes' : Imap Node) (tw' nw' : Map Location) → NoneQueued tw' → NoneQueued nw' →
-      ((k : Location) (t : IndirectionTable) → tables k ≡ some t → Quiet tw (k .addr) → tables' k ≡ some t) →
-      ((k : Location) (n : Node) → nodes k ≡ some n → Quiet nw (k .addr) → nodes' k ≡ some n) → Kept d tables' nodes' tw' nw' l pic
+      ((k : Location) (t : IndirectionTable) → tables k ≡ some t → NoneAt tw (k .addr) → tables' k ≡ some t) →
+      ((k : Location) (n : Node) → nodes k ≡ some n → NoneAt nw (k .addr) → nodes' k ≡ some n) → Kept d tables' nodes' tw' nw' l pic
   kept-crash tables' nodes' tw' nw' none-t none-n still-t still-n =
       record {
         table = h .table;
-        stored = still-t l (h .table) (h .stored) (h .quiet);
-        located = λ ref k e. let s = h .located ref k e in record { node = s .node; stored = still-n k (s .node) (s .stored) (h .quiet-nodes ref k e); drawn = s .drawn };
+        stored = still-t l (h .table) (h .stored) (h .none-at-place);
+        located = λ ref k e. let s = h .located ref k e in record { node = s .node; stored = still-n k (s .node) (s .stored) (h .none-at-nodes ref k e); pictured = s .pictured };
         no-more = h .no-more;
         complete = h .complete;
         distinct = h .distinct;
         lists = h .lists;
-        quiet = λ j q p a. none-t j q p;
-        quiet-nodes = λ ref k e j q p a. none-n j q p;
+        none-at-place = λ j q p a. none-t j q p;
+        none-at-nodes = λ ref k e j q p a. none-n j q p;
       }

@@ -7,7 +7,7 @@ pub mod KeepNodes
 pub mod KeepWrite
 pub mod KeepSteps
 pub mod Accepting
-pub mod Stories
+pub mod PictureSteps
 pub mod Tallies
 pub mod Counting
 pub mod Keep

@@ -11,10 +11,10 @@ use Rattle.base.specs.Maps.{isSome}
 use Rattle.blockcache.proofs.Demand2.{cache-read}
 use Rattle.blockcache.proofs.Numbers.{rows-accepted-iff}
 use Rattle.blockcache.specs.Form.{readyPhase}
-use Rattle.blockcache.specs.Step.{cacheStep, obeyed, stepNode}
+use Rattle.blockcache.specs.Step.{cacheStep, stepped, stepNode}
 use Rattle.blockcache.specs.Steps.{readyVars, varsIn}
 use Rattle.blockcache.specs.Upstream.{ready}
-use Rattle.blockcache.specs.declared.Cache.{Cache}
+use Rattle.blockcache.specs.declared.CacheState.{CacheState}
 use Rattle.blockcache.specs.declared.Call.{Call}
 use Rattle.blockcache.specs.declared.Phase.{Phase}
 use Rattle.blockcache.specs.declared.Phase.the-variants.{Loading as PhaseLoading, Ready as PhaseReady, Unready as PhaseUnready}
@@ -31,7 +31,7 @@ use Rattle.sectortype.specs.declared.Node.{Node}
 use Rattle.blocksystem.proofs.Accepting.{joined-node, joined-zero}
 use Rattle.blocksystem.proofs.Demand3.{run-keeps}
 use Rattle.blocksystem.proofs.Formatted.{formatted-holds}
-use Rattle.blocksystem.proofs.Invariant.{InPhase, Invariant, KeptOn, taleOf}
+use Rattle.blocksystem.proofs.Invariant.{InPhase, Invariant, KeptOn, pictureMaps}
 use Rattle.blocksystem.proofs.Laws.{kept-keys, some-of}
 use Rattle.blocksystem.proofs.Starting.{wf-succs-iff}
 use Rattle.blocksystem.specs.Joined.{joined, joinedAnswer}
@@ -41,7 +41,7 @@ use Rattle.blocksystem.specs.Start.{WFSuccs as wholeGraph}
 use Rattle.blocksystem.specs.Upstream.{DiskGraph, WFSuccs, systemVars}
 
 -- after any list a place is named
-pub always-named : (d : ℕ) → made d ≡ true → (x : ℕ) (calls : List JoinedCall) → startsNamed d (start d x) calls ≡ true → after d (start d x) calls .story .first .present ≡ true
+pub always-named : (d : ℕ) → made d ≡ true → (x : ℕ) (calls : List JoinedCall) → startsNamed d (start d x) calls ≡ true → after d (start d x) calls .pictures .first .present ≡ true
 always-named d on x calls n = run-keeps d calls (start d x) (formatted-holds d x on) n .first-named
 
 -- A START
@@ -51,16 +51,16 @@ module _ (d : ℕ) (s : State) (v : Invariant d s) (l : Location) (pic : ℕ →
   nodes = diskVars d (s .disk) .nodes
 
   -- the graph read through the place is its picture
-  graph-drawn : (ref : ℕ) → DiskGraph (k .table) nodes ref ≡ pic ref
+  graph-pictured : (ref : ℕ) → DiskGraph (k .table) nodes ref ≡ pic ref
   unfolding DiskGraph
-  graph-drawn ref =
+  graph-pictured ref =
       split (isSome (k .table .locs ref))
-      (λ e. let m = some-of (k .table .locs) ref e in let z = k .located ref (m .0) (m .1) in rw (k .complete .keys ref, m .1) (z .stored ∙ sym (z .drawn)))
+      (λ e. let m = some-of (k .table .locs) ref e in let z = k .located ref (m .0) (m .1) in rw (k .complete .keys ref, m .1) (z .stored ∙ sym (z .pictured)))
       (λ e. rw (k .complete .keys ref, e) (sym (k .no-more ref (none-iff (k .table .locs ref) .0 e))))
 
   graph-keys : (ref : ℕ) → isSome (DiskGraph (k .table) nodes ref) ≡ isSome (k .table .graph ref)
   graph-keys ref =
-      ap isSome (graph-drawn ref)
+      ap isSome (graph-pictured ref)
       ∙ kept-keys d (diskVars d (s .disk) .indirectionTables) nodes (diskVars d (s .disk) .reqWriteIndirectionTables) (diskVars d (s .disk) .reqWriteNodes) l pic k ref ∙ sym (k .complete .keys ref)
 
   pub kept-succs : WFSuccs d (systemVars d (s .cache) (s .disk)) l
@@ -79,43 +79,43 @@ module _ (d : ℕ) (s : State) (v : Invariant d s) (l : Location) (pic : ℕ →
             (record {
               there = λ ref i. graph-keys ref ∙ i;
               back = λ ref i. sym (graph-keys ref) ∙ i;
-              same = λ ref list n g e. k .lists ref list n g (sym (graph-drawn ref) ∙ e);
+              same = λ ref list n g e. k .lists ref list n g (sym (graph-pictured ref) ∙ e);
             });
         closed = rw (k .stored)
             (λ r1 r2 n e h.
             let g = some-of (k .table .graph) r1 (sym (graph-keys r1) ∙ ap isSome e) in
-            let same = k .lists r1 (g .0) n (g .1) (sym (graph-drawn r1) ∙ e) r2 in
+            let same = k .lists r1 (g .0) n (g .1) (sym (graph-pictured r1) ∙ e) r2 in
             graph-keys r2 ∙ k .complete .graphClosed r1 (g .0) (g .1) r2 (same ∙ h));
       }
 
 -- 20 is never given to a start at a named place
-pub named-whole : (d : ℕ) (s : State) → Invariant d s → (l : Location) → (names (s .story .first) l || names (s .story .second) l) ≡ true → wholeGraph d (s .disk .records) l ≡ true
+pub named-whole : (d : ℕ) (s : State) → Invariant d s → (l : Location) → (names (s .pictures .first) l || names (s .pictures .second) l) ≡ true → wholeGraph d (s .disk .records) l ≡ true
 named-whole d s v l h =
     let f = disk-form-iff d (s .disk) .0 (v .disk-form) in
     wf-succs-iff d (s .disk) f (s .cache) l .1
     (⊎-elim
-    (λ a. let e = and-iff (s .story .first .present) (sameLoc (s .story .first .place) l) .0 a in
-    let p : s .story .first .place ≡ l = same-loc-iff (s .story .first .place) l .0 (e .1) in
-    rw p at (kept-succs d s v (s .story .first .place) (nodesMap (s .story .first .picture)) (v .whole .first)))
-    (λ a. let e = and-iff (s .story .second .present) (sameLoc (s .story .second .place) l) .0 a in
-    let p : s .story .second .place ≡ l = same-loc-iff (s .story .second .place) l .0 (e .1) in
-    kept-succs d s v l (nodesMap (s .story .second .picture)) (v .whole .second l (rw (e .0) (ap some p))))
-    (or-cases (names (s .story .first) l) (names (s .story .second) l) h))
+    (λ a. let e = and-iff (s .pictures .first .present) (sameLoc (s .pictures .first .place) l) .0 a in
+    let p : s .pictures .first .place ≡ l = same-loc-iff (s .pictures .first .place) l .0 (e .1) in
+    rw p at (kept-succs d s v (s .pictures .first .place) (nodesMap (s .pictures .first .picture)) (v .whole .first)))
+    (λ a. let e = and-iff (s .pictures .second .present) (sameLoc (s .pictures .second .place) l) .0 a in
+    let p : s .pictures .second .place ≡ l = same-loc-iff (s .pictures .second .place) l .0 (e .1) in
+    kept-succs d s v l (nodesMap (s .pictures .second .picture)) (v .whole .second l (rw (e .0) (ap some p))))
+    (or-cases (names (s .pictures .first) l) (names (s .pictures .second) l) h))
 
 -- A READ
 
-ready-vars : (c : Cache) (p : Phase) → readyPhase p ≡ true → varsIn p c ≡ ready (readyVars c)
+ready-vars : (c : CacheState) (p : Phase) → readyPhase p ≡ true → varsIn p c ≡ ready (readyVars c)
 ready-vars c PhaseUnready e = absurd (false≢true e)
 ready-vars c PhaseLoading e = absurd (false≢true e)
 ready-vars c PhaseReady e = refl
 
 -- an accepted read hands out the working picture's node
-pub read-drawn : (d : ℕ) (s : State) (q : Call) (o : Records) → Invariant d s → joinedAnswer d 17 q o (s .cache) (s .disk) ≡ 0 →
-    nodesMap (s .story .working) (q .reference) ≡ some (joined d 17 q o (s .cache) (s .disk) .node)
-unfolding cacheStep obeyed
-read-drawn d s q o v e =
+pub read-pictured : (d : ℕ) (s : State) (q : Call) (o : Records) → Invariant d s → joinedAnswer d 17 q o (s .cache) (s .disk) ≡ 0 →
+    nodesMap (s .pictures .working) (q .reference) ≡ some (joined d 17 q o (s .cache) (s .disk) .node)
+unfolding cacheStep stepped
+read-pictured d s q o v e =
     let z = joined-zero d 17 q o (s .cache) (s .disk) .0 e in
     let r = cache-read d (s .cache) q (z .0) in
-    let p = subst (λ x. InPhase x (diskVars d (s .disk)) (taleOf (s .story))) (ready-vars (s .cache) (s .cache .phase) (r .0)) (v .whole .phase) in
+    let p = subst (λ x. InPhase x (diskVars d (s .disk)) (pictureMaps (s .pictures))) (ready-vars (s .cache) (s .cache .phase) (r .0)) (v .whole .phase) in
     let w = rows-accepted-iff d (s .cache) 17 q .0 (z .0) .0 in
     rw (joined-node d 17 q o (s .cache) (s .disk) e, w) (p .cached (q .reference) (stepNode d (s .cache) 17 (q .reference) q) (r .2 .allocated) (r .2 .cached))

@@ -10,12 +10,12 @@ use Rattle.base.specs.Maps.{isSome}
 use Rattle.base.specs.Scan.{allBelow}
 use Rattle.blockcache.proofs.Bridge.{complete-test-iff}
 use Rattle.blockcache.specs.Upstream.{In, SameSuccs, WFCompleteIndirectionTable}
-use Rattle.blockcache.specs.declared.Cache.{Cache}
+use Rattle.blockcache.specs.declared.CacheState.{CacheState}
 use Rattle.blockdisk.proofs.Forms.{DiskForm}
 use Rattle.blockdisk.proofs.Reading.{node-read-iff, stored-table-form, stored-table-place, table-read-iff, upstream-of, upstream-some}
 use Rattle.blockdisk.specs.Records.{readNode, readTable}
 use Rattle.blockdisk.specs.Upstream.{nodesStored, tablesStored}
-use Rattle.blockdisk.specs.declared.Disk.{Disk}
+use Rattle.blockdisk.specs.declared.DiskState.{DiskState}
 use Rattle.disklayout.specs.declared.Location.{Location}
 use Rattle.sectortype.proofs.Graphs.{same-set-iff, within-iff}
 use Rattle.sectortype.proofs.Maps.{graph-at, graph-bounded, graph-some, in-graph, in-locs, locs-at, locs-some}
@@ -28,7 +28,7 @@ use Rattle.sectortype.specs.declared.Table.{Table}
 use Rattle.blocksystem.specs.Start.{WFSuccs as wholeGraph, graphStored, nodeAgrees, refAgrees}
 use Rattle.blocksystem.specs.Upstream.{DiskGraph, NoDanglingPointers, SuccessorsAgree, WFSuccs, at, systemVars}
 
-module _ (d : ℕ) (s : Disk) (f : DiskForm d s) where
+module _ (d : ℕ) (s : DiskState) (f : DiskForm d s) where
   abbrev nodes : Location → Option Node
   nodes = nodesStored d (s .records)
 
@@ -123,7 +123,7 @@ module _ (d : ℕ) (s : Disk) (f : DiskForm d s) where
 
   -- AT A PLACE
 
-  module _ (c : Cache) (l : Location) where
+  module _ (c : CacheState) (l : Location) where
     pub wf-succs-iff : (wholeGraph d (s .records) l ≡ true) ↔ WFSuccs d (systemVars d c s) l
     unfolding wholeGraph
     wf-succs-iff = (to, from)

@@ -9,7 +9,7 @@ use Rattle.base.specs.Refusals.{NoneOf}
 use Rattle.blockcache.specs.Narrowings.{narrowed}
 use Rattle.blockcache.specs.Steps.{Step as MStep, stepOf}
 use Rattle.blockcache.specs.Upstream.{Variables as MVariables}
-use Rattle.blockcache.specs.declared.Cache.{Cache}
+use Rattle.blockcache.specs.declared.CacheState.{CacheState}
 use Rattle.blockcache.specs.declared.Call.{Call}
 use Rattle.blockcache.specs.declared.VersionOp.{VersionOp}
 use Rattle.blockcache.specs.declared.VersionOp.the-variants.{StatesInternalOp}
@@ -17,7 +17,7 @@ use Rattle.blockdisk.specs.Crash.{crashRows, crashed}
 use Rattle.blockdisk.specs.Form.{recordsChecked}
 use Rattle.blockdisk.specs.Ops.{diskRows}
 use Rattle.blockdisk.specs.Upstream.{Dop, diskVars, dopOf}
-use Rattle.blockdisk.specs.declared.Disk.{Disk}
+use Rattle.blockdisk.specs.declared.DiskState.{DiskState}
 use Rattle.blockdisk.specs.declared.Records.{Records}
 use Rattle.blocksystem.specs.Joined.{diskCall, joined}
 use Rattle.blocksystem.specs.Upstream.{Crash, Machine, Variables, systemVars}
@@ -29,7 +29,7 @@ joinedOp n q = dopOf (diskCall n q)
 abbrev pub joinedVop : ℕ → Call → VersionOp
 joinedVop n q = cond (eqb n 17) StatesInternalOp (q .vop)
 
-module _ (d n : ℕ) (q : Call) (o : Records) (c : Cache) (s : Disk) where
+module _ (d n : ℕ) (q : Call) (o : Records) (c : CacheState) (s : DiskState) where
   -- no narrowing of cache or disk applies
   pub record NoNarrowing : Type 0 where
     pub cache : narrowed d c n q ≡ false

@@ -6,7 +6,7 @@ use Rattle.base.specs.Refusals.{answer}
 use Rattle.blockcache.specs.Form.{emptyCache}
 use Rattle.blockdisk.specs.Crash.{emptyQueues}
 use Rattle.blockdisk.specs.Records.{emptyRecords}
-use Rattle.blockdisk.specs.declared.Disk.{Disk}
+use Rattle.blockdisk.specs.declared.DiskState.{DiskState}
 use Rattle.blockdisk.specs.declared.Records.{Records}
 use Rattle.disklayout.specs.Blocks.{FirstNodeAddr}
 use Rattle.disklayout.specs.Calls.{number}
@@ -43,10 +43,10 @@ formattedRecords k l x =
       nodes = set (emptyRecords .nodes) 0 (record { present = true; loc = l; node = rootNode x });
     }
 
-abbrev pub formattedDisk : ℕ → ℕ → Disk
+abbrev pub formattedDisk : ℕ → ℕ → DiskState
 formattedDisk d x = record { records = formattedRecords (tablePlaceOf d) (rootPlace d) x; queues = emptyQueues }
 
-abbrev pub emptyDisk : Disk
+abbrev pub emptyDisk : DiskState
 emptyDisk = record { records = emptyRecords; queues = emptyQueues }
 
 -- a device above 2 gives 1 and zeros

@@ -6,11 +6,11 @@ use lib.Dec.{eqb}
 use Rattle.base.specs.Refusals.{Row, _when_, answer, lowest}
 use Rattle.blockcache.specs.Ops.{vopLoc}
 use Rattle.blockcache.specs.Step.{cacheStep}
-use Rattle.blockcache.specs.declared.Cache.{Cache}
+use Rattle.blockcache.specs.declared.CacheState.{CacheState}
 use Rattle.blockcache.specs.declared.Call.{Call}
 use Rattle.blockdisk.specs.Crash.{diskCrash}
 use Rattle.blockdisk.specs.Ops.{diskStep}
-use Rattle.blockdisk.specs.declared.Disk.{Disk}
+use Rattle.blockdisk.specs.declared.DiskState.{DiskState}
 use Rattle.blockdisk.specs.declared.DiskCall.{DiskCall}
 use Rattle.blockdisk.specs.declared.DiskOp.the-variants.{NoDiskOp}
 use Rattle.blockdisk.specs.declared.DiskOutcome.{DiskOutcome}
@@ -23,17 +23,17 @@ use Rattle.blocksystem.specs.declared.Outcome.{Outcome}
 abbrev pub diskCall : ℕ → Call → DiskCall
 diskCall n q = record { op = cond (eqb n 17) NoDiskOp (q .dop); node = q .node; table = q .table }
 
-unfoldable pub diskAsked : ℕ → ℕ → Call → Records → Disk → DiskOutcome
+unfoldable pub diskAsked : ℕ → ℕ → Call → Records → DiskState → DiskOutcome
 diskAsked d n q o s = cond (eqb n 18) (diskCrash d s o) (diskStep d s (diskCall n q))
 
 -- a start: 20 where no whole graph is stored at the place given
-abbrev pub startRows : ℕ → ℕ → Call → Disk → List Row
+abbrev pub startRows : ℕ → ℕ → Call → DiskState → List Row
 startRows d n q s = (20 when (eqb n 10 && not (WFSuccs d (s .records) (vopLoc (q .vop))))) ∷ []
 
-unfoldable pub joinedAnswer : ℕ → ℕ → Call → Records → Cache → Disk → ℕ
+unfoldable pub joinedAnswer : ℕ → ℕ → Call → Records → CacheState → DiskState → ℕ
 joinedAnswer d n q o c s = lowest (lowest (cacheStep d c n q .answer) (diskAsked d n q o s .answer)) (answer (startRows d n q s))
 
-unfoldable pub joined : ℕ → ℕ → Call → Records → Cache → Disk → Outcome
+unfoldable pub joined : ℕ → ℕ → Call → Records → CacheState → DiskState → Outcome
 joined d n q o c s =
     record {
       answer = joinedAnswer d n q o c s;

@@ -6,17 +6,17 @@ use Rattle.blockcache.specs.Next.{cachedSlot}
 use Rattle.blockcache.specs.Ops.{vopLoc}
 use Rattle.blockcache.specs.Rows.{first}
 use Rattle.blockcache.specs.declared.Call.{Call}
-use Rattle.disklayout.specs.Calls.{place}
+use Rattle.disklayout.specs.Calls.{place, zeroLoc}
 use Rattle.disklayout.specs.declared.Location.{Location}
-use Rattle.sectortype.specs.Form.{emptyNodes, withSlot, zeroLoc, zeroSlot}
+use Rattle.sectortype.specs.Form.{emptyNodes, withSlot, zeroSlot}
 use Rattle.sectortype.specs.Same.{sameLoc}
 use Rattle.sectortype.specs.declared.Nodes.{Nodes}
 use Rattle.blocksystem.specs.Format.{rootNode, tablePlaceOf}
 use Rattle.blocksystem.specs.declared.Named.{Named}
-use Rattle.blocksystem.specs.declared.Story.{Story}
+use Rattle.blocksystem.specs.declared.Pictures.{Pictures}
 
-abbrev pub noName : Named
-noName = record { present = false; place = zeroLoc; picture = emptyNodes }
+abbrev pub zeroNamed : Named
+zeroNamed = record { present = false; place = zeroLoc; picture = emptyNodes }
 
 abbrev pub naming : Location → Nodes → Named
 naming l p = record { present = true; place = l; picture = p }
@@ -25,46 +25,46 @@ abbrev pub withRoot : ℕ → Nodes
 withRoot x = withSlot emptyNodes 0 (record { present = true; node = rootNode x })
 
 -- at first the formatted table's place is named; its picture and the working one hold the root
-unfoldable pub firstStory : ℕ → ℕ → Story
-firstStory d x = record { first = naming (tablePlaceOf d) (withRoot x); second = noName; working = withRoot x; frozen = emptyNodes }
+unfoldable pub firstPictures : ℕ → ℕ → Pictures
+firstPictures d x = record { first = naming (tablePlaceOf d) (withRoot x); second = zeroNamed; working = withRoot x; frozen = emptyNodes }
 
 -- the name is of this place
 abbrev pub names : Named → Location → Bool
 names m l = m .present && sameLoc (m .place) l
 
 -- the picture that belongs to a place; the empty one where it is not named
-abbrev pub pictureOf : Story → Location → Nodes
+abbrev pub pictureOf : Pictures → Location → Nodes
 pictureOf t l = cond (names (t .first) l) (t .first .picture) (cond (names (t .second) l) (t .second .picture) emptyNodes)
 
-abbrev pub drawn : Story → Nodes → Story
-drawn t w = record { first = t .first; second = t .second; working = w; frozen = t .frozen }
+abbrev pub withWorking : Pictures → Nodes → Pictures
+withWorking t w = record { first = t .first; second = t .second; working = w; frozen = t .frozen }
 
 -- WHAT AN ACCEPTED CALL DOES
 
 -- step 4 names V's location, as the frozen place, with a copy of the frozen picture
-abbrev pub frozenNamed : Story → Location → Story
+abbrev pub frozenNamed : Pictures → Location → Pictures
 frozenNamed t l = record { first = t .first; second = naming l (t .frozen); working = t .working; frozen = t .frozen }
 
 -- a start leaves only its own place named and copies that place's picture to the working one
-abbrev pub startedAt : Story → Location → Story
-startedAt t l = record { first = naming l (pictureOf t l); second = noName; working = pictureOf t l; frozen = t .frozen }
+abbrev pub startedAt : Pictures → Location → Pictures
+startedAt t l = record { first = naming l (pictureOf t l); second = zeroNamed; working = pictureOf t l; frozen = t .frozen }
 
 -- Freeze copies the working picture to the frozen one and un-names the frozen place, if any
-abbrev pub froze : Story → Story
-froze t = record { first = t .first; second = noName; working = t .working; frozen = t .working }
+abbrev pub froze : Pictures → Pictures
+froze t = record { first = t .first; second = zeroNamed; working = t .working; frozen = t .working }
 
 -- CleanUp leaves only the frozen place named
-abbrev pub cleaned : Story → Story
-cleaned t = record { first = t .second; second = noName; working = t .working; frozen = t .frozen }
+abbrev pub cleaned : Pictures → Pictures
+cleaned t = record { first = t .second; second = zeroNamed; working = t .working; frozen = t .frozen }
 
 -- Dirty and Alloc set a reference's node in the working picture; Unalloc removes it; crash and the other steps change nothing
-unfoldable pub told : ℕ → Call → Story → Story
-told n q t =
+unfoldable pub picturesAfter : ℕ → Call → Pictures → Pictures
+picturesAfter n q t =
     cond (eqb n 4) (frozenNamed t (vopLoc (q .vop)))
-    (cond (eqb n 5) (drawn t (withSlot (t .working) (q .reference) zeroSlot))
+    (cond (eqb n 5) (withWorking t (withSlot (t .working) (q .reference) zeroSlot))
     (cond (eqb n 10) (startedAt t (vopLoc (q .vop)))
     (cond (eqb n 12) (froze t)
     (cond (eqb n 13) (cleaned t)
-    (cond (eqb n 15) (drawn t (withSlot (t .working) (q .reference) (cachedSlot (q .node))))
-    (cond (eqb n 16) (drawn t (withSlot (t .working) (q .reference) (cachedSlot (q .node))))
+    (cond (eqb n 15) (withWorking t (withSlot (t .working) (q .reference) (cachedSlot (q .node))))
+    (cond (eqb n 16) (withWorking t (withSlot (t .working) (q .reference) (cachedSlot (q .node))))
     t))))))

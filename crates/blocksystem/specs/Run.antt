@@ -8,19 +8,19 @@ use lib.Dec.{eqb}
 use Rattle.base.specs.Refusals.{Row, holds}
 use Rattle.blockcache.specs.Ops.{vopLoc}
 use Rattle.blockcache.specs.Step.{cacheRows, cacheStep}
-use Rattle.blockcache.specs.declared.Cache.{Cache}
+use Rattle.blockcache.specs.declared.CacheState.{CacheState}
 use Rattle.blockcache.specs.declared.Call.{Call}
 use Rattle.blockdisk.specs.Crash.{crashRows}
 use Rattle.blockdisk.specs.Ops.{diskRows}
-use Rattle.blockdisk.specs.declared.Disk.{Disk}
+use Rattle.blockdisk.specs.declared.DiskState.{DiskState}
 use Rattle.blockdisk.specs.declared.Records.{Records}
 use Rattle.sectortype.specs.Form.{zeroNode}
 use Rattle.blocksystem.specs.Audit.{counted, noneCounted}
 use Rattle.blocksystem.specs.Format.{formatted}
 use Rattle.blocksystem.specs.Joined.{diskAsked, diskCall, joined, startRows}
-use Rattle.blocksystem.specs.Names.{firstStory, names, told}
+use Rattle.blocksystem.specs.Names.{firstPictures, names, picturesAfter}
 use Rattle.blocksystem.specs.declared.Outcome.{Outcome}
-use Rattle.blocksystem.specs.declared.Story.{Story}
+use Rattle.blocksystem.specs.declared.Pictures.{Pictures}
 
 -- a joined call: its step number, its arguments, and the records offered, which a crash alone looks at
 pub record JoinedCall : Type 0 where
@@ -30,13 +30,13 @@ pub record JoinedCall : Type 0 where
 
 -- cache and disk as the last call handed them back, and the names and pictures
 pub record State : Type 0 where
-  pub cache : Cache
-  pub disk : Disk
-  pub story : Story
+  pub cache : CacheState
+  pub disk : DiskState
+  pub pictures : Pictures
 
 module _ (d : ℕ) where
   abbrev pub start : ℕ → State
-  start x = record { cache = formatted d x .cache; disk = formatted d x .disk; story = firstStory d x }
+  start x = record { cache = formatted d x .cache; disk = formatted d x .disk; pictures = firstPictures d x }
 
   abbrev pub asked : State → JoinedCall → Outcome
   asked s k = joined d (k .number) (k .args) (k .offered) (s .cache) (s .disk)
@@ -50,7 +50,7 @@ module _ (d : ℕ) where
       record {
         cache = asked s k .cache;
         disk = asked s k .disk;
-        story = cond (accepts s k) (told (k .number) (k .args) (s .story)) (s .story);
+        pictures = cond (accepts s k) (picturesAfter (k .number) (k .args) (s .pictures)) (s .pictures);
       }
 
   unfoldable pub outcomes : State → List JoinedCall → List Outcome
@@ -95,7 +95,7 @@ module _ (d : ℕ) where
   -- each accepted start is given a place then named
   abbrev pub startNamed : State → JoinedCall → Bool
   startNamed s k =
-      not (accepts s k && eqb (k .number) 10) || names (s .story .first) (vopLoc (k .args .vop)) || names (s .story .second) (vopLoc (k .args .vop))
+      not (accepts s k && eqb (k .number) 10) || names (s .pictures .first) (vopLoc (k .args .vop)) || names (s .pictures .second) (vopLoc (k .args .vop))
 
   unfoldable pub startsNamed : State → List JoinedCall → Bool
   startsNamed s [] = true
@@ -104,5 +104,5 @@ module _ (d : ℕ) where
   -- for a named place: lost, added and altered are each 0
   abbrev pub nothingLost : State → Type 0
   nothingLost s =
-      (s .story .first .present ≡ true → counted d (s .disk .records) (s .story .first) ≡ noneCounted)
-      × (s .story .second .present ≡ true → counted d (s .disk .records) (s .story .second) ≡ noneCounted)
+      (s .pictures .first .present ≡ true → counted d (s .disk .records) (s .pictures .first) ≡ noneCounted)
+      × (s .pictures .second .present ≡ true → counted d (s .disk .records) (s .pictures .second) ≡ noneCounted)

@@ -8,11 +8,11 @@ use mathlib.Core.Path.{_≡_}
 use Rattle.base.specs.Maps.{Map, empty, isSome}
 use Rattle.blockcache.specs.Steps.{NextStep as MNextStep, Step as MStep, cacheVars}
 use Rattle.blockcache.specs.Upstream.{In, Init as MInit, OutstandingWrite, Ready, SameSuccs, Variables as MVariables, WFCompleteIndirectionTable, loadingIndirectionTable, ready, unready}
-use Rattle.blockcache.specs.declared.Cache.{Cache}
+use Rattle.blockcache.specs.declared.CacheState.{CacheState}
 use Rattle.blockcache.specs.declared.VersionOp.{VersionOp}
 use Rattle.blockcache.specs.declared.VersionOp.the-variants.{CrashOp, SendPersistentLocOp}
 use Rattle.blockdisk.specs.Upstream.{Crash as DCrash, Dop, Imap, Init as DInit, Next as DNext, Variables as DVariables, diskVars}
-use Rattle.blockdisk.specs.declared.Disk.{Disk}
+use Rattle.blockdisk.specs.declared.DiskState.{DiskState}
 use Rattle.disklayout.specs.Device.{deviceOf}
 use Rattle.disklayout.specs.Layout.{ValidIndirectionTableLocation}
 use Rattle.disklayout.specs.declared.Location.{Location}
@@ -222,5 +222,5 @@ Next d s s' vop = (step : Step) × NextStep d s s' vop step
 
 -- WHAT CACHE AND DISK STAND FOR
 
-abbrev pub systemVars : ℕ → Cache → Disk → Variables
+abbrev pub systemVars : ℕ → CacheState → DiskState → Variables
 systemVars d c s = record { machine = cacheVars c; disk = diskVars d s }

@@ -1,7 +1,7 @@
 // Upstream's BlockSystem as definitions: formatting, the joined call, names and pictures, what is lost, and the theorems of demands 2
 // and 3. No code: `system` has the calls.
-use blockcache::Cache;
-use blockdisk::Disk;
+use blockcache::CacheState;
+use blockdisk::DiskState;
 use disklayout::Location;
 use sectortype::Node;
 use sectortype::Nodes;
@@ -11,8 +11,8 @@ use sectortype::Nodes;
 pub struct Outcome {
     pub answer: u64,
     pub node: Node,
-    pub cache: Cache,
-    pub disk: Disk,
+    pub cache: CacheState,
+    pub disk: DiskState,
 }
 
 // A place that is named, with the picture that belongs to it; nothing named is all zeros.
@@ -24,7 +24,7 @@ pub struct Named {
 
 // Names and pictures: the place that formatting, a start or a clean-up left named, the frozen place that step 4 named, the working
 // picture and the frozen one.
-pub struct Story {
+pub struct Pictures {
     pub first: Named,
     pub second: Named,
     pub working: Nodes,

@@ -2,7 +2,7 @@
 ghost use mathlib.Core.Path.{_≡_};
 ghost use Prim.Native.Nat.{_<_};
 ghost use Rattle.blockcache.specs.Rows.{readRef};
-ghost use Rattle.blockcache.specs.Step.{obeyed, cacheStep};
+ghost use Rattle.blockcache.specs.Step.{stepped, cacheStep};
 use crate::form::cache_form;
 use crate::form::call_form;
 use crate::load::crash;
@@ -24,14 +24,14 @@ use crate::write::write_back_indirection_table_req;
 use crate::write::write_back_indirection_table_resp;
 use crate::write::write_back_node_req;
 use crate::write::write_back_node_resp;
-use blockcache::Cache;
+use blockcache::CacheState;
 use blockcache::CacheOutcome;
 use blockcache::Call;
 
 // The step alone, on a cache and a call in their written form.
-fn obey(c: Cache, device: u64, number: u64, r: usize, q: Call) -> CacheOutcome
+fn dispatch(c: CacheState, device: u64, number: u64, r: usize, q: Call) -> CacheOutcome
     requires { ⌜ (r < 64) × (readRef device c r q < 64) ⌝ }
-    ensures { λ o. ⌜ o ≡ obeyed device c number r q ⌝ }
+    ensures { λ o. ⌜ o ≡ stepped device c number r q ⌝ }
 {
     match number {
         1 => write_back_node_req(c, device, r, q),
@@ -56,7 +56,7 @@ fn obey(c: Cache, device: u64, number: u64, r: usize, q: Call) -> CacheOutcome
     }
 }
 
-pub fn step(c: Cache, device: u64, number: u64, q: Call) -> CacheOutcome
+pub fn step(c: CacheState, device: u64, number: u64, q: Call) -> CacheOutcome
     ensures { λ o. ⌜ o ≡ cacheStep device c number q ⌝ }
 {
     let form = cache_form(c);
@@ -64,7 +64,7 @@ pub fn step(c: Cache, device: u64, number: u64, q: Call) -> CacheOutcome
     let known = device <= 2;
     let good = known & form & call;
     if good {
-        return obey(c, device, number, q.reference as usize, q);
+        return dispatch(c, device, number, q.reference as usize, q);
     }
     answered(c, 1)
 }

@@ -2,7 +2,7 @@
 ghost use mathlib.Core.Path.{_≡_};
 ghost use Rattle.blockcache.specs.Form.{writesForm, readsForm, tablesForm, placesForm, awaitedForm, outstandingForm, idle, phaseForm, cacheForm, callForm, emptyCache, loadingAt};
 use blockcache::Awaited;
-use blockcache::Cache;
+use blockcache::CacheState;
 use blockcache::Call;
 use blockcache::Outstanding;
 use blockcache::Phase;
@@ -82,7 +82,7 @@ fn outstanding_form(o: Outstanding) -> bool
 }
 
 // No table, no frozen place, nothing outstanding, nothing cached.
-fn idle(c: Cache) -> bool
+fn idle(c: CacheState) -> bool
     ensures { λ b. ⌜ b ≡ idle c ⌝ }
 {
     let ts = c.tables;
@@ -103,7 +103,7 @@ fn idle(c: Cache) -> bool
 }
 
 // What the phase doesn't have is zeros.
-fn phase_form(c: Cache) -> bool
+fn phase_form(c: CacheState) -> bool
     ensures { λ b. ⌜ b ≡ phaseForm c ⌝ }
 {
     let phase = c.phase;
@@ -119,7 +119,7 @@ fn phase_form(c: Cache) -> bool
     }
 }
 
-pub(crate) fn cache_form(c: Cache) -> bool
+pub(crate) fn cache_form(c: CacheState) -> bool
     ensures { λ b. ⌜ b ≡ cacheForm c ⌝ }
 {
     let ts = c.tables;
@@ -148,25 +148,25 @@ pub(crate) fn call_form(q: Call) -> bool
 }
 
 // The cache that has nothing.
-pub fn unready() -> Cache
+pub fn unready() -> CacheState
     ensures { λ c. ⌜ c ≡ emptyCache ⌝ }
 {
-    let nowhere = sector::empty_loc();
+    let nowhere = sector::zero_loc();
     loading(Phase::Unready, nowhere)
 }
 
 // A cache in a phase before Ready, with the place being loaded.
-pub(crate) fn loading(phase: Phase, place: Location) -> Cache
+pub(crate) fn loading(phase: Phase, place: Location) -> CacheState
     ensures { λ c. ⌜ c ≡ loadingAt phase place ⌝ }
 {
     let p = sector::empty_table();
     let e = sector::empty_table();
     let f = sector::empty_table();
-    let nowhere = sector::empty_loc();
-    let w = queue::none();
-    let r = queue::none();
+    let nowhere = sector::zero_loc();
+    let w = queue::empty();
+    let r = queue::empty();
     let nodes = sector::empty_nodes();
-    Cache {
+    CacheState {
         phase,
         tables: Tables {
             persistent: p,

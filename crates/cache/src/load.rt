@@ -15,16 +15,16 @@ use crate::ops::vop_kind;
 use crate::ops::vop_loc;
 use crate::refusal::first_of;
 use crate::refusal::first_three;
-use crate::scan::wrong_table;
+use crate::scan::table_rejected;
 use crate::write::answered;
 use blockcache::Awaited;
-use blockcache::Cache;
+use blockcache::CacheState;
 use blockcache::CacheOutcome;
 use blockcache::Call;
 use blockcache::Phase;
 use blockcache::Tables;
 
-fn is_loading(c: Cache) -> bool
+fn is_loading(c: CacheState) -> bool
     ensures { λ b. ⌜ b ≡ loadingPhase (c .phase) ⌝ }
 {
     let phase = c.phase;
@@ -35,7 +35,7 @@ fn is_loading(c: Cache) -> bool
     }
 }
 
-fn is_unready(c: Cache) -> bool
+fn is_unready(c: CacheState) -> bool
     ensures { λ b. ⌜ b ≡ unreadyPhase (c .phase) ⌝ }
 {
     let phase = c.phase;
@@ -46,7 +46,7 @@ fn is_unready(c: Cache) -> bool
     }
 }
 
-fn page_in_indirection_table_req_refusal(c: Cache, device: u64, r: usize, q: Call) -> u64
+fn page_in_indirection_table_req_refusal(c: CacheState, device: u64, r: usize, q: Call) -> u64
     ensures { λ n. ⌜ n ≡ answer (rows8 device c r q) ⌝ }
 {
     let v = q.vop;
@@ -65,7 +65,7 @@ fn page_in_indirection_table_req_refusal(c: Cache, device: u64, r: usize, q: Cal
 }
 
 pub(crate) fn page_in_indirection_table_req(
-    mut c: Cache,
+    mut c: CacheState,
     device: u64,
     r: usize,
     q: Call,
@@ -83,7 +83,7 @@ pub(crate) fn page_in_indirection_table_req(
     answered(c, 0)
 }
 
-fn page_in_indirection_table_resp_refusal(c: Cache, device: u64, r: usize, q: Call) -> u64
+fn page_in_indirection_table_resp_refusal(c: CacheState, device: u64, r: usize, q: Call) -> u64
     ensures { λ n. ⌜ n ≡ answer (rows9 device c r q) ⌝ }
 {
     let v = q.vop;
@@ -95,7 +95,7 @@ fn page_in_indirection_table_resp_refusal(c: Cache, device: u64, r: usize, q: Ca
     let b = dop_brought(d);
     let a = c.awaited;
     let given = q.table;
-    let wrong = wrong_table(b, device, given);
+    let wrong = table_rejected(b, device, given);
     let n9 = first_of(wrong, 9, 0);
     let n5 = first_of(!(a.waiting & (a.id == id)), 5, n9);
     first_three(vk != 1, dk != 5, !loading, n5)
@@ -103,7 +103,7 @@ fn page_in_indirection_table_resp_refusal(c: Cache, device: u64, r: usize, q: Ca
 
 // The phase is an enum, so the cache is written anew.
 pub(crate) fn page_in_indirection_table_resp(
-    c: Cache,
+    c: CacheState,
     device: u64,
     r: usize,
     q: Call,
@@ -119,7 +119,7 @@ pub(crate) fn page_in_indirection_table_resp(
     let places = c.places;
     let outstanding = c.outstanding;
     let nodes = c.nodes;
-    let next = Cache {
+    let next = CacheState {
         phase: Phase::Ready,
         tables: Tables {
             persistent: t,
@@ -138,7 +138,7 @@ pub(crate) fn page_in_indirection_table_resp(
     answered(next, 0)
 }
 
-fn receive_loc_refusal(c: Cache, device: u64, r: usize, q: Call) -> u64
+fn receive_loc_refusal(c: CacheState, device: u64, r: usize, q: Call) -> u64
     ensures { λ n. ⌜ n ≡ answer (rows10 device c r q) ⌝ }
 {
     let v = q.vop;
@@ -152,7 +152,7 @@ fn receive_loc_refusal(c: Cache, device: u64, r: usize, q: Call) -> u64
     first_three(vk != 3, dk != 0, !unready, n6)
 }
 
-pub(crate) fn receive_loc(c: Cache, device: u64, r: usize, q: Call) -> CacheOutcome
+pub(crate) fn receive_loc(c: CacheState, device: u64, r: usize, q: Call) -> CacheOutcome
     ensures { λ o. ⌜ o ≡ outcome (rows10 device c r q) (next10 c r q) c ⌝ }
 {
     let n = receive_loc_refusal(c, device, r, q);
@@ -166,7 +166,7 @@ pub(crate) fn receive_loc(c: Cache, device: u64, r: usize, q: Call) -> CacheOutc
 }
 
 // The crash's half of step 18: whatever the phase, the cache comes back Unready.
-pub(crate) fn crash(c: Cache, device: u64, r: usize, q: Call) -> CacheOutcome
+pub(crate) fn crash(c: CacheState, device: u64, r: usize, q: Call) -> CacheOutcome
     ensures { λ o. ⌜ o ≡ outcome (rows18 device c r q) emptyCache c ⌝ }
 {
     let v = q.vop;

@@ -13,10 +13,10 @@ use crate::ops::vop_kind;
 use crate::refusal::first_of;
 use crate::refusal::first_three;
 use crate::scan::reads_of;
-use crate::scan::wrong_node;
+use crate::scan::node_rejected;
 use crate::write::answered;
 use crate::write::is_ready;
-use blockcache::Cache;
+use blockcache::CacheState;
 use blockcache::CacheOutcome;
 use blockcache::Call;
 use queue::Request;
@@ -28,7 +28,7 @@ fn index(r: u8) -> usize
     r as usize
 }
 
-fn page_in_node_req_refusal(c: Cache, device: u64, r: usize, q: Call) -> u64
+fn page_in_node_req_refusal(c: CacheState, device: u64, r: usize, q: Call) -> u64
     requires { ⌜ r < 64 ⌝ }
     ensures { λ n. ⌜ n ≡ answer (rows6 device c r q) ⌝ }
 {
@@ -58,7 +58,7 @@ fn page_in_node_req_refusal(c: Cache, device: u64, r: usize, q: Call) -> u64
     first_three(vk != 1, dk != 2, !ready, n5)
 }
 
-pub(crate) fn page_in_node_req(mut c: Cache, device: u64, r: usize, q: Call) -> CacheOutcome
+pub(crate) fn page_in_node_req(mut c: CacheState, device: u64, r: usize, q: Call) -> CacheOutcome
     requires { ⌜ r < 64 ⌝ }
     ensures { λ o. ⌜ o ≡ outcome (rows6 device c r q) (next6 c r q) c ⌝ }
 {
@@ -70,7 +70,7 @@ pub(crate) fn page_in_node_req(mut c: Cache, device: u64, r: usize, q: Call) -> 
     let id = dop_id(d);
     let mut o = c.outstanding;
     let w = o.reads;
-    let loc = sector::empty_loc();
+    let loc = sector::zero_loc();
     let w2 = queue::insert(
         w,
         Request {
@@ -84,7 +84,7 @@ pub(crate) fn page_in_node_req(mut c: Cache, device: u64, r: usize, q: Call) -> 
     answered(c, 0)
 }
 
-fn page_in_node_resp_refusal(c: Cache, device: u64, r: usize, q: Call) -> u64
+fn page_in_node_resp_refusal(c: CacheState, device: u64, r: usize, q: Call) -> u64
     requires { ⌜ readRef device c r q < 64 ⌝ }
     ensures { λ n. ⌜ n ≡ answer (rows7 device c r q) ⌝ }
 {
@@ -106,14 +106,14 @@ fn page_in_node_resp_refusal(c: Cache, device: u64, r: usize, q: Call) -> u64
     let m = c.nodes;
     let slot = m.slots[k];
     let given = q.node;
-    let wrong = wrong_node(b, known, e, given);
+    let wrong = node_rejected(b, known, e, given);
     let n9 = first_of(wrong, 9, 0);
     let n8 = first_of(known & (slot.present | !e.allocated), 8, n9);
     let n5 = first_of(!known, 5, n8);
     first_three(vk != 1, dk != 6, !ready, n5)
 }
 
-pub(crate) fn page_in_node_resp(mut c: Cache, device: u64, r: usize, q: Call) -> CacheOutcome
+pub(crate) fn page_in_node_resp(mut c: CacheState, device: u64, r: usize, q: Call) -> CacheOutcome
     requires { ⌜ readRef device c r q < 64 ⌝ }
     ensures { λ o. ⌜ o ≡ outcome (rows7 device c r q) (next7 c r q) c ⌝ }
 {

@@ -1,7 +1,7 @@
 // Questions about the whole cache that a step's refusals ask.
 ghost use mathlib.Core.Path.{_≡_};
 ghost use Prim.Native.Nat.{_<_};
-ghost use Rattle.blockcache.specs.Scan.{reads, writesTo, NoLocation, namesAt, named, heldIn, needsCached, wrongNode, wrongTable};
+ghost use Rattle.blockcache.specs.Scan.{reads, writesTo, NoLocation, namesAt, hasPredecessor, heldIn, needsCached, nodeRejected, tableRejected};
 use blockcache::Tables;
 use blockdisk::Brought;
 use disklayout::Location;
@@ -76,7 +76,7 @@ fn names_at(count: u8, j: usize, s: u8, r: u64) -> bool
 
 // Whether some list in the graph names r, its own included: left at the first predecessor found.
 pub(crate) fn has_predecessor(t: Table, r: u64) -> bool
-    ensures { λ b. ⌜ b ≡ named t r ⌝ }
+    ensures { λ b. ⌜ b ≡ hasPredecessor t r ⌝ }
 {
     let mut hit = false;
     let mut i: usize = 0;
@@ -113,7 +113,7 @@ pub(crate) fn held(ts: Tables, q: Requests, addr: u64) -> bool
 }
 
 // FZ: the frozen table has the reference in its graph without a location.
-pub(crate) fn fz(ts: Tables, r: usize) -> bool
+pub(crate) fn needs_cached(ts: Tables, r: usize) -> bool
     requires { ⌜ r < 64 ⌝ }
     ensures { λ b. ⌜ b ≡ needsCached ts r ⌝ }
 {
@@ -123,8 +123,8 @@ pub(crate) fn fz(ts: Tables, r: usize) -> bool
 }
 
 // 9 of a node's page-in: nothing brought, or its successors differ from the graph's as sets, where the id is awaited and the reference allocated.
-pub(crate) fn wrong_node(b: Brought, known: bool, e: Entry, n: Node) -> bool
-    ensures { λ r. ⌜ r ≡ wrongNode b known e n ⌝ }
+pub(crate) fn node_rejected(b: Brought, known: bool, e: Entry, n: Node) -> bool
+    ensures { λ r. ⌜ r ≡ nodeRejected b known e n ⌝ }
 {
     let s = e.succs;
     let t = n.succs;
@@ -136,8 +136,8 @@ pub(crate) fn wrong_node(b: Brought, known: bool, e: Entry, n: Node) -> bool
 }
 
 // 9 of a table's page-in: nothing brought, not complete and well formed, or two references at one address.
-pub(crate) fn wrong_table(b: Brought, device: u64, t: Table) -> bool
-    ensures { λ r. ⌜ r ≡ wrongTable b device t ⌝ }
+pub(crate) fn table_rejected(b: Brought, device: u64, t: Table) -> bool
+    ensures { λ r. ⌜ r ≡ tableRejected b device t ⌝ }
 {
     let complete = sector::wf_complete_indirection_table(device, t);
     let distinct = sector::distinct_addrs(t);

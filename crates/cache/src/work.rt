@@ -11,19 +11,19 @@ use crate::ops::vop_kind;
 use crate::ops::vop_no_op;
 use crate::refusal::first_of;
 use crate::refusal::first_three;
-use crate::scan::fz;
+use crate::scan::needs_cached;
 use crate::scan::has_predecessor;
 use crate::scan::reads_of;
 use crate::scan::writes_to;
 use crate::write::answered;
 use crate::write::is_ready;
-use blockcache::Cache;
+use blockcache::CacheState;
 use blockcache::CacheOutcome;
 use blockcache::Call;
 use sectortype::Entry;
 use sectortype::Slot;
 
-fn unalloc_refusal(c: Cache, device: u64, r: usize, q: Call) -> u64
+fn unalloc_refusal(c: CacheState, device: u64, r: usize, q: Call) -> u64
     requires { ⌜ r < 64 ⌝ }
     ensures { λ n. ⌜ n ≡ answer (rows5 device c r q) ⌝ }
 {
@@ -38,7 +38,7 @@ fn unalloc_refusal(c: Cache, device: u64, r: usize, q: Call) -> u64
     let o = c.outstanding;
     let w = o.reads;
     let reading = reads_of(w, r as u64);
-    let needed = fz(ts, r);
+    let needed = needs_cached(ts, r);
     let pointed = has_predecessor(t, r as u64);
     let n12 = first_of((r == 0) | pointed, 12, 0);
     let n11 = first_of(needed, 11, n12);
@@ -47,7 +47,7 @@ fn unalloc_refusal(c: Cache, device: u64, r: usize, q: Call) -> u64
     first_three(!noop, dk != 0, !ready, n8)
 }
 
-pub(crate) fn unalloc(mut c: Cache, device: u64, r: usize, q: Call) -> CacheOutcome
+pub(crate) fn unalloc(mut c: CacheState, device: u64, r: usize, q: Call) -> CacheOutcome
     requires { ⌜ r < 64 ⌝ }
     ensures { λ o. ⌜ o ≡ outcome (rows5 device c r q) (next5 c r q) c ⌝ }
 {
@@ -57,18 +57,18 @@ pub(crate) fn unalloc(mut c: Cache, device: u64, r: usize, q: Call) -> CacheOutc
     }
     let mut ts = c.tables;
     let t = ts.ephemeral;
-    let e = sector::empty_entry();
+    let e = sector::zero_entry();
     let t2 = sector::with_entry(t, r, e);
     ts.ephemeral = t2;
     let m = c.nodes;
-    let s = sector::empty_slot();
+    let s = sector::zero_slot();
     let m2 = sector::with_slot(m, r, s);
     c.tables = ts;
     c.nodes = m2;
     answered(c, 0)
 }
 
-fn evict_refusal(c: Cache, device: u64, r: usize, q: Call) -> u64
+fn evict_refusal(c: CacheState, device: u64, r: usize, q: Call) -> u64
     requires { ⌜ r < 64 ⌝ }
     ensures { λ n. ⌜ n ≡ answer (rows11 device c r q) ⌝ }
 {
@@ -86,14 +86,14 @@ fn evict_refusal(c: Cache, device: u64, r: usize, q: Call) -> u64
     let o = c.outstanding;
     let w = o.writes;
     let writing = writes_to(w, r as u64, at);
-    let needed = fz(ts, r);
+    let needed = needs_cached(ts, r);
     let n11 = first_of(needed, 11, 0);
     let n10 = first_of(e.allocated & e.located & writing, 10, n11);
     let n8 = first_of(!slot.present | (e.allocated & !e.located), 8, n10);
     first_three(vk != 1, dk != 0, !ready, n8)
 }
 
-pub(crate) fn evict(mut c: Cache, device: u64, r: usize, q: Call) -> CacheOutcome
+pub(crate) fn evict(mut c: CacheState, device: u64, r: usize, q: Call) -> CacheOutcome
     requires { ⌜ r < 64 ⌝ }
     ensures { λ o. ⌜ o ≡ outcome (rows11 device c r q) (next11 c r q) c ⌝ }
 {
@@ -102,13 +102,13 @@ pub(crate) fn evict(mut c: Cache, device: u64, r: usize, q: Call) -> CacheOutcom
         return answered(c, n);
     }
     let m = c.nodes;
-    let s = sector::empty_slot();
+    let s = sector::zero_slot();
     let m2 = sector::with_slot(m, r, s);
     c.nodes = m2;
     answered(c, 0)
 }
 
-fn freeze_refusal(c: Cache, device: u64, r: usize, q: Call) -> u64
+fn freeze_refusal(c: CacheState, device: u64, r: usize, q: Call) -> u64
     ensures { λ n. ⌜ n ≡ answer (rows12 device c r q) ⌝ }
 {
     let v = q.vop;
@@ -122,7 +122,7 @@ fn freeze_refusal(c: Cache, device: u64, r: usize, q: Call) -> u64
 }
 
 // A frozen place, if set, is dropped.
-pub(crate) fn freeze(mut c: Cache, device: u64, r: usize, q: Call) -> CacheOutcome
+pub(crate) fn freeze(mut c: CacheState, device: u64, r: usize, q: Call) -> CacheOutcome
     ensures { λ o. ⌜ o ≡ outcome (rows12 device c r q) (next12 c r q) c ⌝ }
 {
     let n = freeze_refusal(c, device, r, q);
@@ -134,7 +134,7 @@ pub(crate) fn freeze(mut c: Cache, device: u64, r: usize, q: Call) -> CacheOutco
     ts.isfrozen = true;
     ts.frozen = t;
     let mut ps = c.places;
-    let nowhere = sector::empty_loc();
+    let nowhere = sector::zero_loc();
     ps.isfrozen = false;
     ps.frozen = nowhere;
     c.tables = ts;
@@ -142,7 +142,7 @@ pub(crate) fn freeze(mut c: Cache, device: u64, r: usize, q: Call) -> CacheOutco
     answered(c, 0)
 }
 
-fn clean_up_refusal(c: Cache, device: u64, r: usize, q: Call) -> u64
+fn clean_up_refusal(c: CacheState, device: u64, r: usize, q: Call) -> u64
     ensures { λ n. ⌜ n ≡ answer (rows13 device c r q) ⌝ }
 {
     let v = q.vop;
@@ -158,7 +158,7 @@ fn clean_up_refusal(c: Cache, device: u64, r: usize, q: Call) -> u64
     first_three(vk != 7, dk != 0, !ready, n10)
 }
 
-pub(crate) fn clean_up(mut c: Cache, device: u64, r: usize, q: Call) -> CacheOutcome
+pub(crate) fn clean_up(mut c: CacheState, device: u64, r: usize, q: Call) -> CacheOutcome
     ensures { λ o. ⌜ o ≡ outcome (rows13 device c r q) (next13 c r q) c ⌝ }
 {
     let n = clean_up_refusal(c, device, r, q);
@@ -173,7 +173,7 @@ pub(crate) fn clean_up(mut c: Cache, device: u64, r: usize, q: Call) -> CacheOut
     ts.frozen = none;
     let mut ps = c.places;
     let p = ps.frozen;
-    let nowhere = sector::empty_loc();
+    let nowhere = sector::zero_loc();
     ps.persistent = p;
     ps.isfrozen = false;
     ps.frozen = nowhere;
@@ -183,7 +183,7 @@ pub(crate) fn clean_up(mut c: Cache, device: u64, r: usize, q: Call) -> CacheOut
 }
 
 // NoOp, in any phase: a write answer that the cache awaits is not for it.
-pub(crate) fn no_op(c: Cache, device: u64, r: usize, q: Call) -> CacheOutcome
+pub(crate) fn no_op(c: CacheState, device: u64, r: usize, q: Call) -> CacheOutcome
     ensures { λ o. ⌜ o ≡ outcome (rows14 device c r q) c c ⌝ }
 {
     let v = q.vop;
@@ -204,7 +204,7 @@ pub(crate) fn no_op(c: Cache, device: u64, r: usize, q: Call) -> CacheOutcome
     answered(c, n)
 }
 
-fn dirty_refusal(c: Cache, device: u64, r: usize, q: Call) -> u64
+fn dirty_refusal(c: CacheState, device: u64, r: usize, q: Call) -> u64
     requires { ⌜ r < 64 ⌝ }
     ensures { λ n. ⌜ n ≡ answer (rows15 device c r q) ⌝ }
 {
@@ -220,7 +220,7 @@ fn dirty_refusal(c: Cache, device: u64, r: usize, q: Call) -> u64
     let slot = m.slots[r];
     let given = q.node;
     let list = given.succs;
-    let needed = fz(ts, r);
+    let needed = needs_cached(ts, r);
     let inside = sector::points_within(t, list);
     let n13 = first_of(!inside, 13, 0);
     let n11 = first_of(needed, 11, n13);
@@ -229,12 +229,12 @@ fn dirty_refusal(c: Cache, device: u64, r: usize, q: Call) -> u64
 }
 
 // The reference's node: its own list goes into the graph, order and repeats kept, and it has no location.
-fn set_node(mut c: Cache, r: usize, q: Call) -> CacheOutcome
+fn set_node(mut c: CacheState, r: usize, q: Call) -> CacheOutcome
     ensures { λ o. ⌜ o ≡ answered 0 (next15 c r q) ⌝ }
 {
     let given = q.node;
     let succs = given.succs;
-    let loc = sector::empty_loc();
+    let loc = sector::zero_loc();
     let e = Entry {
         allocated: true,
         located: false,
@@ -256,7 +256,7 @@ fn set_node(mut c: Cache, r: usize, q: Call) -> CacheOutcome
     answered(c, 0)
 }
 
-pub(crate) fn dirty(c: Cache, device: u64, r: usize, q: Call) -> CacheOutcome
+pub(crate) fn dirty(c: CacheState, device: u64, r: usize, q: Call) -> CacheOutcome
     requires { ⌜ r < 64 ⌝ }
     ensures { λ o. ⌜ o ≡ outcome (rows15 device c r q) (next15 c r q) c ⌝ }
 {
@@ -267,7 +267,7 @@ pub(crate) fn dirty(c: Cache, device: u64, r: usize, q: Call) -> CacheOutcome
     set_node(c, r, q)
 }
 
-fn alloc_refusal(c: Cache, device: u64, r: usize, q: Call) -> u64
+fn alloc_refusal(c: CacheState, device: u64, r: usize, q: Call) -> u64
     requires { ⌜ r < 64 ⌝ }
     ensures { λ n. ⌜ n ≡ answer (rows16 device c r q) ⌝ }
 {
@@ -289,7 +289,7 @@ fn alloc_refusal(c: Cache, device: u64, r: usize, q: Call) -> u64
     first_three(vk != 5, dk != 0, !ready, n8)
 }
 
-pub(crate) fn alloc(c: Cache, device: u64, r: usize, q: Call) -> CacheOutcome
+pub(crate) fn alloc(c: CacheState, device: u64, r: usize, q: Call) -> CacheOutcome
     requires { ⌜ r < 64 ⌝ }
     ensures { λ o. ⌜ o ≡ outcome (rows16 device c r q) (next15 c r q) c ⌝ }
 {
@@ -300,7 +300,7 @@ pub(crate) fn alloc(c: Cache, device: u64, r: usize, q: Call) -> CacheOutcome
     set_node(c, r, q)
 }
 
-fn read_refusal(c: Cache, device: u64, r: usize, q: Call) -> u64
+fn read_refusal(c: CacheState, device: u64, r: usize, q: Call) -> u64
     requires { ⌜ r < 64 ⌝ }
     ensures { λ n. ⌜ n ≡ answer (rows17 device c r q) ⌝ }
 {
@@ -315,7 +315,7 @@ fn read_refusal(c: Cache, device: u64, r: usize, q: Call) -> u64
 }
 
 // Read: the cached node, or zeros if refused; the cache is unchanged.
-pub(crate) fn read_step(c: Cache, device: u64, r: usize, q: Call) -> CacheOutcome
+pub(crate) fn read_step(c: CacheState, device: u64, r: usize, q: Call) -> CacheOutcome
     requires { ⌜ r < 64 ⌝ }
     ensures { λ o. ⌜ o ≡ readOutcome device c r q ⌝ }
 {

@@ -16,7 +16,7 @@ use crate::refusal::first_three;
 use crate::scan::held;
 use crate::scan::lacks_location;
 use blockcache::Awaited;
-use blockcache::Cache;
+use blockcache::CacheState;
 use blockcache::CacheOutcome;
 use blockcache::Call;
 use blockcache::Phase;
@@ -45,7 +45,7 @@ fn assign_ref_to_location(t: Table, r: usize, loc: Location) -> Table
     t
 }
 
-pub(crate) fn is_ready(c: Cache) -> bool
+pub(crate) fn is_ready(c: CacheState) -> bool
     ensures { λ b. ⌜ b ≡ isReady c ⌝ }
 {
     let phase = c.phase;
@@ -56,10 +56,10 @@ pub(crate) fn is_ready(c: Cache) -> bool
     }
 }
 
-pub(crate) fn answered(c: Cache, n: u64) -> CacheOutcome
+pub(crate) fn answered(c: CacheState, n: u64) -> CacheOutcome
     ensures { λ o. ⌜ o ≡ answered n c ⌝ }
 {
-    let node = sector::empty_node();
+    let node = sector::zero_node();
     CacheOutcome {
         answer: n,
         node,
@@ -67,7 +67,7 @@ pub(crate) fn answered(c: Cache, n: u64) -> CacheOutcome
     }
 }
 
-fn write_back_node_req_refusal(c: Cache, device: u64, r: usize, q: Call) -> u64
+fn write_back_node_req_refusal(c: CacheState, device: u64, r: usize, q: Call) -> u64
     requires { ⌜ r < 64 ⌝ }
     ensures { λ n. ⌜ n ≡ answer (rows1 device c r q) ⌝ }
 {
@@ -100,7 +100,7 @@ fn write_back_node_req_refusal(c: Cache, device: u64, r: usize, q: Call) -> u64
     first_three(vk != 1, dk != 4, !ready, n5)
 }
 
-pub(crate) fn write_back_node_req(mut c: Cache, device: u64, r: usize, q: Call) -> CacheOutcome
+pub(crate) fn write_back_node_req(mut c: CacheState, device: u64, r: usize, q: Call) -> CacheOutcome
     requires { ⌜ r < 64 ⌝ }
     ensures { λ o. ⌜ o ≡ outcome (rows1 device c r q) (next1 c r q) c ⌝ }
 {
@@ -134,7 +134,7 @@ pub(crate) fn write_back_node_req(mut c: Cache, device: u64, r: usize, q: Call) 
     answered(c, 0)
 }
 
-fn write_back_node_resp_refusal(c: Cache, device: u64, r: usize, q: Call) -> u64
+fn write_back_node_resp_refusal(c: CacheState, device: u64, r: usize, q: Call) -> u64
     ensures { λ n. ⌜ n ≡ answer (rows2 device c r q) ⌝ }
 {
     let v = q.vop;
@@ -150,7 +150,7 @@ fn write_back_node_resp_refusal(c: Cache, device: u64, r: usize, q: Call) -> u64
     first_three(vk != 1, dk != 8, !ready, n5)
 }
 
-pub(crate) fn write_back_node_resp(mut c: Cache, device: u64, r: usize, q: Call) -> CacheOutcome
+pub(crate) fn write_back_node_resp(mut c: CacheState, device: u64, r: usize, q: Call) -> CacheOutcome
     ensures { λ o. ⌜ o ≡ outcome (rows2 device c r q) (next2 c r q) c ⌝ }
 {
     let n = write_back_node_resp_refusal(c, device, r, q);
@@ -167,7 +167,7 @@ pub(crate) fn write_back_node_resp(mut c: Cache, device: u64, r: usize, q: Call)
     answered(c, 0)
 }
 
-fn write_back_indirection_table_req_refusal(c: Cache, device: u64, r: usize, q: Call) -> u64
+fn write_back_indirection_table_req_refusal(c: CacheState, device: u64, r: usize, q: Call) -> u64
     ensures { λ n. ⌜ n ≡ answer (rows3 device c r q) ⌝ }
 {
     let v = q.vop;
@@ -195,7 +195,7 @@ fn write_back_indirection_table_req_refusal(c: Cache, device: u64, r: usize, q: 
 }
 
 pub(crate) fn write_back_indirection_table_req(
-    mut c: Cache,
+    mut c: CacheState,
     device: u64,
     r: usize,
     q: Call,
@@ -218,7 +218,7 @@ pub(crate) fn write_back_indirection_table_req(
     answered(c, 0)
 }
 
-fn write_back_indirection_table_resp_refusal(c: Cache, device: u64, r: usize, q: Call) -> u64
+fn write_back_indirection_table_resp_refusal(c: CacheState, device: u64, r: usize, q: Call) -> u64
     ensures { λ n. ⌜ n ≡ answer (rows4 device c r q) ⌝ }
 {
     let v = q.vop;
@@ -238,7 +238,7 @@ fn write_back_indirection_table_resp_refusal(c: Cache, device: u64, r: usize, q:
 }
 
 pub(crate) fn write_back_indirection_table_resp(
-    mut c: Cache,
+    mut c: CacheState,
     device: u64,
     r: usize,
     q: Call,

@@ -1,37 +1,37 @@
 // The cache's numbers that no script reaches: 8 in step 7, 11 in step 11; and 14 at its edge.
-use blockcache::Cache;
+use blockcache::CacheState;
 use blockdisk::Brought;
 use blockdisk::DiskOp;
-use handmade::BLOCK1;
-use handmade::BLOCK2;
-use handmade::BLOCK3;
-use handmade::at;
-use handmade::entry_nowhere;
-use handmade::leaf;
-use handmade::one;
-use handmade::queue_of;
-use handmade::ready;
-use handmade::show::cache_answer;
-use handmade::show::internal;
-use handmade::show::line;
-use handmade::two_entries;
-use handmade::with_cached;
-use handmade::with_ephemeral;
-use handmade::with_frozen;
-use handmade::with_reads;
-use handmade::with_writes;
+use fixtures::BLOCK1;
+use fixtures::BLOCK2;
+use fixtures::BLOCK3;
+use fixtures::at;
+use fixtures::entry_nowhere;
+use fixtures::leaf;
+use fixtures::one;
+use fixtures::queue_of;
+use fixtures::ready;
+use fixtures::show::cache_answer;
+use fixtures::show::internal;
+use fixtures::show::line;
+use fixtures::two_entries;
+use fixtures::with_cached;
+use fixtures::with_ephemeral;
+use fixtures::with_frozen;
+use fixtures::with_reads;
+use fixtures::with_writes;
 use sectortype::Table;
 
 // A Ready cache that awaits, under id 5, the node of this reference.
-fn awaiting(reference: u8) -> Cache {
+fn awaiting(reference: u8) -> CacheState {
     let c = ready();
-    let nowhere = sector::empty_loc();
+    let nowhere = sector::zero_loc();
     let q = one(5, reference, nowhere);
     with_reads(c, q)
 }
 
 // Step 7 with a node that points to nothing.
-fn page_in(c: Cache) -> u64 {
+fn page_in(c: CacheState) -> u64 {
     let node = leaf(9);
     let dop = DiskOp::RespReadNodeOp(5, Brought::Something);
     let q = internal(0, dop, node);
@@ -52,9 +52,9 @@ fn step_7() {
 }
 
 // Evict of reference 1.
-fn evict(c: Cache) -> u64 {
+fn evict(c: CacheState) -> u64 {
     let dop = DiskOp::NoDiskOp;
-    let node = sector::empty_node();
+    let node = sector::zero_node();
     let q = internal(1, dop, node);
     cache_answer(c, 11, q)
 }
@@ -69,7 +69,7 @@ fn unlocated() -> Table {
 // The table with the root alone.
 fn root_alone() -> Table {
     let t = two_entries();
-    let e = sector::empty_entry();
+    let e = sector::zero_entry();
     sector::with_entry(t, 1, e)
 }
 
@@ -119,12 +119,12 @@ fn write_back(n: u64) -> u64 {
 // Step 6 for reference 1 with so many reads of the root outstanding.
 fn page_in_request(n: u64) -> u64 {
     let c = ready();
-    let nowhere = sector::empty_loc();
+    let nowhere = sector::zero_loc();
     let reads = queue_of(n, nowhere);
     let s = with_reads(c, reads);
     let loc = at(BLOCK1, 4096);
     let dop = DiskOp::ReqReadNodeOp(99, loc);
-    let node = sector::empty_node();
+    let node = sector::zero_node();
     let q = internal(1, dop, node);
     cache_answer(s, 6, q)
 }

@@ -1,10 +1,10 @@
 // Whether two caches and two disks are the same, part by part.
 use blockcache::Awaited;
-use blockcache::Cache;
+use blockcache::CacheState;
 use blockcache::Phase;
 use blockcache::Places;
 use blockcache::Tables;
-use blockdisk::Disk;
+use blockdisk::DiskState;
 use blockdisk::NodeRecord;
 use blockdisk::TableRecord;
 use queue::Request;
@@ -130,7 +130,7 @@ fn phase_number(phase: Phase) -> u64 {
     }
 }
 
-fn same_phase(a: Cache, b: Cache) -> bool {
+fn same_phase(a: CacheState, b: CacheState) -> bool {
     let p = a.phase;
     let q = b.phase;
     let x = phase_number(p);
@@ -138,7 +138,7 @@ fn same_phase(a: Cache, b: Cache) -> bool {
     x == y
 }
 
-fn same_outstanding(a: Cache, b: Cache) -> bool {
+fn same_outstanding(a: CacheState, b: CacheState) -> bool {
     let o = a.outstanding;
     let p = b.outstanding;
     let v = o.writes;
@@ -150,7 +150,7 @@ fn same_outstanding(a: Cache, b: Cache) -> bool {
     writes & reads
 }
 
-fn same_cache(a: Cache, b: Cache) -> bool {
+fn same_cache(a: CacheState, b: CacheState) -> bool {
     let phase = same_phase(a, b);
     let s = a.tables;
     let t = b.tables;
@@ -168,7 +168,7 @@ fn same_cache(a: Cache, b: Cache) -> bool {
     phase & tables & places & awaited & outstanding & nodes
 }
 
-fn same_queues(a: Disk, b: Disk) -> bool {
+fn same_queues(a: DiskState, b: DiskState) -> bool {
     let p = a.queues;
     let q = b.queues;
     let r = p.tablereads;
@@ -186,7 +186,7 @@ fn same_queues(a: Disk, b: Disk) -> bool {
     one & two & three & four
 }
 
-fn same_disk(a: Disk, b: Disk) -> bool {
+fn same_disk(a: DiskState, b: DiskState) -> bool {
     let queues = same_queues(a, b);
     let r = a.records;
     let s = b.records;
@@ -205,7 +205,7 @@ fn same_disk(a: Disk, b: Disk) -> bool {
 }
 
 // How many of the two, cache and disk, are not as they were.
-pub(crate) fn changed(a: Cache, b: Cache, c: Disk, d: Disk) -> u64 {
+pub(crate) fn changed(a: CacheState, b: CacheState, c: DiskState, d: DiskState) -> u64 {
     let cache = same_cache(a, b);
     let disk = same_disk(c, d);
     if cache & disk {

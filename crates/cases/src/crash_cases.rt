@@ -1,23 +1,23 @@
 // A crash of the disk: 19 unless the records offered are possible, 1 where one is not in its written form.
 use blockdisk::Queues;
 use blockdisk::Records;
-use handmade::AREA1;
-use handmade::AREA2;
-use handmade::BLOCK0;
-use handmade::BLOCK1;
-use handmade::at;
-use handmade::leaf;
-use handmade::node_record;
-use handmade::one;
-use handmade::put_node;
-use handmade::put_table;
-use handmade::queues_with;
-use handmade::show::crash_answer;
-use handmade::show::line;
-use handmade::show::pair;
-use handmade::stored;
-use handmade::table_record;
-use handmade::two_entries;
+use fixtures::AREA1;
+use fixtures::AREA2;
+use fixtures::BLOCK0;
+use fixtures::BLOCK1;
+use fixtures::at;
+use fixtures::leaf;
+use fixtures::node_record;
+use fixtures::one;
+use fixtures::put_node;
+use fixtures::put_table;
+use fixtures::queues_with;
+use fixtures::show::crash_answer;
+use fixtures::show::line;
+use fixtures::show::pair;
+use fixtures::stored;
+use fixtures::table_record;
+use fixtures::two_entries;
 
 // Block k has a node with these contents at this place.
 fn with_node(r: Records, k: usize, addr: u64, len: u64, contents: u64) -> Records {
@@ -36,12 +36,12 @@ fn with_table(r: Records, k: usize, addr: u64, len: u64) -> Records {
 }
 
 fn without_node(r: Records) -> Records {
-    let x = disk::no_node_record();
+    let x = disk::zero_node_record();
     put_node(r, 0, x)
 }
 
 fn without_table(r: Records) -> Records {
-    let loc = sector::empty_loc();
+    let loc = sector::zero_loc();
     let table = sector::empty_table();
     let mut x = table_record(loc, table);
     x.present = false;
@@ -101,7 +101,7 @@ fn outstanding(kind: u64, addr: u64) -> Queues {
 
 // Only a write to that very block or area lets a record go.
 fn each_queue() {
-    let none = disk::no_queues();
+    let none = disk::empty_queues();
     let read = outstanding(2, BLOCK0);
     let other = outstanding(4, BLOCK1);
     let write = outstanding(4, BLOCK0);
@@ -121,7 +121,7 @@ fn each_queue() {
 // Empty blocks and areas: any record that 16 allows there may stand.
 fn appears() {
     let r = stored();
-    let none = disk::no_queues();
+    let none = disk::empty_queues();
     let node = with_node(r, 1, BLOCK1, 1, 9);
     let short = with_node(r, 1, BLOCK1, 0, 9);
     let astray = with_node(r, 2, BLOCK1, 1, 9);
@@ -142,9 +142,9 @@ fn appears() {
 // An absent record is zeros: 1, even where 19 holds too.
 fn absent() {
     let r = stored();
-    let none = disk::no_queues();
+    let none = disk::empty_queues();
     let node = leaf(9);
-    let nowhere = sector::empty_loc();
+    let nowhere = sector::zero_loc();
     let mut x = node_record(nowhere, node);
     x.present = false;
     let table = two_entries();

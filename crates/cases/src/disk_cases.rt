@@ -1,22 +1,22 @@
 // The disk's numbers 15, 16, 17 and 18. A kind is 1 table read, 2 node read, 3 table write, 4 node write.
 use blockdisk::Brought;
-use blockdisk::Disk;
+use blockdisk::DiskState;
 use blockdisk::DiskCall;
 use blockdisk::DiskOp;
 use blockdisk::Queues;
 use disklayout::Location;
-use handmade::AREA1;
-use handmade::AREA2;
-use handmade::BLOCK0;
-use handmade::at;
-use handmade::leaf;
-use handmade::queue_of;
-use handmade::show::disk_answer;
-use handmade::show::disk_brings;
-use handmade::show::line;
-use handmade::show::pair;
-use handmade::stored;
-use handmade::two_entries;
+use fixtures::AREA1;
+use fixtures::AREA2;
+use fixtures::BLOCK0;
+use fixtures::at;
+use fixtures::leaf;
+use fixtures::queue_of;
+use fixtures::show::disk_answer;
+use fixtures::show::disk_brings;
+use fixtures::show::line;
+use fixtures::show::pair;
+use fixtures::stored;
+use fixtures::two_entries;
 use queue::Request;
 use queue::Requests;
 use sectortype::Table;
@@ -53,7 +53,7 @@ fn pick(first: bool, a: u64, b: u64) -> u64 {
 }
 
 // So many in the kind's own queue, so many in each of the other three.
-fn filled(kind: u64, own: u64, others: u64) -> Disk {
+fn filled(kind: u64, own: u64, others: u64) -> DiskState {
     let a = pick(kind == 1, own, others);
     let b = pick(kind == 2, own, others);
     let c = pick(kind == 3, own, others);
@@ -70,12 +70,12 @@ fn filled(kind: u64, own: u64, others: u64) -> Disk {
         tablewrites: r,
         nodewrites: s,
     };
-    let records = disk::no_records();
-    Disk { records, queues }
+    let records = disk::empty_records();
+    DiskState { records, queues }
 }
 
 // A request at a place that 16 allows.
-fn asked(kind: u64, s: Disk, id: u64) -> u64 {
+fn asked(kind: u64, s: DiskState, id: u64) -> u64 {
     let loc = allowed(kind);
     let op = request_of(kind, id, loc);
     disk_answer(s, op)
@@ -86,7 +86,7 @@ fn asked(kind: u64, s: Disk, id: u64) -> u64 {
 fn requests(name: &[u8], kind: u64) {
     let full = filled(kind, 16, 0);
     let room = filled(kind, 15, 16);
-    let nowhere = sector::empty_loc();
+    let nowhere = sector::zero_loc();
     let wrong = request_of(kind, 99, nowhere);
     let a = asked(kind, full, 99);
     let b = asked(kind, room, 99);
@@ -160,7 +160,7 @@ fn node_edges(name: &[u8], kind: u64) {
 
 // Two reads at this address: id 1 with length 8192, id 2 with length 4096.
 fn reads_at(addr: u64) -> Requests {
-    let q = queue::none();
+    let q = queue::empty();
     let longer = at(addr, 8192);
     let exact = at(addr, 4096);
     let v = Request {
@@ -178,14 +178,14 @@ fn reads_at(addr: u64) -> Requests {
 }
 
 // Both records are stored with length 4096.
-fn reading() -> Disk {
+fn reading() -> DiskState {
     let records = stored();
-    let mut queues = disk::no_queues();
+    let mut queues = disk::empty_queues();
     let p = reads_at(AREA1);
     let q = reads_at(BLOCK0);
     queues.tablereads = p;
     queues.nodereads = q;
-    Disk { records, queues }
+    DiskState { records, queues }
 }
 
 fn node_brought(id: u64, contents: u64) -> u64 {
@@ -197,7 +197,7 @@ fn node_brought(id: u64, contents: u64) -> u64 {
 
 fn table_brought(id: u64, table: Table) -> u64 {
     let s = reading();
-    let node = sector::empty_node();
+    let node = sector::zero_node();
     let op = DiskOp::RespReadIndirectionTableOp(id, Brought::Something);
     let call = DiskCall { op, node, table };
     let o = disk::next(s, 0, call);

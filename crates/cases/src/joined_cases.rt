@@ -2,42 +2,42 @@
 // the two have changed: none after a refusal, or after step 14.
 use crate::changed::changed;
 use blockcache::Awaited;
-use blockcache::Cache;
+use blockcache::CacheState;
 use blockcache::Call;
 use blockcache::Phase;
 use blockcache::VersionOp;
 use blockdisk::Brought;
-use blockdisk::Disk;
+use blockdisk::DiskState;
 use blockdisk::DiskOp;
 use blockdisk::Records;
 use disklayout::Location;
-use handmade::AREA1;
-use handmade::AREA2;
-use handmade::BLOCK1;
-use handmade::BLOCK2;
-use handmade::BLOCK3;
-use handmade::at;
-use handmade::entry_at;
-use handmade::in_phase;
-use handmade::leaf;
-use handmade::one;
-use handmade::queue_of;
-use handmade::queued;
-use handmade::ready;
-use handmade::show::idle;
-use handmade::show::internal;
-use handmade::show::pair;
-use handmade::stored;
-use handmade::storing;
-use handmade::two_entries;
-use handmade::with_cached;
-use handmade::with_ephemeral;
-use handmade::with_frozen;
-use handmade::with_reads;
-use handmade::with_writes;
+use fixtures::AREA1;
+use fixtures::AREA2;
+use fixtures::BLOCK1;
+use fixtures::BLOCK2;
+use fixtures::BLOCK3;
+use fixtures::at;
+use fixtures::entry_at;
+use fixtures::in_phase;
+use fixtures::leaf;
+use fixtures::one;
+use fixtures::queue_of;
+use fixtures::queued;
+use fixtures::ready;
+use fixtures::show::idle;
+use fixtures::show::internal;
+use fixtures::show::pair;
+use fixtures::stored;
+use fixtures::storing;
+use fixtures::two_entries;
+use fixtures::with_cached;
+use fixtures::with_ephemeral;
+use fixtures::with_frozen;
+use fixtures::with_reads;
+use fixtures::with_writes;
 use queue::Requests;
 
-fn both(name: &[u8], number: u64, q: Call, offered: Records, c: Cache, s: Disk) {
+fn both(name: &[u8], number: u64, q: Call, offered: Records, c: CacheState, s: DiskState) {
     let o = system::step(0, number, q, offered, c, s);
     let d = o.cache;
     let t = o.disk;
@@ -46,19 +46,19 @@ fn both(name: &[u8], number: u64, q: Call, offered: Records, c: Cache, s: Disk) 
     pair(b"changed_by", name, n);
 }
 
-fn joined(name: &[u8], number: u64, q: Call, c: Cache, s: Disk) {
-    let offered = disk::no_records();
+fn joined(name: &[u8], number: u64, q: Call, c: CacheState, s: DiskState) {
+    let offered = disk::empty_records();
     both(name, number, q, offered, c, s);
 }
 
 // A disk that stores nothing and has nothing outstanding.
-fn empty() -> Disk {
-    let none = disk::no_records();
+fn empty() -> DiskState {
+    let none = disk::empty_records();
     storing(none)
 }
 
 // Reference 1 cached with contents 9.
-fn cached() -> Cache {
+fn cached() -> CacheState {
     let c = ready();
     let node = leaf(9);
     with_cached(c, 1, node)
@@ -126,7 +126,7 @@ fn step_2() {
     let s = queued(4, w);
     let none = empty();
     let dop = DiskOp::RespWriteNodeOp(1);
-    let node = sector::empty_node();
+    let node = sector::zero_node();
     let q = internal(0, dop, node);
     joined(b"step_2_accepted", 2, q, awaiting, s);
     joined(b"step_2_with_15_of_the_disk_alone", 2, q, awaiting, none);
@@ -149,7 +149,7 @@ fn step_3() {
     let full = queued(3, r);
     let none = empty();
     let loc = at(AREA2, 4096);
-    let node = sector::empty_node();
+    let node = sector::zero_node();
     let dop = DiskOp::ReqWriteIndirectionTableOp(1, loc);
     let other = DiskOp::ReqWriteIndirectionTableOp(99, loc);
     let mut q = internal(0, dop, node);
@@ -162,7 +162,7 @@ fn step_3() {
 }
 
 // A table write to area 2 under id 1 is awaited.
-fn awaiting_table() -> Cache {
+fn awaiting_table() -> CacheState {
     let c = ready();
     let t = two_entries();
     let mut next = with_frozen(c, true, t);
@@ -185,7 +185,7 @@ fn step_4() {
     let s = queued(3, p);
     let none = empty();
     let loc = at(AREA2, 4096);
-    let node = sector::empty_node();
+    let node = sector::zero_node();
     let table = sector::empty_table();
     let vop = VersionOp::SendFrozenLocOp(loc);
     let dop = DiskOp::RespWriteIndirectionTableOp(1);
@@ -202,13 +202,13 @@ fn step_4() {
 
 // Step 6: reference 1 under an id.
 fn read_call(id: u64, loc: Location) -> Call {
-    let node = sector::empty_node();
+    let node = sector::zero_node();
     let dop = DiskOp::ReqReadNodeOp(id, loc);
     internal(1, dop, node)
 }
 
 // Reference 1 lies past the last block: a ValidNodeLocation, but in none of the 128 blocks.
-fn past_the_blocks() -> Cache {
+fn past_the_blocks() -> CacheState {
     let c = ready();
     let t = two_entries();
     let e = entry_at(8650752);
@@ -238,7 +238,7 @@ fn step_6() {
 // Step 7 under id 1: the disk stores nothing at the place asked for.
 fn step_7() {
     let c = ready();
-    let nowhere = sector::empty_loc();
+    let nowhere = sector::zero_loc();
     let loc = at(BLOCK1, 4096);
     let r = one(1, 1, nowhere);
     let p = queue_of(1, loc);
@@ -253,7 +253,7 @@ fn step_7() {
 }
 
 // A cache that is loading this place.
-fn loading(loc: Location) -> Cache {
+fn loading(loc: Location) -> CacheState {
     let unready = cache::unready();
     let phase = Phase::Loading;
     let mut c = in_phase(unready, phase);
@@ -273,7 +273,7 @@ fn step_8() {
     let known = queued(1, p);
     let full = queued(1, r);
     let none = empty();
-    let node = sector::empty_node();
+    let node = sector::zero_node();
     let one = DiskOp::ReqReadIndirectionTableOp(1, loc);
     let many = DiskOp::ReqReadIndirectionTableOp(99, loc);
     let short = DiskOp::ReqReadIndirectionTableOp(1, wrong);
@@ -291,8 +291,8 @@ fn crash() {
     let c = ready();
     let r = stored();
     let s = storing(r);
-    let none = disk::no_records();
-    let node = sector::empty_node();
+    let none = disk::empty_records();
+    let node = sector::zero_node();
     let table = sector::empty_table();
     let vop = VersionOp::CrashOp;
     let dop = DiskOp::NoDiskOp;
@@ -314,7 +314,7 @@ fn forms() {
     let c = ready();
     let none = empty();
     let q = idle();
-    let nowhere = sector::empty_loc();
+    let nowhere = sector::zero_loc();
     let p = one(1, 0, nowhere);
     let broken = queued(4, p);
     let loc = at(AREA1, 4096);

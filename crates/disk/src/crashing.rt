@@ -3,7 +3,7 @@ ghost use mathlib.Core.Path.{_≡_};
 ghost use Rattle.blockdisk.specs.Crash.{sameTableRecord, sameNodeRecord, keptTable, keptNode, tablesKept, nodesKept, recordsKept, emptyQueues, diskCrash};
 use crate::form::disk_form;
 use crate::form::records_ok;
-use blockdisk::Disk;
+use blockdisk::DiskState;
 use blockdisk::DiskOutcome;
 use blockdisk::NodeRecord;
 use blockdisk::Queues;
@@ -95,13 +95,13 @@ fn records_kept(qs: Queues, old: Records, new: Records) -> bool
     tables & nodes
 }
 
-pub fn no_queues() -> Queues
+pub fn empty_queues() -> Queues
     ensures { λ r. ⌜ r ≡ emptyQueues ⌝ }
 {
-    let a = queue::none();
-    let b = queue::none();
-    let c = queue::none();
-    let d = queue::none();
+    let a = queue::empty();
+    let b = queue::empty();
+    let c = queue::empty();
+    let d = queue::empty();
     Queues {
         tablereads: a,
         nodereads: b,
@@ -112,7 +112,7 @@ pub fn no_queues() -> Queues
 
 // A crash that leaves the records offered: 1 if the disk, or a node or table of these, is not in its written form; 19 if they
 // are not possible. An offered record's place is judged by 19 alone.
-pub fn crash(s: Disk, device: u64, offered: Records) -> DiskOutcome
+pub fn crash(s: DiskState, device: u64, offered: Records) -> DiskOutcome
     ensures { λ o. ⌜ o ≡ diskCrash device s offered ⌝ }
 {
     let form = disk_form(s, device);
@@ -131,8 +131,8 @@ pub fn crash(s: Disk, device: u64, offered: Records) -> DiskOutcome
             disk: s,
         };
     }
-    let none = no_queues();
-    let disk = Disk {
+    let none = empty_queues();
+    let disk = DiskState {
         records: offered,
         queues: none,
     };

@@ -2,7 +2,7 @@
 ghost use mathlib.Core.Path.{_≡_};
 ghost use Rattle.blockdisk.specs.Form.{tableRecordChecked, nodeRecordChecked, tablesChecked, nodesChecked, recordsChecked, tableRequestOk, nodeRequestOk, tableQueueForm, nodeQueueForm, queuesForm, diskForm};
 use blockdisk::Checked;
-use blockdisk::Disk;
+use blockdisk::DiskState;
 use blockdisk::NodeRecord;
 use blockdisk::Queues;
 use blockdisk::Records;
@@ -155,7 +155,7 @@ pub(crate) fn queues_ok(device: u64, qs: Queues) -> bool
 }
 
 // Whether the disk is in its one written form on this device; on a device that is not made, none is.
-pub(crate) fn disk_form(s: Disk, device: u64) -> bool
+pub(crate) fn disk_form(s: DiskState, device: u64) -> bool
     ensures { λ b. ⌜ b ≡ diskForm device s ⌝ }
 {
     let records = s.records;

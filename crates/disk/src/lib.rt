@@ -5,10 +5,10 @@ mod ops;
 mod read;
 
 pub use crashing::crash;
-pub use crashing::no_queues;
+pub use crashing::empty_queues;
 pub use form::records_ok;
 pub use ops::next;
-pub use read::no_node_record;
-pub use read::no_records;
+pub use read::zero_node_record;
+pub use read::empty_records;
 pub use read::node_at;
 pub use read::table_at;

@@ -1,7 +1,7 @@
 // Upstream's transitions of the disk: four requests, four answers, no operation. The entry judges the written form once, before all.
 ghost use mathlib.Core.Path.{_≡_};
 ghost use Rattle.sectortype.specs.Form.{zeroNode, emptyTable};
-ghost use Rattle.blockdisk.specs.Ops.{requestOf, requestTurn, answerTurn, somethingIn, wrongTable, wrongNode, obeyedOp, obeyed, diskStep};
+ghost use Rattle.blockdisk.specs.Ops.{requestOf, requestTurn, answerTurn, somethingIn, tableNotStored, nodeNotStored, opOutcome, callOutcome, diskStep};
 use crate::form::queues_ok;
 use crate::form::records_ok;
 use crate::read::node_at;
@@ -9,7 +9,7 @@ use crate::read::table_at;
 use crate::read::with_node;
 use crate::read::with_table;
 use blockdisk::Brought;
-use blockdisk::Disk;
+use blockdisk::DiskState;
 use blockdisk::DiskCall;
 use blockdisk::DiskOp;
 use blockdisk::DiskOutcome;
@@ -97,8 +97,8 @@ fn brings(b: Brought) -> bool
 }
 
 // Whether a table read answer brings something else than is stored at exactly the place asked for.
-fn wrong_table(s: Disk, device: u64, id: u64, b: Brought, table: Table) -> bool
-    ensures { λ r. ⌜ r ≡ wrongTable device s id b table ⌝ }
+fn table_not_stored(s: DiskState, device: u64, id: u64, b: Brought, table: Table) -> bool
+    ensures { λ r. ⌜ r ≡ tableNotStored device s id b table ⌝ }
 {
     let qs = s.queues;
     let q = qs.tablereads;
@@ -113,8 +113,8 @@ fn wrong_table(s: Disk, device: u64, id: u64, b: Brought, table: Table) -> bool
 }
 
 // Whether a node read answer brings something else than is stored at exactly the place asked for.
-fn wrong_node(s: Disk, device: u64, id: u64, b: Brought, node: Node) -> bool
-    ensures { λ r. ⌜ r ≡ wrongNode device s id b node ⌝ }
+fn node_not_stored(s: DiskState, device: u64, id: u64, b: Brought, node: Node) -> bool
+    ensures { λ r. ⌜ r ≡ nodeNotStored device s id b node ⌝ }
 {
     let qs = s.queues;
     let q = qs.nodereads;
@@ -128,8 +128,8 @@ fn wrong_node(s: Disk, device: u64, id: u64, b: Brought, node: Node) -> bool
     some & !(x.present & same)
 }
 
-fn recv_read_indirection_table(mut s: Disk, device: u64, id: u64, loc: Location) -> DiskOutcome
-    ensures { λ o. ⌜ o ≡ obeyedOp device s (DiskOp.ReqReadIndirectionTableOp id loc) zeroNode emptyTable ⌝ }
+fn recv_read_indirection_table(mut s: DiskState, device: u64, id: u64, loc: Location) -> DiskOutcome
+    ensures { λ o. ⌜ o ≡ opOutcome device s (DiskOp.ReqReadIndirectionTableOp id loc) zeroNode emptyTable ⌝ }
 {
     let mut qs = s.queues;
     let q = qs.tablereads;
@@ -145,8 +145,8 @@ fn recv_read_indirection_table(mut s: Disk, device: u64, id: u64, loc: Location)
     DiskOutcome { answer: 0, disk: s }
 }
 
-fn recv_read_node(mut s: Disk, device: u64, id: u64, loc: Location) -> DiskOutcome
-    ensures { λ o. ⌜ o ≡ obeyedOp device s (DiskOp.ReqReadNodeOp id loc) zeroNode emptyTable ⌝ }
+fn recv_read_node(mut s: DiskState, device: u64, id: u64, loc: Location) -> DiskOutcome
+    ensures { λ o. ⌜ o ≡ opOutcome device s (DiskOp.ReqReadNodeOp id loc) zeroNode emptyTable ⌝ }
 {
     let mut qs = s.queues;
     let q = qs.nodereads;
@@ -164,13 +164,13 @@ fn recv_read_node(mut s: Disk, device: u64, id: u64, loc: Location) -> DiskOutco
 
 // The write takes effect at once: it replaces its area's record and nothing else.
 fn recv_write_indirection_table(
-    mut s: Disk,
+    mut s: DiskState,
     device: u64,
     id: u64,
     loc: Location,
     table: Table,
 ) -> DiskOutcome
-    ensures { λ o. ⌜ o ≡ obeyedOp device s (DiskOp.ReqWriteIndirectionTableOp id loc) zeroNode table ⌝ }
+    ensures { λ o. ⌜ o ≡ opOutcome device s (DiskOp.ReqWriteIndirectionTableOp id loc) zeroNode table ⌝ }
 {
     let mut qs = s.queues;
     let q = qs.tablewrites;
@@ -190,8 +190,8 @@ fn recv_write_indirection_table(
 }
 
 // The write takes effect at once: it replaces its block's record and nothing else.
-fn recv_write_node(mut s: Disk, device: u64, id: u64, loc: Location, node: Node) -> DiskOutcome
-    ensures { λ o. ⌜ o ≡ obeyedOp device s (DiskOp.ReqWriteNodeOp id loc) node emptyTable ⌝ }
+fn recv_write_node(mut s: DiskState, device: u64, id: u64, loc: Location, node: Node) -> DiskOutcome
+    ensures { λ o. ⌜ o ≡ opOutcome device s (DiskOp.ReqWriteNodeOp id loc) node emptyTable ⌝ }
 {
     let mut qs = s.queues;
     let q = qs.nodewrites;
@@ -211,15 +211,15 @@ fn recv_write_node(mut s: Disk, device: u64, id: u64, loc: Location, node: Node)
 }
 
 fn ack_read_indirection_table(
-    mut s: Disk,
+    mut s: DiskState,
     device: u64,
     id: u64,
     b: Brought,
     table: Table,
 ) -> DiskOutcome
-    ensures { λ o. ⌜ o ≡ obeyedOp device s (DiskOp.RespReadIndirectionTableOp id b) zeroNode table ⌝ }
+    ensures { λ o. ⌜ o ≡ opOutcome device s (DiskOp.RespReadIndirectionTableOp id b) zeroNode table ⌝ }
 {
-    let wrong = wrong_table(s, device, id, b, table);
+    let wrong = table_not_stored(s, device, id, b, table);
     let mut qs = s.queues;
     let q = qs.tablereads;
     let t = take(q, id, wrong);
@@ -233,10 +233,10 @@ fn ack_read_indirection_table(
     DiskOutcome { answer: 0, disk: s }
 }
 
-fn ack_read_node(mut s: Disk, device: u64, id: u64, b: Brought, node: Node) -> DiskOutcome
-    ensures { λ o. ⌜ o ≡ obeyedOp device s (DiskOp.RespReadNodeOp id b) node emptyTable ⌝ }
+fn ack_read_node(mut s: DiskState, device: u64, id: u64, b: Brought, node: Node) -> DiskOutcome
+    ensures { λ o. ⌜ o ≡ opOutcome device s (DiskOp.RespReadNodeOp id b) node emptyTable ⌝ }
 {
-    let wrong = wrong_node(s, device, id, b, node);
+    let wrong = node_not_stored(s, device, id, b, node);
     let mut qs = s.queues;
     let q = qs.nodereads;
     let t = take(q, id, wrong);
@@ -250,8 +250,8 @@ fn ack_read_node(mut s: Disk, device: u64, id: u64, b: Brought, node: Node) -> D
     DiskOutcome { answer: 0, disk: s }
 }
 
-fn ack_write_indirection_table(mut s: Disk, device: u64, id: u64) -> DiskOutcome
-    ensures { λ o. ⌜ o ≡ obeyedOp device s (DiskOp.RespWriteIndirectionTableOp id) zeroNode emptyTable ⌝ }
+fn ack_write_indirection_table(mut s: DiskState, device: u64, id: u64) -> DiskOutcome
+    ensures { λ o. ⌜ o ≡ opOutcome device s (DiskOp.RespWriteIndirectionTableOp id) zeroNode emptyTable ⌝ }
 {
     let mut qs = s.queues;
     let q = qs.tablewrites;
@@ -266,8 +266,8 @@ fn ack_write_indirection_table(mut s: Disk, device: u64, id: u64) -> DiskOutcome
     DiskOutcome { answer: 0, disk: s }
 }
 
-fn ack_write_node(mut s: Disk, device: u64, id: u64) -> DiskOutcome
-    ensures { λ o. ⌜ o ≡ obeyedOp device s (DiskOp.RespWriteNodeOp id) zeroNode emptyTable ⌝ }
+fn ack_write_node(mut s: DiskState, device: u64, id: u64) -> DiskOutcome
+    ensures { λ o. ⌜ o ≡ opOutcome device s (DiskOp.RespWriteNodeOp id) zeroNode emptyTable ⌝ }
 {
     let mut qs = s.queues;
     let q = qs.nodewrites;
@@ -282,15 +282,15 @@ fn ack_write_node(mut s: Disk, device: u64, id: u64) -> DiskOutcome
     DiskOutcome { answer: 0, disk: s }
 }
 
-fn stutter(s: Disk, device: u64) -> DiskOutcome
-    ensures { λ o. ⌜ o ≡ obeyedOp device s DiskOp.NoDiskOp zeroNode emptyTable ⌝ }
+fn stutter(s: DiskState, device: u64) -> DiskOutcome
+    ensures { λ o. ⌜ o ≡ opOutcome device s DiskOp.NoDiskOp zeroNode emptyTable ⌝ }
 {
     DiskOutcome { answer: 0, disk: s }
 }
 
 // The operation alone, on a disk and a call in their written form.
-fn obey(s: Disk, device: u64, call: DiskCall) -> DiskOutcome
-    ensures { λ o. ⌜ o ≡ obeyed device s call ⌝ }
+fn dispatch(s: DiskState, device: u64, call: DiskCall) -> DiskOutcome
+    ensures { λ o. ⌜ o ≡ callOutcome device s call ⌝ }
 {
     let op = call.op;
     let node = call.node;
@@ -327,7 +327,7 @@ fn obey(s: Disk, device: u64, call: DiskCall) -> DiskOutcome
 
 // Any call on any disk. Its written form is asked of its two parts, as `disk_form` does for a crash: that would copy the whole disk
 // once more at each call.
-pub fn next(s: Disk, device: u64, call: DiskCall) -> DiskOutcome
+pub fn next(s: DiskState, device: u64, call: DiskCall) -> DiskOutcome
     ensures { λ o. ⌜ o ≡ diskStep device s call ⌝ }
 {
     let node = call.node;
@@ -342,7 +342,7 @@ pub fn next(s: Disk, device: u64, call: DiskCall) -> DiskOutcome
     let tabled = sector::table_form(table);
     let good = form & noded & tabled;
     if good {
-        return obey(s, device, call);
+        return dispatch(s, device, call);
     }
     DiskOutcome { answer: 1, disk: s }
 }

@@ -8,10 +8,10 @@ use disklayout::Location;
 use sectortype::Node;
 use sectortype::Table;
 
-fn no_table_record() -> TableRecord
+fn zero_table_record() -> TableRecord
     ensures { λ r. ⌜ r ≡ zeroTableRecord ⌝ }
 {
-    let loc = sector::empty_loc();
+    let loc = sector::zero_loc();
     let table = sector::empty_table();
     TableRecord {
         present: false,
@@ -20,11 +20,11 @@ fn no_table_record() -> TableRecord
     }
 }
 
-pub fn no_node_record() -> NodeRecord
+pub fn zero_node_record() -> NodeRecord
     ensures { λ r. ⌜ r ≡ zeroNodeRecord ⌝ }
 {
-    let loc = sector::empty_loc();
-    let node = sector::empty_node();
+    let loc = sector::zero_loc();
+    let node = sector::zero_node();
     NodeRecord {
         present: false,
         loc,
@@ -33,11 +33,11 @@ pub fn no_node_record() -> NodeRecord
 }
 
 // Nothing stored.
-pub fn no_records() -> Records
+pub fn empty_records() -> Records
     ensures { λ r. ⌜ r ≡ emptyRecords ⌝ }
 {
-    let t = no_table_record();
-    let n = no_node_record();
+    let t = zero_table_record();
+    let n = zero_node_record();
     Records {
         tables: [t; 2],
         nodes: [n; 128],
@@ -57,7 +57,7 @@ pub fn table_at(device: u64, r: Records, loc: Location) -> TableRecord
     if here {
         return x;
     }
-    no_table_record()
+    zero_table_record()
 }
 
 // The record at exactly this place, or an empty one.
@@ -73,7 +73,7 @@ pub fn node_at(device: u64, r: Records, loc: Location) -> NodeRecord
     if here {
         return x;
     }
-    no_node_record()
+    zero_node_record()
 }
 
 // The records with this one in its area, and every other as it was.

@@ -13,7 +13,7 @@ use Rattle.disklayout.specs.declared.Device.{Device}
 use Rattle.disklayout.specs.declared.Location.{Location}
 use Rattle.disklayout.specs.declared.Number.{Number}
 use Rattle.disklayout.specs.declared.PlaceOption.{PlaceOption}
-use Rattle.disklayout.specs.Calls.{numberWhen, placeOptionWhen, zeroLocation}
+use Rattle.disklayout.specs.Calls.{numberWhen, placeOptionWhen, zeroLoc}
 use Rattle.disklayout.specs.Device.{Good}
 use Rattle.disklayout.specs.Layout.{JournalStartAddr, JournalEndAddr, ValidJournalLocation}
 use Rattle.disklayout.specs.Journal.{JournalPoint, JournalRangeRequires, JournalRangeLocation, locContainedInCircularJournalRange, locDisjointFromCircularJournalRange}
@@ -114,7 +114,7 @@ module _ (w : Device) (s n : ℕ) where
 
 -- what the code hands back: no place, or this one
 abbrev pub nowhere : PlaceOption
-nowhere = record { answer = 0; exists = false; loc = zeroLocation }
+nowhere = record { answer = 0; exists = false; loc = zeroLoc }
 
 abbrev pub here : Location → PlaceOption
 here l = record { answer = 0; exists = true; loc = l }

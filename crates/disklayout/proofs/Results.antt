@@ -8,7 +8,7 @@ use borrow.Author.Tests.{leb-true, le-leb}
 use Rattle.base.specs.Maps.{isSome}
 use Rattle.base.proofs.Tests.{and-iff}
 use Rattle.disklayout.specs.declared.Location.{Location}
-use Rattle.disklayout.specs.Calls.{number, flag, place, numberOption, orZero, zeroLocation}
+use Rattle.disklayout.specs.Calls.{number, flag, place, numberOption, orZero, zeroLoc}
 use Rattle.disklayout.specs.Device.{made}
 
 pub made-iff : (d : ℕ) → (made d ≡ true) ↔ (d ≤ 2)
@@ -39,7 +39,7 @@ module _ (d : ℕ) where
     pub flag-refused : (b : Bool) → flag d b ≡ record { answer = 1; yes = false }
     flag-refused b = rw m
 
-    pub place-refused : (l : Location) → place d l ≡ record { answer = 1; loc = zeroLocation }
+    pub place-refused : (l : Location) → place d l ≡ record { answer = 1; loc = zeroLoc }
     place-refused l = rw m
 
     pub numberOption-refused : (o : Option ℕ) → numberOption d o ≡ record { answer = 1; exists = false; value = 0 }

@@ -12,8 +12,8 @@ use Rattle.disklayout.specs.declared.Place.{Place}
 use Rattle.disklayout.specs.declared.PlaceOption.{PlaceOption}
 use Rattle.disklayout.specs.Device.{made}
 
-abbrev pub zeroLocation : Location
-zeroLocation = record { addr = 0; len = 0 }
+abbrev pub zeroLoc : Location
+zeroLoc = record { addr = 0; len = 0 }
 
 -- what an option holds, or zeros
 abbrev pub orZero : Option ℕ → ℕ
@@ -21,7 +21,7 @@ orZero none = 0
 orZero (some n) = n
 
 abbrev pub orZeros : Option Location → Location
-orZeros none = zeroLocation
+orZeros none = zeroLoc
 orZeros (some l) = l
 
 -- ONE DEFINITION FOR EACH FORM OF RESULT: answered where ok holds
@@ -33,10 +33,10 @@ abbrev pub flagWhen : Bool → Bool → Flag
 flagWhen ok b = record { answer = cond ok 0 1; yes = ok && b }
 
 abbrev pub placeWhen : Bool → Location → Place
-placeWhen ok l = record { answer = cond ok 0 1; loc = cond ok l zeroLocation }
+placeWhen ok l = record { answer = cond ok 0 1; loc = cond ok l zeroLoc }
 
 abbrev pub placeOptionWhen : Bool → Option Location → PlaceOption
-placeOptionWhen ok o = record { answer = cond ok 0 1; exists = ok && isSome o; loc = cond ok (orZeros o) zeroLocation }
+placeOptionWhen ok o = record { answer = cond ok 0 1; exists = ok && isSome o; loc = cond ok (orZeros o) zeroLoc }
 
 abbrev pub numberOptionWhen : Bool → Option ℕ → NumberOption
 numberOptionWhen ok o = record { answer = cond ok 0 1; exists = ok && isSome o; value = cond ok (orZero o) 0 }

@@ -1,38 +1,38 @@
 // Number 1: lists, tables and queues that are not in their written form, at each place where one can stand.
-use blockdisk::Disk;
+use blockdisk::DiskState;
 use blockdisk::DiskCall;
 use blockdisk::DiskOp;
 use blockdisk::Records;
 use disklayout::Location;
-use handmade::AREA1;
-use handmade::BLOCK0;
-use handmade::BLOCK1;
-use handmade::at;
-use handmade::entry_at;
-use handmade::entry_nowhere;
-use handmade::node_record;
-use handmade::put_node;
-use handmade::put_table;
-use handmade::queue_of;
-use handmade::queued;
-use handmade::ready;
-use handmade::show::cache_answer;
-use handmade::show::cache_form;
-use handmade::show::crash_answer;
-use handmade::show::disk_brings;
-use handmade::show::disk_form;
-use handmade::show::idle;
-use handmade::show::internal;
-use handmade::show::pair;
-use handmade::storing;
-use handmade::table_record;
-use handmade::two_entries;
-use handmade::with_cached;
-use handmade::with_ephemeral;
-use handmade::with_frozen;
-use handmade::with_persistent;
-use handmade::with_reads;
-use handmade::with_writes;
+use fixtures::AREA1;
+use fixtures::BLOCK0;
+use fixtures::BLOCK1;
+use fixtures::at;
+use fixtures::entry_at;
+use fixtures::entry_nowhere;
+use fixtures::node_record;
+use fixtures::put_node;
+use fixtures::put_table;
+use fixtures::queue_of;
+use fixtures::queued;
+use fixtures::ready;
+use fixtures::show::cache_answer;
+use fixtures::show::cache_form;
+use fixtures::show::crash_answer;
+use fixtures::show::disk_brings;
+use fixtures::show::disk_form;
+use fixtures::show::idle;
+use fixtures::show::internal;
+use fixtures::show::pair;
+use fixtures::storing;
+use fixtures::table_record;
+use fixtures::two_entries;
+use fixtures::with_cached;
+use fixtures::with_ephemeral;
+use fixtures::with_frozen;
+use fixtures::with_persistent;
+use fixtures::with_reads;
+use fixtures::with_writes;
 use queue::Requests;
 use sectortype::Node;
 use sectortype::Succs;
@@ -50,8 +50,8 @@ fn node_in_cache(kind: &[u8], n: Node) {
 }
 
 fn node_on_disk(kind: &[u8], n: Node) {
-    let none = disk::no_records();
-    let queues = disk::no_queues();
+    let none = disk::empty_records();
+    let queues = disk::empty_queues();
     let s = storing(none);
     let op = DiskOp::NoDiskOp;
     let loc = at(BLOCK0, 4096);
@@ -75,7 +75,7 @@ fn listing(s: Succs) -> Table {
 }
 
 fn list_everywhere(kind: &[u8], s: Succs) {
-    let mut n = sector::empty_node();
+    let mut n = sector::zero_node();
     n.succs = s;
     node_in_cache(kind, n);
     node_on_disk(kind, n);
@@ -130,8 +130,8 @@ fn table_in_cache(kind: &[u8], t: Table) {
     pair(b"cache_call_table", kind, g);
 }
 
-fn disk_with_table(s: Disk, table: Table) -> u64 {
-    let node = sector::empty_node();
+fn disk_with_table(s: DiskState, table: Table) -> u64 {
+    let node = sector::zero_node();
     let op = DiskOp::NoDiskOp;
     let call = DiskCall { op, node, table };
     let o = disk::next(s, 0, call);
@@ -139,15 +139,15 @@ fn disk_with_table(s: Disk, table: Table) -> u64 {
 }
 
 fn storing_table(t: Table) -> Records {
-    let none = disk::no_records();
+    let none = disk::empty_records();
     let loc = at(AREA1, 4096);
     let x = table_record(loc, t);
     put_table(none, 0, x)
 }
 
 fn table_on_disk(kind: &[u8], t: Table) {
-    let none = disk::no_records();
-    let queues = disk::no_queues();
+    let none = disk::empty_records();
+    let queues = disk::empty_queues();
     let s = storing(none);
     let r = storing_table(t);
     let stored = storing(r);
@@ -187,7 +187,7 @@ fn unallocated_list() -> Table {
         count: 1,
         at: [0; 8],
     };
-    let mut e = sector::empty_entry();
+    let mut e = sector::zero_entry();
     e.succs = s;
     let t = two_entries();
     sector::with_entry(t, 2, e)
@@ -266,7 +266,7 @@ fn queue_everywhere(name: &[u8], kind: u64) {
     queue_on_disk(name, kind);
     let c = ready();
     let loc = at(BLOCK0, 4096);
-    let nowhere = sector::empty_loc();
+    let nowhere = sector::zero_loc();
     let p = queue_of_kind(kind, loc);
     let q = queue_of_kind(kind, nowhere);
     let writes = with_writes(c, p);

@@ -1,50 +1,50 @@
 // Number 1: what a phase doesn't have, flags that are off, records and queued places, and numbers outside their range.
 use blockcache::Awaited;
-use blockcache::Cache;
+use blockcache::CacheState;
 use blockcache::Phase;
 use blockdisk::DiskCall;
 use blockdisk::DiskOp;
 use blockdisk::NodeRecord;
 use blockdisk::TableRecord;
 use disklayout::Location;
-use handmade::AREA1;
-use handmade::AREA2;
-use handmade::BLOCK0;
-use handmade::BLOCK1;
-use handmade::at;
-use handmade::in_phase;
-use handmade::leaf;
-use handmade::node_record;
-use handmade::one;
-use handmade::put_node;
-use handmade::put_table;
-use handmade::queued;
-use handmade::ready;
-use handmade::show::cache_answer;
-use handmade::show::cache_form;
-use handmade::show::disk_form;
-use handmade::show::idle;
-use handmade::show::internal;
-use handmade::show::line;
-use handmade::show::pair;
-use handmade::storing;
-use handmade::table_record;
-use handmade::two_entries;
-use handmade::with_cached;
-use handmade::with_ephemeral;
-use handmade::with_frozen;
-use handmade::with_persistent;
-use handmade::with_reads;
-use handmade::with_writes;
+use fixtures::AREA1;
+use fixtures::AREA2;
+use fixtures::BLOCK0;
+use fixtures::BLOCK1;
+use fixtures::at;
+use fixtures::in_phase;
+use fixtures::leaf;
+use fixtures::node_record;
+use fixtures::one;
+use fixtures::put_node;
+use fixtures::put_table;
+use fixtures::queued;
+use fixtures::ready;
+use fixtures::show::cache_answer;
+use fixtures::show::cache_form;
+use fixtures::show::disk_form;
+use fixtures::show::idle;
+use fixtures::show::internal;
+use fixtures::show::line;
+use fixtures::show::pair;
+use fixtures::storing;
+use fixtures::table_record;
+use fixtures::two_entries;
+use fixtures::with_cached;
+use fixtures::with_ephemeral;
+use fixtures::with_frozen;
+use fixtures::with_persistent;
+use fixtures::with_reads;
+use fixtures::with_writes;
 
-fn with_awaited(c: Cache, waiting: bool, id: u64) -> Cache {
+fn with_awaited(c: CacheState, waiting: bool, id: u64) -> CacheState {
     let mut next = c;
     let a = Awaited { waiting, id };
     next.awaited = a;
     next
 }
 
-fn with_place(c: Cache, loc: Location) -> Cache {
+fn with_place(c: CacheState, loc: Location) -> CacheState {
     let mut next = c;
     let mut ps = next.places;
     ps.persistent = loc;
@@ -52,7 +52,7 @@ fn with_place(c: Cache, loc: Location) -> Cache {
     next
 }
 
-fn with_frozen_place(c: Cache, isfrozen: bool, loc: Location) -> Cache {
+fn with_frozen_place(c: CacheState, isfrozen: bool, loc: Location) -> CacheState {
     let mut next = c;
     let mut ps = next.places;
     ps.isfrozen = isfrozen;
@@ -65,7 +65,7 @@ fn with_frozen_place(c: Cache, isfrozen: bool, loc: Location) -> Cache {
 fn outstanding() {
     let c = ready();
     let loc = at(BLOCK0, 4096);
-    let nowhere = sector::empty_loc();
+    let nowhere = sector::zero_loc();
     let w63 = one(1, 63, loc);
     let w64 = one(1, 64, loc);
     let r63 = one(1, 63, nowhere);
@@ -131,12 +131,12 @@ fn cached() {
 }
 
 // Neither phase before Ready has a table, a frozen place, a node, or a node request outstanding.
-fn before_ready(name: &[u8], c: Cache) {
+fn before_ready(name: &[u8], c: CacheState) {
     let t = two_entries();
     let none = sector::empty_table();
     let node = leaf(9);
     let loc = at(AREA2, 4096);
-    let nowhere = sector::empty_loc();
+    let nowhere = sector::zero_loc();
     let q = one(1, 1, nowhere);
     let p = with_persistent(c, t);
     let e = with_ephemeral(c, t);
@@ -155,7 +155,7 @@ fn before_ready(name: &[u8], c: Cache) {
     state(name, b"with_a_cached_node", n);
 }
 
-fn state(name: &[u8], what: &[u8], c: Cache) {
+fn state(name: &[u8], what: &[u8], c: CacheState) {
     let a = cache_form(c);
     pair(name, what, a);
 }
@@ -175,7 +175,7 @@ fn phases() {
 }
 
 fn stored_node(name: &[u8], x: NodeRecord) {
-    let none = disk::no_records();
+    let none = disk::empty_records();
     let r = put_node(none, 1, x);
     let s = storing(r);
     let a = disk_form(s);
@@ -183,7 +183,7 @@ fn stored_node(name: &[u8], x: NodeRecord) {
 }
 
 fn stored_table(name: &[u8], x: TableRecord) {
-    let none = disk::no_records();
+    let none = disk::empty_records();
     let r = put_table(none, 1, x);
     let s = storing(r);
     let a = disk_form(s);
@@ -193,11 +193,11 @@ fn stored_table(name: &[u8], x: TableRecord) {
 // Block 1: its own place is (327680, 1 to 65536).
 fn node_records() {
     let node = leaf(9);
-    let none = sector::empty_node();
+    let none = sector::zero_node();
     let own = at(BLOCK1, 1);
     let other = at(BLOCK0, 1);
     let short = at(BLOCK1, 0);
-    let nowhere = sector::empty_loc();
+    let nowhere = sector::zero_loc();
     let good = node_record(own, node);
     let mut absent = node_record(nowhere, node);
     absent.present = false;
@@ -219,7 +219,7 @@ fn table_records() {
     let own = at(AREA2, 1);
     let other = at(AREA1, 1);
     let short = at(AREA2, 0);
-    let nowhere = sector::empty_loc();
+    let nowhere = sector::zero_loc();
     let good = table_record(own, table);
     let mut absent = table_record(nowhere, table);
     absent.present = false;
@@ -257,9 +257,9 @@ fn queue_places(name: &[u8], kind: u64, addr: u64) {
 fn devices(name: &[u8], device: u64) {
     let c = ready();
     let q = idle();
-    let none = disk::no_records();
+    let none = disk::empty_records();
     let s = storing(none);
-    let node = sector::empty_node();
+    let node = sector::zero_node();
     let table = sector::empty_table();
     let op = DiskOp::NoDiskOp;
     let call = DiskCall { op, node, table };
@@ -278,7 +278,7 @@ fn numbers() {
     let b = cache_answer(c, 19, q);
     let d = cache_answer(c, 18446744073709551615, q);
     let dop = DiskOp::NoDiskOp;
-    let node = sector::empty_node();
+    let node = sector::zero_node();
     let last = internal(63, dop, node);
     let above = internal(64, dop, node);
     let e = cache_answer(c, 14, last);

@@ -1,18 +1,18 @@
 // A million calls of the disk that do nothing but judge its written form, to be timed: `time target/bin/formspeed`.
 // Prints how many were accepted.
-use blockdisk::Disk;
+use blockdisk::DiskState;
 use blockdisk::DiskCall;
 use blockdisk::DiskOp;
 
-fn empty() -> Disk {
-    let records = disk::no_records();
-    let queues = disk::no_queues();
-    Disk { records, queues }
+fn empty() -> DiskState {
+    let records = disk::empty_records();
+    let queues = disk::empty_queues();
+    DiskState { records, queues }
 }
 
 // One call; 1 if it was accepted.
-fn turn(s: Disk) -> u64 {
-    let node = sector::empty_node();
+fn turn(s: DiskState) -> u64 {
+    let node = sector::zero_node();
     let table = sector::empty_table();
     let c = DiskCall {
         op: DiskOp::NoDiskOp,

@@ -15,7 +15,7 @@ use crate::answers::number_when;
 use crate::answers::place_when;
 use crate::areas::*;
 use crate::rows::row;
-use crate::sums::crosses;
+use crate::sums::overlaps;
 use crate::sums::is_part;
 use disklayout::Flag;
 use disklayout::Location;
@@ -174,7 +174,7 @@ pub fn valid_location(device: u64, loc: Location) -> Flag
 pub fn overlap(device: u64, a: Location, b: Location) -> Flag
     ensures { λ r. ⌜ r ≡ flag device (Layout·overlap a b) ⌝ }
 {
-    let yes = crosses(a, b);
+    let yes = overlaps(a, b);
     flag_when(device <= 2, yes)
 }
 

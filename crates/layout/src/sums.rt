@@ -38,7 +38,7 @@ pub(crate) fn sum_within(a: u64, b: u64, c: u64, d: u64) -> bool
     b <= room
 }
 
-pub(crate) fn crosses(a: Location, b: Location) -> bool
+pub(crate) fn overlaps(a: Location, b: Location) -> bool
     ensures { λ r. ⌜ r ≡ Layout·overlap a b ⌝ }
 {
     let one = sum_passes(a.addr, a.len, b.addr);

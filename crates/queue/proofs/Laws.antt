@@ -14,7 +14,7 @@ use Rattle.base.proofs.Tests.{and-left}
 use Rattle.base.specs.Maps.{del, empty, flagged, isSome, put}
 use Rattle.base.specs.Queue.{keyAt}
 use Rattle.base.specs.Scan.{allBelow, someBelow}
-use Rattle.queue.specs.Queue.{anyRequest, blank, entryOf, findOf, hasOf, idOf, insertOf, noRequests, removeOf, requestAt, requestsForm, requestsMap, zeroRequest}
+use Rattle.queue.specs.Queue.{anyRequest, blank, entryOf, findOf, hasOf, idOf, insertOf, emptyRequests, removeOf, requestAt, requestsForm, requestsMap, zeroRequest}
 use Rattle.queue.specs.declared.Request.{Request}
 use Rattle.queue.specs.declared.Requests.{Requests}
 
@@ -38,13 +38,13 @@ unfolding requestsMap
 map-id q id {w} e = lookup-place idOf zeroRequest 16 (q .count) (q .at) id e .3
 
 -- the empty queue
-pub none-form : requestsForm noRequests ≡ true
+pub none-form : requestsForm emptyRequests ≡ true
 unfolding requestsForm allBelow
 none-form = refl
 
-pub none-map : requestsMap noRequests ≡ empty
+pub none-map : requestsMap emptyRequests ≡ empty
 unfolding requestsMap
-none-map = lookup-empty idOf zeroRequest 16 (noRequests .at)
+none-map = lookup-empty idOf zeroRequest 16 (emptyRequests .at)
 
 module _ (q : Requests) (form : requestsForm q ≡ true) where
   pub form-length : length (q .at) ≡ 16

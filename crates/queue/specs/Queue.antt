@@ -13,8 +13,8 @@ use Rattle.queue.specs.declared.Requests.{Requests}
 abbrev pub zeroRequest : Request
 zeroRequest = record { id = 0; reference = 0; loc = record { addr = 0; len = 0 } }
 
-abbrev pub noRequests : Requests
-noRequests = record { count = 0; at = replicate 16 zeroRequest }
+abbrev pub emptyRequests : Requests
+emptyRequests = record { count = 0; at = replicate 16 zeroRequest }
 
 -- what a place in the queue is known by
 abbrev pub idOf : Request → ℕ

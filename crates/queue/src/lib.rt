@@ -5,7 +5,7 @@ ghost use mathlib.Core.List.{[], _∷_, _++_};
 ghost use mathlib.Core.Path.{_≡_};
 ghost use Prim.Native.Nat.{_<_, _≤_};
 ghost use Rattle.base.specs.Lists.{opened, closed};
-ghost use Rattle.queue.specs.Queue.{zeroRequest, requestForm, requestsForm, hasOf, hasAddr, findOf, placeOf, entryOf, insertOf, removeOf, noRequests};
+ghost use Rattle.queue.specs.Queue.{zeroRequest, requestForm, requestsForm, hasOf, hasAddr, findOf, placeOf, entryOf, insertOf, removeOf, emptyRequests};
 use disklayout::Location;
 
 // An outstanding request: its id, the reference that it is for, its place. A queue that has no use for one of these keeps it zero.
@@ -33,8 +33,8 @@ fn zero_request() -> Request
 }
 
 // The queue with nothing outstanding.
-pub fn none() -> Requests
-    ensures { λ r. ⌜ r ≡ noRequests ⌝ }
+pub fn empty() -> Requests
+    ensures { λ r. ⌜ r ≡ emptyRequests ⌝ }
 {
     let zero = zero_request();
     Requests {

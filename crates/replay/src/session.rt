@@ -3,21 +3,21 @@
 use crate::print;
 use crate::print::Tally;
 use crate::show;
-use blockcache::Cache;
+use blockcache::CacheState;
 use blockcache::Call;
-use blockdisk::Disk;
+use blockdisk::DiskState;
 use blockdisk::Records;
 use blocksystem::Named;
 use blocksystem::Outcome;
-use blocksystem::Story;
+use blocksystem::Pictures;
 use words::line::Line;
 
 // A sequence of calls on one device: where it stands, and its names and pictures.
 pub struct Store {
     pub device: u64,
-    pub cache: Cache,
-    pub disk: Disk,
-    pub story: Story,
+    pub cache: CacheState,
+    pub disk: DiskState,
+    pub pictures: Pictures,
 }
 
 // Until a `format` has been accepted no sequence has been started, and what stands in `store` is not used.
@@ -28,21 +28,21 @@ pub struct Session {
 }
 
 // The store after a call that was accepted.
-fn moved(device: u64, o: Outcome, story: Story) -> Store {
+fn moved(device: u64, o: Outcome, pictures: Pictures) -> Store {
     let cache = o.cache;
     let disk = o.disk;
     Store {
         device,
         cache,
         disk,
-        story,
+        pictures,
     }
 }
 
 pub fn unstarted() -> Session {
     let o = system::format(0, 0);
-    let story = system::format_story(0, 0);
-    let store = moved(0, o, story);
+    let pictures = system::format_pictures(0, 0);
+    let store = moved(0, o, pictures);
     Session {
         started: false,
         store,
@@ -73,9 +73,9 @@ fn audit_one(line: u64, store: Store, named: Named) {
 impl Store {
     // Each named place, by ascending address.
     fn audit(self, line: u64) {
-        let story = self.story;
-        let first = story.first;
-        let second = story.second;
+        let pictures = self.pictures;
+        let first = pictures.first;
+        let second = pictures.second;
         if comes_before(second, first) {
             audit_one(line, self, second);
             audit_one(line, self, first);
@@ -127,8 +127,8 @@ impl Session {
         print::answer(self.tally.lines, answer);
         let mut next = self.counted(answer);
         if answer == 0 {
-            let story = system::format_story(device, contents);
-            let store = moved(device, o, story);
+            let pictures = system::format_pictures(device, contents);
+            let store = moved(device, o, pictures);
             next.started = true;
             next.store = store;
         }
@@ -147,9 +147,9 @@ impl Session {
         }
         let mut next = self.counted(answer);
         if answer == 0 {
-            let before = store.story;
-            let story = system::story_after(before, number, call);
-            let after = moved(store.device, o, story);
+            let before = store.pictures;
+            let pictures = system::pictures_after(before, number, call);
+            let after = moved(store.device, o, pictures);
             next.store = after;
         }
         next

@@ -1,8 +1,8 @@
 // The two lines of `show`.
 use crate::print;
-use blockcache::Cache;
+use blockcache::CacheState;
 use blockcache::Phase;
-use blockdisk::Disk;
+use blockdisk::DiskState;
 use queue::Requests;
 use script::calls::is_ready;
 use sectortype::Table;
@@ -24,7 +24,7 @@ fn counted(ready: bool, n: u8) -> u64 {
     0
 }
 
-pub fn sizes(line: u64, cache: Cache) {
+pub fn sizes(line: u64, cache: CacheState) {
     let phase = cache.phase;
     let ready = is_ready(cache);
     print::word(b"line=", line);
@@ -110,7 +110,7 @@ fn letter(w: bool, p: bool, e: bool, f: bool, o: bool) -> u8 {
 }
 
 // A letter for each block, by who has its address: outside Ready only what is stored counts.
-fn letters(device: u64, cache: Cache, disk: Disk) -> [u8; 128] {
+fn letters(device: u64, cache: CacheState, disk: DiskState) -> [u8; 128] {
     let ready = is_ready(cache);
     let tables = cache.tables;
     let records = disk.records;
@@ -135,7 +135,7 @@ fn letters(device: u64, cache: Cache, disk: Disk) -> [u8; 128] {
     at
 }
 
-pub fn blocks(line: u64, device: u64, cache: Cache, disk: Disk) {
+pub fn blocks(line: u64, device: u64, cache: CacheState, disk: DiskState) {
     let at = letters(device, cache, disk);
     print::word(b"line=", line);
     print::text(b" blocks=");

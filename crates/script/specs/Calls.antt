@@ -7,13 +7,13 @@ use Rattle.sectortype.specs.declared.Nodes.{Nodes}
 use Rattle.sectortype.specs.declared.Table.{Table}
 use Rattle.queue.specs.Queue.{hasOf, entryOf}
 use Rattle.blockdisk.specs.Records.{readNode, readTable}
-use Rattle.blockdisk.specs.declared.Disk.{Disk}
+use Rattle.blockdisk.specs.declared.DiskState.{DiskState}
 use Rattle.blockdisk.specs.declared.Brought.{Brought}
 use Rattle.blockdisk.specs.declared.Brought.the-variants as brought
 use Rattle.blockdisk.specs.declared.DiskOp.{DiskOp}
 use Rattle.blockdisk.specs.declared.DiskOp.the-variants.{NoDiskOp, ReqReadIndirectionTableOp, ReqReadNodeOp, ReqWriteIndirectionTableOp, ReqWriteNodeOp, RespReadIndirectionTableOp, RespReadNodeOp, RespWriteIndirectionTableOp, RespWriteNodeOp}
 use Rattle.blockcache.specs.Form.{isReady}
-use Rattle.blockcache.specs.declared.Cache.{Cache}
+use Rattle.blockcache.specs.declared.CacheState.{CacheState}
 use Rattle.blockcache.specs.declared.Call.{Call}
 use Rattle.script.specs.declared.calls.BroughtNode.{BroughtNode}
 use Rattle.script.specs.declared.calls.BroughtTable.{BroughtTable}
@@ -34,7 +34,7 @@ abbrev pub nothingNode : BroughtNode
 nothingNode = record { brought = brought.Nothing; node = zeroNode }
 
 -- stored: what the disk holds at exactly the place queued as a node read under this id, none if nothing
-unfoldable pub storedNode : ℕ → Disk → ℕ → BroughtNode
+unfoldable pub storedNode : ℕ → DiskState → ℕ → BroughtNode
 storedNode d s id =
     cond (hasOf (s .queues .nodereads) id && readNode d (s .records) (entryOf (s .queues .nodereads) id .loc) .present)
     (someNode (readNode d (s .records) (entryOf (s .queues .nodereads) id .loc) .node))
@@ -45,7 +45,7 @@ unfoldable pub cachedNode : Nodes → ℕ → Node
 cachedNode m r = cond (slotAt m r .present) (slotAt m r .node) zeroNode
 
 -- by where the node comes from: n is the one written out, r the reference, id the disk operation's id
-abbrev pub nodeValue : NodeSource → Node → ℕ → ℕ → ℕ → Cache → Disk → BroughtNode
+abbrev pub nodeValue : NodeSource → Node → ℕ → ℕ → ℕ → CacheState → DiskState → BroughtNode
 nodeValue node.Nothing n r id d c s = nothingNode
 nodeValue node.Written n r id d c s = someNode n
 nodeValue node.Stored n r id d c s = storedNode d s id
@@ -62,7 +62,7 @@ abbrev pub nothingTable : BroughtTable
 nothingTable = record { brought = brought.Nothing; table = emptyTable }
 
 -- stored: what the disk holds at exactly the place queued as a table read under this id, none if nothing
-unfoldable pub storedTable : ℕ → Disk → ℕ → BroughtTable
+unfoldable pub storedTable : ℕ → DiskState → ℕ → BroughtTable
 storedTable d s id =
     cond (hasOf (s .queues .tablereads) id && readTable d (s .records) (entryOf (s .queues .tablereads) id .loc) .present)
     (someTable (readTable d (s .records) (entryOf (s .queues .tablereads) id .loc) .table))
@@ -73,7 +73,7 @@ abbrev pub cacheTable : Bool → Table → BroughtTable
 cacheTable present t = someTable (cond present t emptyTable)
 
 -- by where the table comes from: t is the one written out, and a cache that is not Ready has no tables
-abbrev pub tableValue : TableSource → Table → ℕ → ℕ → Cache → Disk → BroughtTable
+abbrev pub tableValue : TableSource → Table → ℕ → ℕ → CacheState → DiskState → BroughtTable
 tableValue table.Nothing t id d c s = nothingTable
 tableValue table.Written t id d c s = someTable t
 tableValue table.Stored t id d c s = storedTable d s id
@@ -101,7 +101,7 @@ callFrom q n t =
     record { reference = q .reference; vop = q .vop; dop = bringingOf (q .dop) (n .brought) (t .brought); node = n .node; table = t .table }
 
 -- the request's own reference and operations, with the node and the table that its words stand for on this cache and this disk
-unfoldable pub callOf : Request → ℕ → Cache → Disk → Call
+unfoldable pub callOf : Request → ℕ → CacheState → DiskState → Call
 callOf q d c s =
     callFrom q
     (nodeValue (q .node .source) (q .node .node) (q .reference) (q .id) d c s)

@@ -7,11 +7,11 @@ use crate::request::NodeWord;
 use crate::request::Request;
 use crate::request::TableSource;
 use crate::request::TableWord;
-use blockcache::Cache;
+use blockcache::CacheState;
 use blockcache::Call;
 use blockcache::Phase;
 use blockdisk::Brought;
-use blockdisk::Disk;
+use blockdisk::DiskState;
 use blockdisk::DiskOp;
 use sectortype::Node;
 use sectortype::Nodes;
@@ -41,7 +41,7 @@ fn some_node(node: Node) -> BroughtNode
 fn nothing_node() -> BroughtNode
     ensures { λ r. ⌜ r ≡ nothingNode ⌝ }
 {
-    let node = sector::empty_node();
+    let node = sector::zero_node();
     BroughtNode {
         brought: Brought::Nothing,
         node,
@@ -68,7 +68,7 @@ fn nothing_table() -> BroughtTable
 }
 
 // What is stored at the place that is queued as a node read under an id.
-fn answered_node(device: u64, disk: Disk, id: u64) -> BroughtNode
+fn answered_node(device: u64, disk: DiskState, id: u64) -> BroughtNode
     ensures { λ r. ⌜ r ≡ storedNode device disk id ⌝ }
 {
     let q = disk.queues.nodereads;
@@ -83,7 +83,7 @@ fn answered_node(device: u64, disk: Disk, id: u64) -> BroughtNode
     nothing_node()
 }
 
-fn answered_table(device: u64, disk: Disk, id: u64) -> BroughtTable
+fn answered_table(device: u64, disk: DiskState, id: u64) -> BroughtTable
     ensures { λ r. ⌜ r ≡ storedTable device disk id ⌝ }
 {
     let q = disk.queues.tablereads;
@@ -103,17 +103,17 @@ fn cached_node(nodes: Nodes, reference: u64) -> Node
     ensures { λ r. ⌜ r ≡ cachedNode nodes reference ⌝ }
 {
     if reference > 63 {
-        return sector::empty_node();
+        return sector::zero_node();
     }
     let r = reference as usize;
     let slot = nodes.slots[r];
     if slot.present {
         return slot.node;
     }
-    sector::empty_node()
+    sector::zero_node()
 }
 
-pub fn is_ready(cache: Cache) -> bool
+pub fn is_ready(cache: CacheState) -> bool
     ensures { λ r. ⌜ r ≡ isReady cache ⌝ }
 {
     let phase = cache.phase;
@@ -139,8 +139,8 @@ fn node_value(
     reference: u64,
     id: u64,
     device: u64,
-    cache: Cache,
-    disk: Disk,
+    cache: CacheState,
+    disk: DiskState,
 ) -> BroughtNode
     ensures { λ r. ⌜ r ≡ nodeValue (w .source) (w .node) reference id device cache disk ⌝ }
 {
@@ -154,7 +154,7 @@ fn node_value(
     }
 }
 
-fn table_value(w: TableWord, id: u64, device: u64, cache: Cache, disk: Disk) -> BroughtTable
+fn table_value(w: TableWord, id: u64, device: u64, cache: CacheState, disk: DiskState) -> BroughtTable
     ensures { λ r. ⌜ r ≡ tableValue (w .source) (w .table) id device cache disk ⌝ }
 {
     let ready = is_ready(cache);
@@ -187,7 +187,7 @@ fn bringing(op: DiskOp, node: Brought, table: Brought) -> DiskOp
     }
 }
 
-pub fn call_of(q: Request, device: u64, cache: Cache, disk: Disk) -> Call
+pub fn call_of(q: Request, device: u64, cache: CacheState, disk: DiskState) -> Call
     ensures { λ c. ⌜ c ≡ callOf q device cache disk ⌝ }
 {
     let id = q.id;

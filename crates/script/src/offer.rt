@@ -56,7 +56,7 @@ fn no_area(ok: bool) -> AreaRead
 fn no_block(ok: bool) -> BlockRead
     ensures { λ r. ⌜ r ≡ noBlock ok ⌝ }
 {
-    let node = sector::empty_node();
+    let node = sector::zero_node();
     BlockRead {
         ok,
         held: NodeRecord {

@@ -79,7 +79,7 @@ pub struct Request {
 fn node_from(source: NodeSource) -> NodeWord
     ensures { λ r. ⌜ r ≡ nodeFrom source ⌝ }
 {
-    let node = sector::empty_node();
+    let node = sector::zero_node();
     NodeWord {
         ok: true,
         source,

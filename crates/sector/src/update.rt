@@ -1,7 +1,8 @@
 // The empty records, and a table or a map of nodes with one place set. The count is taken anew, so that it is the count whatever it was.
 ghost use lib.ListN.{set};
 ghost use mathlib.Core.Path.{_≡_};
-ghost use Rattle.sectortype.specs.Form.{zeroSuccs, zeroLoc, zeroNode, zeroEntry, zeroSlot, emptyTable, emptyNodes, withEntry, withSlot};
+ghost use Rattle.disklayout.specs.Calls.{zeroLoc};
+ghost use Rattle.sectortype.specs.Form.{zeroSuccs, zeroNode, zeroEntry, zeroSlot, emptyTable, emptyNodes, withEntry, withSlot};
 use crate::form::count_allocated;
 use crate::form::count_present;
 use disklayout::Location;
@@ -12,7 +13,7 @@ use sectortype::Slot;
 use sectortype::Succs;
 use sectortype::Table;
 
-fn empty_succs() -> Succs
+fn zero_succs() -> Succs
     ensures { λ r. ⌜ r ≡ zeroSuccs ⌝ }
 {
     Succs {
@@ -21,24 +22,24 @@ fn empty_succs() -> Succs
     }
 }
 
-pub fn empty_loc() -> Location
+pub fn zero_loc() -> Location
     ensures { λ r. ⌜ r ≡ zeroLoc ⌝ }
 {
     Location { addr: 0, len: 0 }
 }
 
-pub fn empty_node() -> Node
+pub fn zero_node() -> Node
     ensures { λ r. ⌜ r ≡ zeroNode ⌝ }
 {
-    let succs = empty_succs();
+    let succs = zero_succs();
     Node { contents: 0, succs }
 }
 
-pub fn empty_entry() -> Entry
+pub fn zero_entry() -> Entry
     ensures { λ r. ⌜ r ≡ zeroEntry ⌝ }
 {
-    let succs = empty_succs();
-    let loc = empty_loc();
+    let succs = zero_succs();
+    let loc = zero_loc();
     Entry {
         allocated: false,
         located: false,
@@ -47,10 +48,10 @@ pub fn empty_entry() -> Entry
     }
 }
 
-pub fn empty_slot() -> Slot
+pub fn zero_slot() -> Slot
     ensures { λ r. ⌜ r ≡ zeroSlot ⌝ }
 {
-    let node = empty_node();
+    let node = zero_node();
     Slot {
         present: false,
         node,
@@ -60,7 +61,7 @@ pub fn empty_slot() -> Slot
 pub fn empty_table() -> Table
     ensures { λ r. ⌜ r ≡ emptyTable ⌝ }
 {
-    let e = empty_entry();
+    let e = zero_entry();
     Table {
         count: 0,
         entries: [e; 64],
@@ -70,7 +71,7 @@ pub fn empty_table() -> Table
 pub fn empty_nodes() -> Nodes
     ensures { λ r. ⌜ r ≡ emptyNodes ⌝ }
 {
-    let s = empty_slot();
+    let s = zero_slot();
     Nodes {
         count: 0,
         slots: [s; 64],

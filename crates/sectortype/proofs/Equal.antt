@@ -12,10 +12,11 @@ use Rattle.base.proofs.Scan.{all-at, all-iff, all-of}
 use Rattle.base.proofs.Tests.{and-both, and-iff, and-right, eqb-iff, tests}
 use Rattle.base.specs.Scan.{allBelow}
 use Rattle.disklayout.specs.declared.Location.{Location}
+use Rattle.disklayout.specs.Calls.{zeroLoc}
 use Rattle.sectortype.proofs.Forms.{entry-at-form, entry-succs, nodes-of-slots, slot-at-form, succ-unused, succs-iff, table-of-entries, zero-succs-form}
 use Rattle.sectortype.proofs.Rows.{flagged-ext}
 use Rattle.sectortype.specs.Abstract.{graphOf, indirectionTable, locsOf, nodesMap}
-use Rattle.sectortype.specs.Form.{entryAt, entryForm, locZero, nodeForm, nodeZero, nodesForm, slotAt, slotForm, succAt, succsForm, succsZero, tableForm, zeroEntry, zeroLoc, zeroNode, zeroSlot, zeroSuccs}
+use Rattle.sectortype.specs.Form.{entryAt, entryForm, locZero, nodeForm, nodeZero, nodesForm, slotAt, slotForm, succAt, succsForm, succsZero, tableForm, zeroEntry, zeroNode, zeroSlot, zeroSuccs}
 use Rattle.sectortype.specs.Same.{sameBool, sameEntry, sameLoc, sameNode, sameSuccs, sameTable}
 use Rattle.sectortype.specs.declared.Entry.{Entry}
 use Rattle.sectortype.specs.declared.Node.{Node}

@@ -11,7 +11,7 @@ use Rattle.base.proofs.Scan.{all-at, all-iff, all-of}
 use Rattle.base.proofs.Tests.{and-iff, clash, eqb-iff, leb-iff, split, tests}
 use Rattle.base.specs.Scan.{allBelow, countBelow}
 use Rattle.sectortype.proofs.Rows.{rows-blank, rows-ext, rows-iff, rows-set, set-at-place}
-use Rattle.sectortype.specs.Form.{allocatedAt, emptyNodes, emptyTable, entryAt, entryForm, noEntry, noSlot, nodeForm, nodesForm, placesZero, presentAt, slotAt, slotForm, succAt, succOk, succsForm, tableForm, withEntry, withSlot, zeroEntry, zeroNode, zeroSlot, zeroSuccs}
+use Rattle.sectortype.specs.Form.{allocatedAt, emptyNodes, emptyTable, entryAt, entryForm, defaultEntry, defaultSlot, nodeForm, nodesForm, placesZero, presentAt, slotAt, slotForm, succAt, succOk, succsForm, tableForm, withEntry, withSlot, zeroEntry, zeroNode, zeroSlot, zeroSuccs}
 use Rattle.sectortype.specs.declared.Entry.{Entry}
 use Rattle.sectortype.specs.declared.Nodes.{Nodes}
 use Rattle.sectortype.specs.declared.Slot.{Slot}
@@ -62,7 +62,7 @@ zero-node-form = zero-succs-form
 pub table-iff : (t : Table) →
     (tableForm t ≡ true) ↔ ((length (t .entries) ≡ 64) × ((t .count ≡ countBelow (allocatedAt (t .entries)) 64) × ((r : ℕ) → r < 64 → entryForm (entryAt t r) ≡ true)))
 unfolding tableForm
-table-iff t = rows-iff isAllocated entryForm noEntry (t .count) (t .entries)
+table-iff t = rows-iff isAllocated entryForm defaultEntry (t .count) (t .entries)
 
 pub entry-at-length : (t : Table) → tableForm t ≡ true → length (t .entries) ≡ 64
 entry-at-length t f = table-iff t .0 f .0
@@ -71,8 +71,8 @@ pub entry-at-form : (t : Table) → tableForm t ≡ true → (r : ℕ) → r < 6
 entry-at-form t f = table-iff t .0 f .1 .1
 
 -- past the last reference nothing is allocated
-pub entry-past : (t : Table) → tableForm t ≡ true → (r : ℕ) → 64 ≤ r → entryAt t r ≡ noEntry
-entry-past t f r b = List·getD-eq-default (t .entries) noEntry (omega (arith, entry-at-length t f))
+pub entry-past : (t : Table) → tableForm t ≡ true → (r : ℕ) → 64 ≤ r → entryAt t r ≡ defaultEntry
+entry-past t f r b = List·getD-eq-default (t .entries) defaultEntry (omega (arith, entry-at-length t f))
 
 pub entry-succs : (e : Entry) → entryForm e ≡ true → succsForm (e .succs) ≡ true
 entry-succs e f = let h = simp and-iff at f in h .0 .0
@@ -87,28 +87,28 @@ located-allocated t f r l =
 
 pub entry-with : (t : Table) (r : ℕ) (e : Entry) (j : ℕ) → tableForm t ≡ true → r < 64 → entryAt (withEntry t r e) j ≡ cond (eqb j r) e (entryAt t j)
 unfolding withEntry
-entry-with t r e j f b = set-at-place (t .entries) r e noEntry j (omega (arith, entry-at-length t f))
+entry-with t r e j f b = set-at-place (t .entries) r e defaultEntry j (omega (arith, entry-at-length t f))
 
 pub with-entry-form : (t : Table) (r : ℕ) (e : Entry) → tableForm t ≡ true → r < 64 → entryForm e ≡ true → tableForm (withEntry t r e) ≡ true
 unfolding tableForm withEntry
-with-entry-form t r e f b g = rows-set isAllocated entryForm noEntry (t .count) r (t .entries) e f b g
+with-entry-form t r e f b g = rows-set isAllocated entryForm defaultEntry (t .count) r (t .entries) e f b g
 
 -- a table is its entries
 pub table-of-entries : (a b : Table) → tableForm a ≡ true → tableForm b ≡ true → ((r : ℕ) → r < 64 → entryAt a r ≡ entryAt b r) → a ≡ b
 unfolding tableForm
 table-of-entries a b f g h =
-    let p = rows-ext isAllocated entryForm noEntry (a .count) (b .count) (a .entries) (b .entries) f g h in λ i. record { count = p .0 i; entries = p .1 i }
+    let p = rows-ext isAllocated entryForm defaultEntry (a .count) (b .count) (a .entries) (b .entries) f g h in λ i. record { count = p .0 i; entries = p .1 i }
 
 pub empty-table-form : tableForm emptyTable ≡ true
 unfolding tableForm
-empty-table-form = rows-blank isAllocated entryForm noEntry zeroEntry (rw zero-succs-form) refl
+empty-table-form = rows-blank isAllocated entryForm defaultEntry zeroEntry (rw zero-succs-form) refl
 
 -- MAPS OF NODES
 
 pub nodes-iff : (m : Nodes) →
     (nodesForm m ≡ true) ↔ ((length (m .slots) ≡ 64) × ((m .count ≡ countBelow (presentAt (m .slots)) 64) × ((r : ℕ) → r < 64 → slotForm (slotAt m r) ≡ true)))
 unfolding nodesForm
-nodes-iff m = rows-iff isPresent slotForm noSlot (m .count) (m .slots)
+nodes-iff m = rows-iff isPresent slotForm defaultSlot (m .count) (m .slots)
 
 pub slot-at-length : (m : Nodes) → nodesForm m ≡ true → length (m .slots) ≡ 64
 slot-at-length m f = nodes-iff m .0 f .0
@@ -118,17 +118,17 @@ slot-at-form m f = nodes-iff m .0 f .1 .1
 
 pub slot-with : (m : Nodes) (r : ℕ) (s : Slot) (j : ℕ) → nodesForm m ≡ true → r < 64 → slotAt (withSlot m r s) j ≡ cond (eqb j r) s (slotAt m j)
 unfolding withSlot
-slot-with m r s j f b = set-at-place (m .slots) r s noSlot j (omega (arith, slot-at-length m f))
+slot-with m r s j f b = set-at-place (m .slots) r s defaultSlot j (omega (arith, slot-at-length m f))
 
 pub with-slot-form : (m : Nodes) (r : ℕ) (s : Slot) → nodesForm m ≡ true → r < 64 → slotForm s ≡ true → nodesForm (withSlot m r s) ≡ true
 unfolding nodesForm withSlot
-with-slot-form m r s f b g = rows-set isPresent slotForm noSlot (m .count) r (m .slots) s f b g
+with-slot-form m r s f b g = rows-set isPresent slotForm defaultSlot (m .count) r (m .slots) s f b g
 
 pub nodes-of-slots : (a b : Nodes) → nodesForm a ≡ true → nodesForm b ≡ true → ((r : ℕ) → r < 64 → slotAt a r ≡ slotAt b r) → a ≡ b
 unfolding nodesForm
 nodes-of-slots a b f g h =
-    let p = rows-ext isPresent slotForm noSlot (a .count) (b .count) (a .slots) (b .slots) f g h in λ i. record { count = p .0 i; slots = p .1 i }
+    let p = rows-ext isPresent slotForm defaultSlot (a .count) (b .count) (a .slots) (b .slots) f g h in λ i. record { count = p .0 i; slots = p .1 i }
 
 pub empty-nodes-form : nodesForm emptyNodes ≡ true
 unfolding nodesForm
-empty-nodes-form = rows-blank isPresent slotForm noSlot zeroSlot (rw zero-succs-form) refl
+empty-nodes-form = rows-blank isPresent slotForm defaultSlot zeroSlot (rw zero-succs-form) refl

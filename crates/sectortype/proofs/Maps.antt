@@ -15,7 +15,7 @@ use Rattle.disklayout.specs.declared.Location.{Location}
 use Rattle.sectortype.proofs.Forms.{entry-at-form, entry-at-length, entry-succs, isAllocated, isPresent, slot-at-form, slot-at-length}
 use Rattle.sectortype.proofs.Rows.{set-at-place}
 use Rattle.sectortype.specs.Abstract.{graphOf, locsOf, nodesMap}
-use Rattle.sectortype.specs.Form.{emptyNodes, emptyTable, entryAt, noEntry, noSlot, nodeForm, nodesForm, slotAt, succsForm, tableForm, withEntry, withSlot, zeroEntry, zeroSlot}
+use Rattle.sectortype.specs.Form.{emptyNodes, emptyTable, entryAt, defaultEntry, defaultSlot, nodeForm, nodesForm, slotAt, succsForm, tableForm, withEntry, withSlot, zeroEntry, zeroSlot}
 use Rattle.sectortype.specs.declared.Entry.{Entry}
 use Rattle.sectortype.specs.declared.Node.{Node}
 use Rattle.sectortype.specs.declared.Nodes.{Nodes}
@@ -112,15 +112,15 @@ nodes-some m r e = flagged-some (slotAt m r .present) (slotAt m r .node) e
 
 pub graph-bounded : (t : Table) → tableForm t ≡ true → (r : ℕ) (l : Succs) → graphOf t r ≡ some l → r < 64
 unfolding graphOf
-graph-bounded t f r l e = map-bounded isAllocated entryList noEntry (t .entries) (entry-at-length t f) refl r e
+graph-bounded t f r l e = map-bounded isAllocated entryList defaultEntry (t .entries) (entry-at-length t f) refl r e
 
 pub locs-bounded : (t : Table) → tableForm t ≡ true → (r : ℕ) (l : Location) → locsOf t r ≡ some l → r < 64
 unfolding locsOf
-locs-bounded t f r l e = map-bounded isLocated entryLoc noEntry (t .entries) (entry-at-length t f) refl r e
+locs-bounded t f r l e = map-bounded isLocated entryLoc defaultEntry (t .entries) (entry-at-length t f) refl r e
 
 pub nodes-bounded : (m : Nodes) → nodesForm m ≡ true → (r : ℕ) (n : Node) → nodesMap m r ≡ some n → r < 64
 unfolding nodesMap
-nodes-bounded m f r n e = map-bounded isPresent slotNode noSlot (m .slots) (slot-at-length m f) refl r e
+nodes-bounded m f r n e = map-bounded isPresent slotNode defaultSlot (m .slots) (slot-at-length m f) refl r e
 
 pub graph-form : (t : Table) → tableForm t ≡ true → (r : ℕ) (l : Succs) → graphOf t r ≡ some l → succsForm l ≡ true
 graph-form t f r l e = rw (graph-some t r e .1) at (entry-succs (entryAt t r) (entry-at-form t f r (graph-bounded t f r l e)))
@@ -134,19 +134,19 @@ nodes-form-at m f r n e =
 module _ (t : Table) (r : ℕ) (e : Entry) (f : tableForm t ≡ true) (b : r < 64) where
   pub graph-put : e .allocated ≡ true → graphOf (withEntry t r e) ≡ put (graphOf t) r (e .succs)
   unfolding graphOf withEntry
-  graph-put a = map-put isAllocated entryList noEntry (t .entries) r e (entry-at-length t f) b a
+  graph-put a = map-put isAllocated entryList defaultEntry (t .entries) r e (entry-at-length t f) b a
 
   pub graph-del : e .allocated ≡ false → graphOf (withEntry t r e) ≡ del (graphOf t) r
   unfolding graphOf withEntry
-  graph-del a = map-del isAllocated entryList noEntry (t .entries) r e (entry-at-length t f) b a
+  graph-del a = map-del isAllocated entryList defaultEntry (t .entries) r e (entry-at-length t f) b a
 
   pub locs-put : e .located ≡ true → locsOf (withEntry t r e) ≡ put (locsOf t) r (e .loc)
   unfolding locsOf withEntry
-  locs-put a = map-put isLocated entryLoc noEntry (t .entries) r e (entry-at-length t f) b a
+  locs-put a = map-put isLocated entryLoc defaultEntry (t .entries) r e (entry-at-length t f) b a
 
   pub locs-del : e .located ≡ false → locsOf (withEntry t r e) ≡ del (locsOf t) r
   unfolding locsOf withEntry
-  locs-del a = map-del isLocated entryLoc noEntry (t .entries) r e (entry-at-length t f) b a
+  locs-del a = map-del isLocated entryLoc defaultEntry (t .entries) r e (entry-at-length t f) b a
 
   -- the list that is there
   pub graph-same : e .allocated ≡ true → graphOf t r ≡ some (e .succs) → graphOf (withEntry t r e) ≡ graphOf t
@@ -161,22 +161,22 @@ module _ (t : Table) (r : ℕ) (e : Entry) (f : tableForm t ≡ true) (b : r < 6
 module _ (m : Nodes) (r : ℕ) (s : Slot) (f : nodesForm m ≡ true) (b : r < 64) where
   pub nodes-put : s .present ≡ true → nodesMap (withSlot m r s) ≡ put (nodesMap m) r (s .node)
   unfolding nodesMap withSlot
-  nodes-put a = map-put isPresent slotNode noSlot (m .slots) r s (slot-at-length m f) b a
+  nodes-put a = map-put isPresent slotNode defaultSlot (m .slots) r s (slot-at-length m f) b a
 
   pub nodes-del : s .present ≡ false → nodesMap (withSlot m r s) ≡ del (nodesMap m) r
   unfolding nodesMap withSlot
-  nodes-del a = map-del isPresent slotNode noSlot (m .slots) r s (slot-at-length m f) b a
+  nodes-del a = map-del isPresent slotNode defaultSlot (m .slots) r s (slot-at-length m f) b a
 
 -- NOTHING THERE
 
 pub empty-graph : graphOf emptyTable ≡ empty
 unfolding graphOf
-empty-graph = map-empty isAllocated entryList noEntry zeroEntry refl refl
+empty-graph = map-empty isAllocated entryList defaultEntry zeroEntry refl refl
 
 pub empty-locs : locsOf emptyTable ≡ empty
 unfolding locsOf
-empty-locs = map-empty isLocated entryLoc noEntry zeroEntry refl refl
+empty-locs = map-empty isLocated entryLoc defaultEntry zeroEntry refl refl
 
 pub empty-nodes : nodesMap emptyNodes ≡ empty
 unfolding nodesMap
-empty-nodes = map-empty isPresent slotNode noSlot zeroSlot refl refl
+empty-nodes = map-empty isPresent slotNode defaultSlot zeroSlot refl refl

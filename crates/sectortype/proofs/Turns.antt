@@ -8,7 +8,7 @@ use borrow.Author.Tests.{ltb-false, ltb-true}
 use lib.Dec.{ltb}
 use lib.ListN.{List·getD-eq-default, length}
 use Rattle.base.proofs.Tests.{split}
-use Rattle.sectortype.specs.Form.{entryAt, noEntry}
+use Rattle.sectortype.specs.Form.{entryAt, defaultEntry}
 use Rattle.sectortype.specs.Graph.{allocatedIn, withinAt}
 use Rattle.sectortype.specs.declared.Table.{Table}
 
@@ -21,4 +21,4 @@ within-turn t k {n} {m} {r} {j} long q i e = e ∙ rw (q, i) (ap (λ x. not (ltb
     known =
         split (ltb r 64)
         (λ y. rw (y, mod-eq-of-lt (ltb-true r 64 y)))
-        (λ y. let a : 64 ≤ r = ltb-false r 64 y in let d : length (t .entries) ≤ r = omega arith in rw (y, List·getD-eq-default (t .entries) noEntry d))
+        (λ y. let a : 64 ≤ r = ltb-false r 64 y in let d : length (t .entries) ≤ r = omega arith in rw (y, List·getD-eq-default (t .entries) defaultEntry d))

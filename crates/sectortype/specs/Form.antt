@@ -5,6 +5,7 @@ use mathlib.Core.List.{List, []}
 use lib.Dec.{eqb, leb, ltb}
 use lib.ListN.{getD, length, replicate, set}
 use Rattle.base.specs.Scan.{allBelow, countBelow}
+use Rattle.disklayout.specs.Calls.{zeroLoc}
 use Rattle.disklayout.specs.declared.Location.{Location}
 use Rattle.sectortype.specs.declared.Entry.{Entry}
 use Rattle.sectortype.specs.declared.Node.{Node}
@@ -14,9 +15,6 @@ use Rattle.sectortype.specs.declared.Succs.{Succs}
 use Rattle.sectortype.specs.declared.Table.{Table}
 
 -- WHAT A READ PAST THE END WOULD GIVE (an array in it is []), AND THE ZEROS OF THE WRITTEN FORM
-
-abbrev pub zeroLoc : Location
-zeroLoc = record { addr = 0; len = 0 }
 
 abbrev pub zeroSuccs : Succs
 zeroSuccs = record { count = 0; at = replicate 8 0 }
@@ -36,14 +34,14 @@ emptyTable = record { count = 0; entries = replicate 64 zeroEntry }
 abbrev pub emptyNodes : Nodes
 emptyNodes = record { count = 0; slots = replicate 64 zeroSlot }
 
-abbrev pub noSuccs : Succs
-noSuccs = record { count = 0; at = [] }
+abbrev pub defaultSuccs : Succs
+defaultSuccs = record { count = 0; at = [] }
 
-abbrev pub noEntry : Entry
-noEntry = record { allocated = false; located = false; loc = zeroLoc; succs = noSuccs }
+abbrev pub defaultEntry : Entry
+defaultEntry = record { allocated = false; located = false; loc = zeroLoc; succs = defaultSuccs }
 
-abbrev pub noSlot : Slot
-noSlot = record { present = false; node = record { contents = 0; succs = noSuccs } }
+abbrev pub defaultSlot : Slot
+defaultSlot = record { present = false; node = record { contents = 0; succs = defaultSuccs } }
 
 -- A PLACE OF A RECORD
 
@@ -51,16 +49,16 @@ abbrev pub succAt : Succs → ℕ → ℕ
 succAt s k = getD (s .at) k 0
 
 abbrev pub entryAt : Table → ℕ → Entry
-entryAt t r = getD (t .entries) r noEntry
+entryAt t r = getD (t .entries) r defaultEntry
 
 abbrev pub slotAt : Nodes → ℕ → Slot
-slotAt m r = getD (m .slots) r noSlot
+slotAt m r = getD (m .slots) r defaultSlot
 
 abbrev pub allocatedAt : List Entry → ℕ → Bool
-allocatedAt l r = getD l r noEntry .allocated
+allocatedAt l r = getD l r defaultEntry .allocated
 
 abbrev pub presentAt : List Slot → ℕ → Bool
-presentAt l r = getD l r noSlot .present
+presentAt l r = getD l r defaultSlot .present
 
 -- THE WRITTEN FORM
 

@@ -1,14 +1,14 @@
 // Formatting: the root in the first node block, its table in area 1, all else empty; and the names and pictures at first.
 ghost use mathlib.Core.Path.{_≡_};
 ghost use Rattle.blocksystem.specs.Format.{rootNode, rootTable, formattedRecords, formatted};
-ghost use Rattle.blocksystem.specs.Names.{noName, withRoot, firstStory};
-use blockdisk::Disk;
+ghost use Rattle.blocksystem.specs.Names.{zeroNamed, withRoot, firstPictures};
+use blockdisk::DiskState;
 use blockdisk::NodeRecord;
 use blockdisk::Records;
 use blockdisk::TableRecord;
 use blocksystem::Named;
 use blocksystem::Outcome;
-use blocksystem::Story;
+use blocksystem::Pictures;
 use disklayout::Location;
 use sectortype::Node;
 use sectortype::Nodes;
@@ -18,7 +18,7 @@ use sectortype::Table;
 fn root_node(contents: u64) -> Node
     ensures { λ n. ⌜ n ≡ rootNode contents ⌝ }
 {
-    let mut n = sector::empty_node();
+    let mut n = sector::zero_node();
     n.contents = contents;
     n
 }
@@ -33,7 +33,7 @@ fn root_table(place: Location) -> Table
     ensures { λ t. ⌜ t ≡ rootTable place ⌝ }
 {
     let t = sector::empty_table();
-    let mut e = sector::empty_entry();
+    let mut e = sector::zero_entry();
     e.allocated = true;
     e.located = true;
     e.loc = place;
@@ -45,7 +45,7 @@ fn formatted_records(at: Location, place: Location, contents: u64) -> Records
 {
     let table = root_table(place);
     let node = root_node(contents);
-    let mut r = disk::no_records();
+    let mut r = disk::empty_records();
     let mut tables = r.tables;
     let mut nodes = r.nodes;
     let x = TableRecord {
@@ -69,12 +69,12 @@ fn formatted_records(at: Location, place: Location, contents: u64) -> Records
 pub fn format(device: u64, contents: u64) -> Outcome
     ensures { λ o. ⌜ o ≡ formatted device contents ⌝ }
 {
-    let node = sector::empty_node();
+    let node = sector::zero_node();
     let cache = cache::unready();
-    let queues = disk::no_queues();
+    let queues = disk::empty_queues();
     if 2 < device {
-        let records = disk::no_records();
-        let disk = Disk { records, queues };
+        let records = disk::empty_records();
+        let disk = DiskState { records, queues };
         return Outcome {
             answer: 1,
             node,
@@ -87,7 +87,7 @@ pub fn format(device: u64, contents: u64) -> Outcome
     let at = root_place(t.value);
     let place = root_place(n.value);
     let records = formatted_records(at, place, contents);
-    let disk = Disk { records, queues };
+    let disk = DiskState { records, queues };
     Outcome {
         answer: 0,
         node,
@@ -96,10 +96,10 @@ pub fn format(device: u64, contents: u64) -> Outcome
     }
 }
 
-pub(crate) fn no_name() -> Named
-    ensures { λ m. ⌜ m ≡ noName ⌝ }
+pub(crate) fn zero_named() -> Named
+    ensures { λ m. ⌜ m ≡ zeroNamed ⌝ }
 {
-    let place = sector::empty_loc();
+    let place = sector::zero_loc();
     let picture = sector::empty_nodes();
     Named {
         present: false,
@@ -121,8 +121,8 @@ fn with_root(contents: u64) -> Nodes
 }
 
 // Names and pictures of a newly formatted device.
-pub fn format_story(device: u64, contents: u64) -> Story
-    ensures { λ t. ⌜ t ≡ firstStory device contents ⌝ }
+pub fn format_pictures(device: u64, contents: u64) -> Pictures
+    ensures { λ t. ⌜ t ≡ firstPictures device contents ⌝ }
 {
     let t = layout::indirection_table1_addr(device);
     let place = root_place(t.value);
@@ -133,9 +133,9 @@ pub fn format_story(device: u64, contents: u64) -> Story
         place,
         picture,
     };
-    let second = no_name();
+    let second = zero_named();
     let frozen = sector::empty_nodes();
-    Story {
+    Pictures {
         first,
         second,
         working,

@@ -3,9 +3,9 @@ ghost use mathlib.Core.Path.{_≡_};
 ghost use Rattle.base.specs.Refusals.{answer, lowest};
 ghost use Rattle.blocksystem.specs.Joined.{diskCall, startRows, joined};
 use crate::start::wf_succs;
-use blockcache::Cache;
+use blockcache::CacheState;
 use blockcache::Call;
-use blockdisk::Disk;
+use blockdisk::DiskState;
 use blockdisk::DiskCall;
 use blockdisk::DiskOp;
 use blockdisk::Records;
@@ -45,7 +45,7 @@ fn disk_call(number: u64, q: Call) -> DiskCall
 }
 
 // A start asks for a whole graph at the place given.
-fn ask_start(device: u64, q: Call, s: Disk) -> u64
+fn ask_start(device: u64, q: Call, s: DiskState) -> u64
     ensures { λ n. ⌜ n ≡ answer (startRows device 10 q s) ⌝ }
 {
     let v = q.vop;
@@ -60,7 +60,7 @@ fn ask_start(device: u64, q: Call, s: Disk) -> u64
 
 // A crash is offered records, every other step asks the disk for its operation, and a start alone asks for a graph. The three are
 // asked here and not in a function between, as each call by value copies the disk.
-pub fn step(device: u64, number: u64, q: Call, offered: Records, c: Cache, s: Disk) -> Outcome
+pub fn step(device: u64, number: u64, q: Call, offered: Records, c: CacheState, s: DiskState) -> Outcome
     ensures { λ o. ⌜ o ≡ joined device number q offered c s ⌝ }
 {
     let a = cache::step(c, device, number, q);
@@ -77,7 +77,7 @@ pub fn step(device: u64, number: u64, q: Call, offered: Records, c: Cache, s: Di
     let both = lower(a.answer, b.answer);
     let n = lower(both, n20);
     if n != 0 {
-        let node = sector::empty_node();
+        let node = sector::zero_node();
         return Outcome {
             answer: n,
             node,

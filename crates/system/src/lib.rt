@@ -1,4 +1,4 @@
-// Cache and disk joined: formatting, the joined call, names and pictures, and what a crash has lost, as `blocksystem` defines them.
+// CacheState and disk joined: formatting, the joined call, names and pictures, and what a crash has lost, as `blocksystem` defines them.
 mod formatting;
 mod joined;
 mod pictures;
@@ -6,7 +6,7 @@ mod reading;
 mod start;
 
 pub use formatting::format;
-pub use formatting::format_story;
+pub use formatting::format_pictures;
 pub use joined::step;
-pub use pictures::story_after;
+pub use pictures::pictures_after;
 pub use reading::audit;

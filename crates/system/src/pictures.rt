@@ -2,11 +2,11 @@
 ghost use mathlib.Core.Path.{_≡_};
 ghost use Rattle.blockcache.specs.Next.{cachedSlot};
 ghost use Rattle.sectortype.specs.Form.{withSlot, zeroSlot};
-ghost use Rattle.blocksystem.specs.Names.{names, pictureOf, drawn, naming, frozenNamed, startedAt, froze, cleaned, told};
-use crate::formatting::no_name;
+ghost use Rattle.blocksystem.specs.Names.{names, pictureOf, withWorking, naming, frozenNamed, startedAt, froze, cleaned, picturesAfter};
+use crate::formatting::zero_named;
 use blockcache::Call;
 use blocksystem::Named;
-use blocksystem::Story;
+use blocksystem::Pictures;
 use disklayout::Location;
 use sectortype::Node;
 use sectortype::Nodes;
@@ -31,7 +31,7 @@ fn naming_place(place: Location, picture: Nodes) -> Named
 }
 
 // The picture that belongs to a place; the empty one where it is not named.
-fn picture_of(t: Story, l: Location) -> Nodes
+fn picture_of(t: Pictures, l: Location) -> Nodes
     ensures { λ p. ⌜ p ≡ pictureOf t l ⌝ }
 {
     let a = t.first;
@@ -47,14 +47,14 @@ fn picture_of(t: Story, l: Location) -> Nodes
     sector::empty_nodes()
 }
 
-fn with_working(mut t: Story, w: Nodes) -> Story
-    ensures { λ o. ⌜ o ≡ drawn t w ⌝ }
+fn with_working(mut t: Pictures, w: Nodes) -> Pictures
+    ensures { λ o. ⌜ o ≡ withWorking t w ⌝ }
 {
     t.working = w;
     t
 }
 
-fn frozen_named(mut t: Story, l: Location) -> Story
+fn frozen_named(mut t: Pictures, l: Location) -> Pictures
     ensures { λ o. ⌜ o ≡ frozenNamed t l ⌝ }
 {
     let p = t.frozen;
@@ -63,49 +63,49 @@ fn frozen_named(mut t: Story, l: Location) -> Story
     t
 }
 
-fn started_at(mut t: Story, l: Location) -> Story
+fn started_at(mut t: Pictures, l: Location) -> Pictures
     ensures { λ o. ⌜ o ≡ startedAt t l ⌝ }
 {
     let p = picture_of(t, l);
     let m = naming_place(l, p);
-    let none = no_name();
+    let none = zero_named();
     t.first = m;
     t.second = none;
     t.working = p;
     t
 }
 
-fn freeze(mut t: Story) -> Story
+fn freeze(mut t: Pictures) -> Pictures
     ensures { λ o. ⌜ o ≡ froze t ⌝ }
 {
-    let none = no_name();
+    let none = zero_named();
     let w = t.working;
     t.second = none;
     t.frozen = w;
     t
 }
 
-fn clean_up(mut t: Story) -> Story
+fn clean_up(mut t: Pictures) -> Pictures
     ensures { λ o. ⌜ o ≡ cleaned t ⌝ }
 {
-    let none = no_name();
+    let none = zero_named();
     let m = t.second;
     t.first = m;
     t.second = none;
     t
 }
 
-fn removed(t: Story, r: usize) -> Story
-    ensures { λ o. ⌜ o ≡ drawn t (withSlot (t .working) r zeroSlot) ⌝ }
+fn removed(t: Pictures, r: usize) -> Pictures
+    ensures { λ o. ⌜ o ≡ withWorking t (withSlot (t .working) r zeroSlot) ⌝ }
 {
     let w = t.working;
-    let s = sector::empty_slot();
+    let s = sector::zero_slot();
     let w2 = sector::with_slot(w, r, s);
     with_working(t, w2)
 }
 
-fn set_node(t: Story, r: usize, node: Node) -> Story
-    ensures { λ o. ⌜ o ≡ drawn t (withSlot (t .working) r (cachedSlot node)) ⌝ }
+fn set_node(t: Pictures, r: usize, node: Node) -> Pictures
+    ensures { λ o. ⌜ o ≡ withWorking t (withSlot (t .working) r (cachedSlot node)) ⌝ }
 {
     let w = t.working;
     let s = Slot {
@@ -117,8 +117,8 @@ fn set_node(t: Story, r: usize, node: Node) -> Story
 }
 
 // Names and pictures after an accepted call. Most steps change none.
-pub fn story_after(t: Story, number: u64, q: Call) -> Story
-    ensures { λ o. ⌜ o ≡ told number q t ⌝ }
+pub fn pictures_after(t: Pictures, number: u64, q: Call) -> Pictures
+    ensures { λ o. ⌜ o ≡ picturesAfter number q t ⌝ }
 {
     let v = q.vop;
     let l = cache::vop_loc(v);

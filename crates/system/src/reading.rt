@@ -2,7 +2,7 @@
 ghost use mathlib.Core.Path.{_≡_};
 ghost use Rattle.base.specs.Scan.{bit};
 ghost use Rattle.blocksystem.specs.Audit.{throughTable, isLost, isAdded, isAltered, tally, counted};
-use blockdisk::Disk;
+use blockdisk::DiskState;
 use blockdisk::NodeRecord;
 use blockdisk::Records;
 use blockdisk::TableRecord;
@@ -20,7 +20,7 @@ fn through_table(device: u64, r: Records, x: TableRecord, e: Entry) -> NodeRecor
     if there {
         return disk::node_at(device, r, loc);
     }
-    disk::no_node_record()
+    disk::zero_node_record()
 }
 
 fn one_if(b: bool) -> u64
@@ -51,7 +51,7 @@ fn altered(x: NodeRecord, s: Slot) -> u64
 }
 
 // The counts for one named place.
-pub fn audit(device: u64, s: Disk, m: Named) -> Counts
+pub fn audit(device: u64, s: DiskState, m: Named) -> Counts
     ensures { λ c. ⌜ c ≡ counted device (s .records) m ⌝ }
 {
     let r = s.records;

@@ -4,7 +4,8 @@ use mathlib.Core.Bool.{Bool, true, false, _||_, not, cond}
 use mathlib.Core.List.{List, [], _∷_}
 use lib.Dec.{ltb, eqb}
 use lib.ListN.{length, getD, set, take, drop}
-use Rattle.sectortype.specs.Form.{zeroLoc, zeroSuccs, zeroNode, zeroEntry, emptyTable, withEntry}
+use Rattle.disklayout.specs.Calls.{zeroLoc}
+use Rattle.sectortype.specs.Form.{zeroSuccs, zeroNode, zeroEntry, emptyTable, withEntry}
 use Rattle.sectortype.specs.declared.Succs.{Succs}
 use Rattle.words.specs.declared.digits.Digits.{Digits}
 use Rattle.words.specs.declared.digits.Digits.the-variants.{Value, Bad}

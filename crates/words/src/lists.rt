@@ -45,7 +45,7 @@ fn no_node() -> NodeRead
 {
     NodeRead {
         ok: false,
-        node: sector::empty_node(),
+        node: sector::zero_node(),
     }
 }
 

@@ -39,7 +39,7 @@ fn no_entry() -> EntryRead
     EntryRead {
         ok: false,
         reference: 0,
-        entry: sector::empty_entry(),
+        entry: sector::zero_entry(),
     }
 }
 

@@ -15,8 +15,8 @@ cache-form-requires c κs = search needs
 call-form-requires : tie.Need-call-form-requires
 call-form-requires c κs = search needs
 
-obey-requires : tie.Need-obey-requires
-obey-requires c κs =
+dispatch-requires : tie.Need-dispatch-requires
+dispatch-requires c κs =
     let e = rw (c .before .call-form .ensures, c .before .before .cache-form .ensures) at (c .if1 .taken) in (
       call-reference (c .before .before .before .args .q) (and-right (made (c .before .before .before .args .device) && cacheForm (c .before .before .before .args .c)) (callForm (c .before .before .before .args .q)) e),
       read-reference (c .before .before .before .args .device) (c .before .before .before .args .c) (c .before .before .before .args .q .reference) (c .before .before .before .args .q) (and-right (made (c .before .before .before .args .device)) (cacheForm (c .before .before .before .args .c)) (and-left (made (c .before .before .before .args .device) && cacheForm (c .before .before .before .args .c)) (callForm (c .before .before .before .args .q)) e)),
@@ -24,7 +24,7 @@ obey-requires c κs =
 
 returns : tie.Need-returns
 unfolding cacheStep
-returns c = simp (rw (c .before .before .call-form .ensures, c .before .before .before .cache-form .ensures) at (c .before .if1 .taken)) (c .obey .ensures)
+returns c = simp (rw (c .before .before .call-form .ensures, c .before .before .before .cache-form .ensures) at (c .before .if1 .taken)) (c .dispatch .ensures)
 
 answered-requires : tie.Need-answered-requires
 answered-requires c κs = search needs
@@ -36,4 +36,4 @@ returns-2 c = simp (rw (c .before .before .call-form .ensures, c .before .before
 pub step-spec : {M : Type 1} → statement M
 step-spec =
     tie.close
-    (tie.spec cache-form-requires call-form-requires obey-requires returns answered-requires returns-2)
+    (tie.spec cache-form-requires call-form-requires dispatch-requires returns answered-requires returns-2)

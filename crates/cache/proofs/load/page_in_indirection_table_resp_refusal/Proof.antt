@@ -19,8 +19,8 @@ dop-id-requires c κs = search needs
 dop-brought-requires : tie.Need-dop-brought-requires
 dop-brought-requires c κs = search needs
 
-wrong-table-requires : tie.Need-wrong-table-requires
-wrong-table-requires c κs = search needs
+table-rejected-requires : tie.Need-table-rejected-requires
+table-rejected-requires c κs = search needs
 
 first-of-requires : tie.Need-first-of-requires
 first-of-requires c κs = search needs
@@ -33,7 +33,7 @@ first-three-requires c κs = search needs
 
 returns : tie.Need-returns
 unfolding answer
-returns c = simp (c .first-three .ensures, c .before .first-of2 .ensures, c .before .before .before .before .first-of .ensures, c .before .before .before .before .before .wrong-table .ensures, c .before .before .before .before .before .before .before .before .dop-brought .ensures, c .before .before .before .before .before .before .before .before .before .dop-id .ensures, c .before .before .before .before .before .before .before .before .before .before .is-loading .ensures, c .before .before .before .before .before .before .before .before .before .before .before .dop-kind .ensures, c .before .before .before .before .before .before .before .before .before .before .before .before .vop-kind .ensures)
+returns c = simp (c .first-three .ensures, c .before .first-of2 .ensures, c .before .before .before .before .first-of .ensures, c .before .before .before .before .before .table-rejected .ensures, c .before .before .before .before .before .before .before .before .dop-brought .ensures, c .before .before .before .before .before .before .before .before .before .dop-id .ensures, c .before .before .before .before .before .before .before .before .before .before .is-loading .ensures, c .before .before .before .before .before .before .before .before .before .before .before .dop-kind .ensures, c .before .before .before .before .before .before .before .before .before .before .before .before .vop-kind .ensures)
 
 pub page-in-indirection-table-resp-refusal-spec : {M : Type 1} → statement M
 page-in-indirection-table-resp-refusal-spec =
@@ -44,7 +44,7 @@ page-in-indirection-table-resp-refusal-spec =
     is-loading-requires
     dop-id-requires
     dop-brought-requires
-    wrong-table-requires
+    table-rejected-requires
     first-of-requires
     first-of-requires-2
     first-three-requires

@@ -18,8 +18,8 @@ returns c = simp (c .answered .ensures, ne-eqb _ _ (rw (c .before .before .page-
 dop-id-requires : tie.Need-dop-id-requires
 dop-id-requires c κs = search needs
 
-empty-loc-requires : tie.Need-empty-loc-requires
-empty-loc-requires c κs = search needs
+zero-loc-requires : tie.Need-zero-loc-requires
+zero-loc-requires c κs = search needs
 
 cast-t14 : tie.Need-cast-t14
 cast-t14 c = search needs
@@ -33,7 +33,7 @@ answered-requires-2 c κs = search needs
 returns-2 : tie.Need-returns-2
 returns-2 c =
     let e = sym (c .before .before .before .before .before .before .before .page-in-node-req-refusal .ensures) ∙ c .before .before .before .before .before .before .if1 .left in
-    simp (eq-eqb _ _ e, e, mod-eq-of-lt (c .before .before .before .before .before .before .before .before .pre), c .answered2 .ensures, c .before .insert .ensures, c .before .before .empty-loc .ensures, c .before .before .before .before .before .dop-id .ensures)
+    simp (eq-eqb _ _ e, e, mod-eq-of-lt (c .before .before .before .before .before .before .before .before .pre), c .answered2 .ensures, c .before .insert .ensures, c .before .before .zero-loc .ensures, c .before .before .before .before .before .dop-id .ensures)
 
 pub page-in-node-req-spec : {M : Type 1} → statement M
 page-in-node-req-spec =
@@ -43,7 +43,7 @@ page-in-node-req-spec =
     answered-requires
     returns
     dop-id-requires
-    empty-loc-requires
+    zero-loc-requires
     cast-t14
     insert-requires
     answered-requires-2

@@ -45,8 +45,8 @@ element-copy-out-slot c =
     let s : c .before .before .before .before .index .result < 64 = rw (c .before .before .before .before .index .ensures, c .before .before .before .before .before .entry .ensures, c .before .before .before .before .before .before .before .before .before .before .dop-id .ensures) (c .before .before .before .before .before .before .before .before .before .before .before .before .before .before .pre) in
     search needs
 
-wrong-node-requires : tie.Need-wrong-node-requires
-wrong-node-requires c κs = search needs
+node-rejected-requires : tie.Need-node-rejected-requires
+node-rejected-requires c κs = search needs
 
 first-of-requires : tie.Need-first-of-requires
 first-of-requires c κs = search needs
@@ -62,7 +62,7 @@ first-three-requires c κs = search needs
 
 returns : tie.Need-returns
 unfolding answer
-returns c = simp (c .first-three .ensures, c .before .first-of3 .ensures, c .before .before .first-of2 .ensures, c .before .before .before .before .before .first-of .ensures, c .before .before .before .before .before .before .wrong-node .ensures, c .before .before .before .before .before .before .before .before .before .before .before .before .before .index .ensures, c .before .before .before .before .before .before .before .before .before .before .before .before .before .before .entry .ensures, c .before .before .before .before .before .before .before .before .before .before .before .before .before .before .before .has .ensures, c .before .before .before .before .before .before .before .before .before .before .before .before .before .before .before .before .before .before .dop-brought .ensures, c .before .before .before .before .before .before .before .before .before .before .before .before .before .before .before .before .before .before .before .dop-id .ensures, c .before .before .before .before .before .before .before .before .before .before .before .before .before .before .before .before .before .before .before .before .is-ready .ensures, c .before .before .before .before .before .before .before .before .before .before .before .before .before .before .before .before .before .before .before .before .before .dop-kind .ensures, c .before .before .before .before .before .before .before .before .before .before .before .before .before .before .before .before .before .before .before .before .before .before .vop-kind .ensures)
+returns c = simp (c .first-three .ensures, c .before .first-of3 .ensures, c .before .before .first-of2 .ensures, c .before .before .before .before .before .first-of .ensures, c .before .before .before .before .before .before .node-rejected .ensures, c .before .before .before .before .before .before .before .before .before .before .before .before .before .index .ensures, c .before .before .before .before .before .before .before .before .before .before .before .before .before .before .entry .ensures, c .before .before .before .before .before .before .before .before .before .before .before .before .before .before .before .has .ensures, c .before .before .before .before .before .before .before .before .before .before .before .before .before .before .before .before .before .before .dop-brought .ensures, c .before .before .before .before .before .before .before .before .before .before .before .before .before .before .before .before .before .before .before .dop-id .ensures, c .before .before .before .before .before .before .before .before .before .before .before .before .before .before .before .before .before .before .before .before .is-ready .ensures, c .before .before .before .before .before .before .before .before .before .before .before .before .before .before .before .before .before .before .before .before .before .dop-kind .ensures, c .before .before .before .before .before .before .before .before .before .before .before .before .before .before .before .before .before .before .before .before .before .before .vop-kind .ensures)
 
 pub page-in-node-resp-refusal-spec : {M : Type 1} → statement M
 page-in-node-resp-refusal-spec =
@@ -80,7 +80,7 @@ page-in-node-resp-refusal-spec =
     element-copy-out-e
     mul-slot
     element-copy-out-slot
-    wrong-node-requires
+    node-rejected-requires
     first-of-requires
     first-of-requires-2
     first-of-requires-3

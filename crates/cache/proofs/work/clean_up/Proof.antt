@@ -17,8 +17,8 @@ returns c = simp (c .answered .ensures, ne-eqb _ _ (rw (c .before .before .clean
 empty-table-requires : tie.Need-empty-table-requires
 empty-table-requires c κs = search needs
 
-empty-loc-requires : tie.Need-empty-loc-requires
-empty-loc-requires c κs = search needs
+zero-loc-requires : tie.Need-zero-loc-requires
+zero-loc-requires c κs = search needs
 
 answered-requires-2 : tie.Need-answered-requires-2
 answered-requires-2 c κs = search needs
@@ -26,7 +26,7 @@ answered-requires-2 c κs = search needs
 returns-2 : tie.Need-returns-2
 returns-2 c =
     let e = sym (c .before .before .before .before .before .before .before .before .clean-up-refusal .ensures) ∙ c .before .before .before .before .before .before .before .if1 .left in
-    simp (eq-eqb _ _ e, e, c .answered2 .ensures, c .before .empty-loc .ensures, c .before .before .before .before .empty-table .ensures)
+    simp (eq-eqb _ _ e, e, c .answered2 .ensures, c .before .zero-loc .ensures, c .before .before .before .before .empty-table .ensures)
 
 pub clean-up-spec : {M : Type 1} → statement M
 clean-up-spec =
@@ -36,6 +36,6 @@ clean-up-spec =
     answered-requires
     returns
     empty-table-requires
-    empty-loc-requires
+    zero-loc-requires
     answered-requires-2
     returns-2)

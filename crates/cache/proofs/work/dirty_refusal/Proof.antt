@@ -25,8 +25,8 @@ mul-slot c = search needs
 element-copy-out-slot : tie.Need-element-copy-out-slot
 element-copy-out-slot c = search needs
 
-fz-requires : tie.Need-fz-requires
-fz-requires c κs = search needs
+needs-cached-requires : tie.Need-needs-cached-requires
+needs-cached-requires c κs = search needs
 
 points-within-requires : tie.Need-points-within-requires
 points-within-requires c κs = search needs
@@ -45,7 +45,7 @@ first-three-requires c κs = search needs
 
 returns : tie.Need-returns
 unfolding answer
-returns c = simp (c .first-three .ensures, c .before .first-of3 .ensures, c .before .before .before .before .first-of2 .ensures, c .before .before .before .before .before .first-of .ensures, c .before .before .before .before .before .before .points-within .ensures, c .before .before .before .before .before .before .before .fz .ensures, c .before .before .before .before .before .before .before .before .before .before .before .before .before .before .before .is-ready .ensures, c .before .before .before .before .before .before .before .before .before .before .before .before .before .before .before .before .dop-kind .ensures, c .before .before .before .before .before .before .before .before .before .before .before .before .before .before .before .before .before .vop-kind .ensures)
+returns c = simp (c .first-three .ensures, c .before .first-of3 .ensures, c .before .before .before .before .first-of2 .ensures, c .before .before .before .before .before .first-of .ensures, c .before .before .before .before .before .before .points-within .ensures, c .before .before .before .before .before .before .before .needs_cached .ensures, c .before .before .before .before .before .before .before .before .before .before .before .before .before .before .before .is-ready .ensures, c .before .before .before .before .before .before .before .before .before .before .before .before .before .before .before .before .dop-kind .ensures, c .before .before .before .before .before .before .before .before .before .before .before .before .before .before .before .before .before .vop-kind .ensures)
 
 pub dirty-refusal-spec : {M : Type 1} → statement M
 dirty-refusal-spec =
@@ -58,7 +58,7 @@ dirty-refusal-spec =
     element-copy-out-e
     mul-slot
     element-copy-out-slot
-    fz-requires
+    needs-cached-requires
     points-within-requires
     first-of-requires
     first-of-requires-2

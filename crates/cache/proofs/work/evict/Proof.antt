@@ -14,8 +14,8 @@ answered-requires c κs = search needs
 returns : tie.Need-returns
 returns c = simp (c .answered .ensures, ne-eqb _ _ (rw (c .before .before .evict-refusal .ensures) at (c .before .if1 .taken)), c .before .before .evict-refusal .ensures)
 
-empty-slot-requires : tie.Need-empty-slot-requires
-empty-slot-requires c κs = search needs
+zero-slot-requires : tie.Need-zero-slot-requires
+zero-slot-requires c κs = search needs
 
 with-slot-requires : tie.Need-with-slot-requires
 with-slot-requires c κs = search needs
@@ -26,7 +26,7 @@ answered-requires-2 c κs = search needs
 returns-2 : tie.Need-returns-2
 returns-2 c =
     let e = sym (c .before .before .before .before .before .evict-refusal .ensures) ∙ c .before .before .before .before .if1 .left in
-    simp (eq-eqb _ _ e, e, c .answered2 .ensures, c .before .with-slot .ensures, c .before .before .empty-slot .ensures)
+    simp (eq-eqb _ _ e, e, c .answered2 .ensures, c .before .with-slot .ensures, c .before .before .zero-slot .ensures)
 
 pub evict-spec : {M : Type 1} → statement M
 evict-spec =
@@ -35,7 +35,7 @@ evict-spec =
     evict-refusal-requires
     answered-requires
     returns
-    empty-slot-requires
+    zero-slot-requires
     with-slot-requires
     answered-requires-2
     returns-2)

@@ -28,8 +28,8 @@ element-copy-out-slot c = search needs
 writes-to-requires : tie.Need-writes-to-requires
 writes-to-requires c κs = search needs
 
-fz-requires : tie.Need-fz-requires
-fz-requires c κs = search needs
+needs-cached-requires : tie.Need-needs-cached-requires
+needs-cached-requires c κs = search needs
 
 first-of-requires : tie.Need-first-of-requires
 first-of-requires c κs = search needs
@@ -45,7 +45,7 @@ first-three-requires c κs = search needs
 
 returns : tie.Need-returns
 unfolding answer
-returns c = simp (c .first-three .ensures, c .before .first-of3 .ensures, c .before .before .before .before .before .first-of2 .ensures, c .before .before .before .before .before .before .before .first-of .ensures, c .before .before .before .before .before .before .before .before .fz .ensures, c .before .before .before .before .before .before .before .before .before .writes-to .ensures, c .before .before .before .before .before .before .before .before .before .before .before .before .before .before .before .before .before .before .is-ready .ensures, c .before .before .before .before .before .before .before .before .before .before .before .before .before .before .before .before .before .before .before .dop-kind .ensures, c .before .before .before .before .before .before .before .before .before .before .before .before .before .before .before .before .before .before .before .before .vop-kind .ensures)
+returns c = simp (c .first-three .ensures, c .before .first-of3 .ensures, c .before .before .before .before .before .first-of2 .ensures, c .before .before .before .before .before .before .before .first-of .ensures, c .before .before .before .before .before .before .before .before .needs_cached .ensures, c .before .before .before .before .before .before .before .before .before .writes-to .ensures, c .before .before .before .before .before .before .before .before .before .before .before .before .before .before .before .before .before .before .is-ready .ensures, c .before .before .before .before .before .before .before .before .before .before .before .before .before .before .before .before .before .before .before .dop-kind .ensures, c .before .before .before .before .before .before .before .before .before .before .before .before .before .before .before .before .before .before .before .before .vop-kind .ensures)
 
 pub evict-refusal-spec : {M : Type 1} → statement M
 evict-refusal-spec =
@@ -59,7 +59,7 @@ evict-refusal-spec =
     mul-slot
     element-copy-out-slot
     writes-to-requires
-    fz-requires
+    needs-cached-requires
     first-of-requires
     first-of-requires-2
     first-of-requires-3

@@ -14,8 +14,8 @@ answered-requires c κs = search needs
 returns : tie.Need-returns
 returns c = simp (c .answered .ensures, ne-eqb _ _ (rw (c .before .before .freeze-refusal .ensures) at (c .before .if1 .taken)), c .before .before .freeze-refusal .ensures)
 
-empty-loc-requires : tie.Need-empty-loc-requires
-empty-loc-requires c κs = search needs
+zero-loc-requires : tie.Need-zero-loc-requires
+zero-loc-requires c κs = search needs
 
 answered-requires-2 : tie.Need-answered-requires-2
 answered-requires-2 c κs = search needs
@@ -23,7 +23,7 @@ answered-requires-2 c κs = search needs
 returns-2 : tie.Need-returns-2
 returns-2 c =
     let e = sym (c .before .before .before .before .before .before .freeze-refusal .ensures) ∙ c .before .before .before .before .before .if1 .left in
-    simp (eq-eqb _ _ e, e, c .answered2 .ensures, c .before .empty-loc .ensures)
+    simp (eq-eqb _ _ e, e, c .answered2 .ensures, c .before .zero-loc .ensures)
 
 pub freeze-spec : {M : Type 1} → statement M
 freeze-spec =
@@ -32,6 +32,6 @@ freeze-spec =
     freeze-refusal-requires
     answered-requires
     returns
-    empty-loc-requires
+    zero-loc-requires
     answered-requires-2
     returns-2)

@@ -3,8 +3,8 @@ use borrow.Author.Needs.{needs}
 use Rattle.cache.proofs.work.set_node.Statement.{statement}
 use Rattle.cache.proofs.work.set_node.Tie as tie
 
-empty-loc-requires : tie.Need-empty-loc-requires
-empty-loc-requires c κs = search needs
+zero-loc-requires : tie.Need-zero-loc-requires
+zero-loc-requires c κs = search needs
 
 with-entry-requires : tie.Need-with-entry-requires
 with-entry-requires c κs = search needs
@@ -16,9 +16,9 @@ answered-requires : tie.Need-answered-requires
 answered-requires c κs = search needs
 
 returns : tie.Need-returns
-returns c = simp (c .answered .ensures, c .before .with-slot .ensures, c .before .before .before .with-entry .ensures, c .before .before .before .before .before .before .empty-loc .ensures)
+returns c = simp (c .answered .ensures, c .before .with-slot .ensures, c .before .before .before .with-entry .ensures, c .before .before .before .before .before .before .zero-loc .ensures)
 
 pub set-node-spec : {M : Type 1} → statement M
 set-node-spec =
     tie.close
-    (tie.spec empty-loc-requires with-entry-requires with-slot-requires answered-requires returns)
+    (tie.spec zero-loc-requires with-entry-requires with-slot-requires answered-requires returns)

@@ -14,14 +14,14 @@ answered-requires c κs = search needs
 returns : tie.Need-returns
 returns c = simp (c .answered .ensures, ne-eqb _ _ (rw (c .before .before .unalloc-refusal .ensures) at (c .before .if1 .taken)), c .before .before .unalloc-refusal .ensures)
 
-empty-entry-requires : tie.Need-empty-entry-requires
-empty-entry-requires c κs = search needs
+zero-entry-requires : tie.Need-zero-entry-requires
+zero-entry-requires c κs = search needs
 
 with-entry-requires : tie.Need-with-entry-requires
 with-entry-requires c κs = search needs
 
-empty-slot-requires : tie.Need-empty-slot-requires
-empty-slot-requires c κs = search needs
+zero-slot-requires : tie.Need-zero-slot-requires
+zero-slot-requires c κs = search needs
 
 with-slot-requires : tie.Need-with-slot-requires
 with-slot-requires c κs = search needs
@@ -32,7 +32,7 @@ answered-requires-2 c κs = search needs
 returns-2 : tie.Need-returns-2
 returns-2 c =
     let e = sym (c .before .before .before .before .before .before .before .before .before .unalloc-refusal .ensures) ∙ c .before .before .before .before .before .before .before .before .if1 .left in
-    simp (eq-eqb _ _ e, e, c .answered2 .ensures, c .before .with-slot .ensures, c .before .before .empty-slot .ensures, c .before .before .before .before .with-entry .ensures, c .before .before .before .before .before .empty-entry .ensures)
+    simp (eq-eqb _ _ e, e, c .answered2 .ensures, c .before .with-slot .ensures, c .before .before .zero-slot .ensures, c .before .before .before .before .with-entry .ensures, c .before .before .before .before .before .zero-entry .ensures)
 
 pub unalloc-spec : {M : Type 1} → statement M
 unalloc-spec =
@@ -41,9 +41,9 @@ unalloc-spec =
     unalloc-refusal-requires
     answered-requires
     returns
-    empty-entry-requires
+    zero-entry-requires
     with-entry-requires
-    empty-slot-requires
+    zero-slot-requires
     with-slot-requires
     answered-requires-2
     returns-2)

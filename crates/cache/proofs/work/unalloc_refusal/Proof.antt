@@ -22,8 +22,8 @@ element-copy-out-e c = search needs
 reads-of-requires : tie.Need-reads-of-requires
 reads-of-requires c κs = search needs
 
-fz-requires : tie.Need-fz-requires
-fz-requires c κs = search needs
+needs-cached-requires : tie.Need-needs-cached-requires
+needs-cached-requires c κs = search needs
 
 has-predecessor-requires : tie.Need-has-predecessor-requires
 has-predecessor-requires c κs = search needs
@@ -45,7 +45,7 @@ first-three-requires c κs = search needs
 
 returns : tie.Need-returns
 unfolding answer
-returns c = simp (c .first-three .ensures, c .before .first-of4 .ensures, c .before .before .before .first-of3 .ensures, c .before .before .before .before .first-of2 .ensures, c .before .before .before .before .before .first-of .ensures, c .before .before .before .before .before .before .has-predecessor .ensures, c .before .before .before .before .before .before .before .fz .ensures, c .before .before .before .before .before .before .before .before .reads-of .ensures, c .before .before .before .before .before .before .before .before .before .before .before .before .before .before .is-ready .ensures, c .before .before .before .before .before .before .before .before .before .before .before .before .before .before .before .dop-kind .ensures, c .before .before .before .before .before .before .before .before .before .before .before .before .before .before .before .before .vop-no-op .ensures)
+returns c = simp (c .first-three .ensures, c .before .first-of4 .ensures, c .before .before .before .first-of3 .ensures, c .before .before .before .before .first-of2 .ensures, c .before .before .before .before .before .first-of .ensures, c .before .before .before .before .before .before .has-predecessor .ensures, c .before .before .before .before .before .before .before .needs_cached .ensures, c .before .before .before .before .before .before .before .before .reads-of .ensures, c .before .before .before .before .before .before .before .before .before .before .before .before .before .before .is-ready .ensures, c .before .before .before .before .before .before .before .before .before .before .before .before .before .before .before .dop-kind .ensures, c .before .before .before .before .before .before .before .before .before .before .before .before .before .before .before .before .vop-no-op .ensures)
 
 pub unalloc-refusal-spec : {M : Type 1} → statement M
 unalloc-refusal-spec =
@@ -57,7 +57,7 @@ unalloc-refusal-spec =
     mul-e
     element-copy-out-e
     reads-of-requires
-    fz-requires
+    needs-cached-requires
     has-predecessor-requires
     first-of-requires
     first-of-requires-2

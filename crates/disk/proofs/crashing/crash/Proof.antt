@@ -25,15 +25,15 @@ returns-2 c =
     let f = rw (c .before .before .before .before .before .before .before .records-ok .ensures, c .before .before .records-kept .ensures) at (c .if2 .taken) in
     simp (e, f)
 
-no-queues-requires : tie.Need-no-queues-requires
-no-queues-requires c κs = search needs
+empty-queues-requires : tie.Need-empty-queues-requires
+empty-queues-requires c κs = search needs
 
 returns-3 : tie.Need-returns-3
 unfolding diskCrash answer
 returns-3 c =
     let e = rw (c .before .before .before .before .before .before .before .before .records-ok .ensures, c .before .before .before .before .before .before .before .before .before .disk-form .ensures) at (c .before .before .before .before .before .before .if1 .left) in
     let f = rw (c .before .before .before .before .before .before .before .before .records-ok .ensures, c .before .before .before .records-kept .ensures) at (c .before .if2 .left) in
-    simp (e, f, c .no-queues .ensures)
+    simp (e, f, c .empty-queues .ensures)
 
 pub crash-spec : {M : Type 1} → statement M
 crash-spec =
@@ -44,5 +44,5 @@ crash-spec =
     returns
     records-kept-requires
     returns-2
-    no-queues-requires
+    empty-queues-requires
     returns-3)

@@ -7,12 +7,12 @@ use Rattle.base.proofs.Scan.{all-end, all-none, all-turn}
 use Rattle.base.specs.Scan.{allBelow}
 use Rattle.disk.proofs.crashing.nodes_kept.Statement.{statement}
 use Rattle.blockdisk.specs.Crash.{keptNode, nodesKept}
-use Rattle.blockdisk.specs.Records.{noNodeRecord}
+use Rattle.blockdisk.specs.Records.{defaultNodeRecord}
 use Rattle.disklayout.proofs.Devices.{good}
 use Rattle.disk.proofs.crashing.nodes_kept.Tie as tie
 
 abbrev Inv-loop : tie.InvT-loop
-Inv-loop q old new good₀ i₀ good i = (i ≤ 128) × (good ≡ allBelow (λ k. keptNode q (getD old k noNodeRecord) (getD new k noNodeRecord)) i)
+Inv-loop q old new good₀ i₀ good i = (i ≤ 128) × (good ≡ allBelow (λ k. keptNode q (getD old k defaultNodeRecord) (getD new k defaultNodeRecord)) i)
 
 abbrev μ-loop : tie.MeasureT-loop
 μ-loop q old new good₀ i₀ good i = 128 - i

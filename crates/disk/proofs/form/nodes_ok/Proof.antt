@@ -7,11 +7,11 @@ use Rattle.base.proofs.Scan.{all-end, all-none, all-turn}
 use Rattle.base.specs.Scan.{allBelow}
 use Rattle.disk.proofs.form.nodes_ok.Statement.{statement}
 use Rattle.blockdisk.specs.Form.{nodeRecordChecked, nodesChecked}
-use Rattle.blockdisk.specs.Records.{noNodeRecord}
+use Rattle.blockdisk.specs.Records.{defaultNodeRecord}
 use Rattle.disk.proofs.form.nodes_ok.Tie as tie
 
 abbrev Inv-loop : tie.InvT-loop
-Inv-loop device nodes form₀ placed₀ i₀ form placed i = (i ≤ 128) × (form ≡ allBelow (λ k. nodeRecordChecked device k (getD nodes k noNodeRecord) .form) i) × (placed ≡ allBelow (λ k. nodeRecordChecked device k (getD nodes k noNodeRecord) .placed) i)
+Inv-loop device nodes form₀ placed₀ i₀ form placed i = (i ≤ 128) × (form ≡ allBelow (λ k. nodeRecordChecked device k (getD nodes k defaultNodeRecord) .form) i) × (placed ≡ allBelow (λ k. nodeRecordChecked device k (getD nodes k defaultNodeRecord) .placed) i)
 
 abbrev μ-loop : tie.MeasureT-loop
 μ-loop device nodes form₀ placed₀ i₀ form placed i = 128 - i

@@ -3,7 +3,7 @@ use borrow.Author.Needs.{needs}
 use Rattle.base.specs.Refusals.{answer}
 use Rattle.disk.proofs.ops.next.Statement.{statement}
 use Rattle.blockdisk.specs.Form.{diskForm}
-use Rattle.blockdisk.specs.Ops.{diskStep, obeyed}
+use Rattle.blockdisk.specs.Ops.{diskStep, callOutcome}
 use Rattle.disk.proofs.ops.next.Tie as tie
 
 records-ok-requires : tie.Need-records-ok-requires
@@ -18,13 +18,13 @@ node-form-requires c κs = search needs
 table-form-requires : tie.Need-table-form-requires
 table-form-requires c κs = search needs
 
-obey-requires : tie.Need-obey-requires
-obey-requires c κs = search needs
+dispatch-requires : tie.Need-dispatch-requires
+dispatch-requires c κs = search needs
 
 returns : tie.Need-returns
-unfolding diskForm diskStep obeyed answer
+unfolding diskForm diskStep callOutcome answer
 returns c =
-    simp (rw (c .before .before .table-form .ensures, c .before .before .before .node-form .ensures, c .before .before .before .before .before .before .queues-ok .ensures, c .before .before .before .before .before .before .before .records-ok .ensures) at (c .before .if1 .taken)) (c .obey .ensures)
+    simp (rw (c .before .before .table-form .ensures, c .before .before .before .node-form .ensures, c .before .before .before .before .before .before .queues-ok .ensures, c .before .before .before .before .before .before .before .records-ok .ensures) at (c .before .if1 .taken)) (c .dispatch .ensures)
 
 returns-2 : tie.Need-returns-2
 unfolding diskForm diskStep answer
@@ -39,6 +39,6 @@ next-spec =
     queues-ok-requires
     node-form-requires
     table-form-requires
-    obey-requires
+    dispatch-requires
     returns
     returns-2)

@@ -19,11 +19,11 @@ same-loc-requires c κs = search needs
 returns : tie.Need-returns
 returns c = node-found (c .before .before .before .before .before .before .before .before .args .device) (c .before .before .before .before .before .before .before .before .args .t2) (c .before .before .before .before .before .before .before .before .args .loc) (c .before .before .before .before .before .before .before .node-block-of .result) (c .before .before .before .before .before .before .before .node-block-of .ensures) (rw (c .before .before .before .same-loc .ensures) at (c .if1 .taken))
 
-no-node-record-requires : tie.Need-no-node-record-requires
-no-node-record-requires c κs = search needs
+zero-node-record-requires : tie.Need-zero-node-record-requires
+zero-node-record-requires c κs = search needs
 
 returns-2 : tie.Need-returns-2
-returns-2 c = rw (c .no-node-record .ensures) (node-missing (c .before .before .before .before .before .before .before .before .before .args .device) (c .before .before .before .before .before .before .before .before .before .args .t2) (c .before .before .before .before .before .before .before .before .before .args .loc) (c .before .before .before .before .before .before .before .before .node-block-of .result) (c .before .before .before .before .before .before .before .before .node-block-of .ensures) (rw (c .before .before .before .before .same-loc .ensures) at (c .before .if1 .left)))
+returns-2 c = rw (c .zero-node-record .ensures) (node-missing (c .before .before .before .before .before .before .before .before .before .args .device) (c .before .before .before .before .before .before .before .before .before .args .t2) (c .before .before .before .before .before .before .before .before .before .args .loc) (c .before .before .before .before .before .before .before .before .node-block-of .result) (c .before .before .before .before .before .before .before .before .node-block-of .ensures) (rw (c .before .before .before .before .same-loc .ensures) at (c .before .if1 .left)))
 
 pub node-at-spec : {M : Type 1} → statement M
 node-at-spec =
@@ -34,5 +34,5 @@ node-at-spec =
     element-copy-out-x
     same-loc-requires
     returns
-    no-node-record-requires
+    zero-node-record-requires
     returns-2)

@@ -19,11 +19,11 @@ same-loc-requires c κs = search needs
 returns : tie.Need-returns
 returns c = table-found (c .before .before .before .before .before .before .before .before .args .device) (c .before .before .before .before .before .before .before .before .args .t2) (c .before .before .before .before .before .before .before .before .args .loc) (c .before .before .before .before .before .before .before .table-area-of .result) (c .before .before .before .before .before .before .before .table-area-of .ensures) (rw (c .before .before .before .same-loc .ensures) at (c .if1 .taken))
 
-no-table-record-requires : tie.Need-no-table-record-requires
-no-table-record-requires c κs = search needs
+zero-table-record-requires : tie.Need-zero-table-record-requires
+zero-table-record-requires c κs = search needs
 
 returns-2 : tie.Need-returns-2
-returns-2 c = rw (c .no-table-record .ensures) (table-missing (c .before .before .before .before .before .before .before .before .before .args .device) (c .before .before .before .before .before .before .before .before .before .args .t2) (c .before .before .before .before .before .before .before .before .before .args .loc) (c .before .before .before .before .before .before .before .before .table-area-of .result) (c .before .before .before .before .before .before .before .before .table-area-of .ensures) (rw (c .before .before .before .before .same-loc .ensures) at (c .before .if1 .left)))
+returns-2 c = rw (c .zero-table-record .ensures) (table-missing (c .before .before .before .before .before .before .before .before .before .args .device) (c .before .before .before .before .before .before .before .before .before .args .t2) (c .before .before .before .before .before .before .before .before .before .args .loc) (c .before .before .before .before .before .before .before .before .table-area-of .result) (c .before .before .before .before .before .before .before .before .table-area-of .ensures) (rw (c .before .before .before .before .same-loc .ensures) at (c .before .if1 .left)))
 
 pub table-at-spec : {M : Type 1} → statement M
 table-at-spec =
@@ -34,5 +34,5 @@ table-at-spec =
     element-copy-out-x
     same-loc-requires
     returns
-    no-table-record-requires
+    zero-table-record-requires
     returns-2)

@@ -3,11 +3,11 @@ use borrow.Author.Needs.{needs}
 use Rattle.script.proofs.offer.no_block.Statement.{statement}
 use Rattle.script.proofs.offer.no_block.Tie as tie
 
-empty-node-requires : tie.Need-empty-node-requires
-empty-node-requires c κs = search needs
+zero-node-requires : tie.Need-zero-node-requires
+zero-node-requires c κs = search needs
 
 returns : tie.Need-returns
-returns c = simp (c .empty-node .ensures)
+returns c = simp (c .zero-node .ensures)
 
 pub no-block-spec : {M : Type 1} → statement M
-no-block-spec = tie.close (tie.spec empty-node-requires returns)
+no-block-spec = tie.close (tie.spec zero-node-requires returns)

@@ -7,7 +7,7 @@ use lib.ListN.{getD}
 use Rattle.base.proofs.Scan.{at-end, bit-le, count-le, count-none, count-turn}
 use Rattle.base.specs.Scan.{countBelow}
 use Rattle.sector.proofs.form.count_allocated.Statement.{statement}
-use Rattle.sectortype.specs.Form.{allocatedAt, noEntry}
+use Rattle.sectortype.specs.Form.{allocatedAt, defaultEntry}
 use Rattle.sector.proofs.form.count_allocated.Tie as tie
 
 abbrev Inv-loop : tie.InvT-loop
@@ -29,7 +29,7 @@ one-if-requires : tie.Need-one-if-requires Inv-loop μ-loop
 one-if-requires c κs = search needs
 
 add-n : tie.Need-add-n Inv-loop μ-loop
-add-n c = omega (arith, count-le (allocatedAt (c .before .before .before .before .args .t1)) (c .before .before .before .loop .i), c .before .before .before .loop .inv .1, c .one-if .ensures, bit-le (getD (c .before .before .before .before .args .t1) (c .before .before .before .loop .i) noEntry .allocated))
+add-n c = omega (arith, count-le (allocatedAt (c .before .before .before .before .args .t1)) (c .before .before .before .loop .i), c .before .before .before .loop .inv .1, c .one-if .ensures, bit-le (getD (c .before .before .before .before .args .t1) (c .before .before .before .loop .i) defaultEntry .allocated))
 
 add-i : tie.Need-add-i Inv-loop μ-loop
 add-i c = search needs

@@ -5,21 +5,21 @@ use Rattle.system.proofs.formatting.format.Statement.{statement}
 use Rattle.blocksystem.specs.Format.{formatted}
 use Rattle.system.proofs.formatting.format.Tie as tie
 
-empty-node-requires : tie.Need-empty-node-requires
-empty-node-requires c κs = search needs
+zero-node-requires : tie.Need-zero-node-requires
+zero-node-requires c κs = search needs
 
 unready-requires : tie.Need-unready-requires
 unready-requires c κs = search needs
 
-no-queues-requires : tie.Need-no-queues-requires
-no-queues-requires c κs = search needs
+empty-queues-requires : tie.Need-empty-queues-requires
+empty-queues-requires c κs = search needs
 
-no-records-requires : tie.Need-no-records-requires
-no-records-requires c κs = search needs
+empty-records-requires : tie.Need-empty-records-requires
+empty-records-requires c κs = search needs
 
 returns : tie.Need-returns
 unfolding formatted
-returns c = simp (lt-leb _ _ (c .before .if1 .taken), c .no-records .ensures, c .before .before .no-queues .ensures, c .before .before .before .unready .ensures, c .before .before .before .before .empty-node .ensures)
+returns c = simp (lt-leb _ _ (c .before .if1 .taken), c .empty-records .ensures, c .before .before .empty-queues .ensures, c .before .before .before .unready .ensures, c .before .before .before .before .zero-node .ensures)
 
 indirection-table1-addr-requires : tie.Need-indirection-table1-addr-requires
 indirection-table1-addr-requires c κs = search needs
@@ -38,16 +38,16 @@ formatted-records-requires c κs = search needs
 
 returns-2 : tie.Need-returns-2
 unfolding formatted
-returns-2 c = simp (le-leb _ _ (c .before .before .before .before .before .if1 .left), c .formatted-records .ensures, c .before .root-place2 .ensures, c .before .before .root-place .ensures, c .before .before .before .first-node-addr .ensures, c .before .before .before .before .indirection-table1-addr .ensures, c .before .before .before .before .before .before .no-queues .ensures, c .before .before .before .before .before .before .before .unready .ensures, c .before .before .before .before .before .before .before .before .empty-node .ensures)
+returns-2 c = simp (le-leb _ _ (c .before .before .before .before .before .if1 .left), c .formatted-records .ensures, c .before .root-place2 .ensures, c .before .before .root-place .ensures, c .before .before .before .first-node-addr .ensures, c .before .before .before .before .indirection-table1-addr .ensures, c .before .before .before .before .before .before .empty-queues .ensures, c .before .before .before .before .before .before .before .unready .ensures, c .before .before .before .before .before .before .before .before .zero-node .ensures)
 
 pub format-spec : {M : Type 1} → statement M
 format-spec =
     tie.close
     (tie.spec
-    empty-node-requires
+    zero-node-requires
     unready-requires
-    no-queues-requires
-    no-records-requires
+    empty-queues-requires
+    empty-records-requires
     returns
     indirection-table1-addr-requires
     first-node-addr-requires

@@ -10,8 +10,8 @@ root-table-requires c κs = search needs
 root-node-requires : tie.Need-root-node-requires
 root-node-requires c κs = search needs
 
-no-records-requires : tie.Need-no-records-requires
-no-records-requires c κs = search needs
+empty-records-requires : tie.Need-empty-records-requires
+empty-records-requires c κs = search needs
 
 array-set-from-tables : tie.Need-array-set-from-tables
 array-set-from-tables c = search needs
@@ -21,7 +21,7 @@ array-set-from-nodes c = search needs
 
 returns : tie.Need-returns
 unfolding formattedRecords
-returns c = simp (c .before .before .no-records .ensures, c .before .before .before .root-node .ensures, c .before .before .before .before .root-table .ensures)
+returns c = simp (c .before .before .empty-records .ensures, c .before .before .before .root-node .ensures, c .before .before .before .before .root-table .ensures)
 
 pub formatted-records-spec : {M : Type 1} → statement M
 formatted-records-spec =
@@ -29,7 +29,7 @@ formatted-records-spec =
     (tie.spec
     root-table-requires
     root-node-requires
-    no-records-requires
+    empty-records-requires
     array-set-from-tables
     array-set-from-nodes
     returns)

@@ -7,16 +7,16 @@ use Rattle.system.proofs.formatting.root_table.Tie as tie
 empty-table-requires : tie.Need-empty-table-requires
 empty-table-requires c κs = search needs
 
-empty-entry-requires : tie.Need-empty-entry-requires
-empty-entry-requires c κs = search needs
+zero-entry-requires : tie.Need-zero-entry-requires
+zero-entry-requires c κs = search needs
 
 with-entry-requires : tie.Need-with-entry-requires
 with-entry-requires c κs = search needs
 
 returns : tie.Need-returns
 unfolding rootTable
-returns c = simp (c .with-entry .ensures, c .before .empty-entry .ensures, c .before .before .empty-table .ensures)
+returns c = simp (c .with-entry .ensures, c .before .zero-entry .ensures, c .before .before .empty-table .ensures)
 
 pub root-table-spec : {M : Type 1} → statement M
 root-table-spec =
-    tie.close (tie.spec empty-table-requires empty-entry-requires with-entry-requires returns)
+    tie.close (tie.spec empty-table-requires zero-entry-requires with-entry-requires returns)

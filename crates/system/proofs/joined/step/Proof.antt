@@ -29,8 +29,8 @@ lower-requires c κs = search needs
 lower-requires-2 : tie.Need-lower-requires-2
 lower-requires-2 c κs = search needs
 
-empty-node-requires : tie.Need-empty-node-requires
-empty-node-requires c κs = search needs
+zero-node-requires : tie.Need-zero-node-requires
+zero-node-requires c κs = search needs
 
 returns : tie.Need-returns
 unfolding answer diskAsked joined joinedAnswer
@@ -42,7 +42,7 @@ returns c =
     let n : c .before .before .before .before .if2 .n20 ≡ answer (startRows (a .device) (a .number) (a .q) (a .s)) =
     ⊎-elim (λ w. w .2 ∙ simp (w .0 .taken) (w .1 .ensures)) (λ w. w .1 ∙ simp (ne-eqb _ _ (w .0 .left))) (c .before .before .before .before .if2 .came) in
     let e = simp (c .before .before .lower2 .ensures, c .before .before .before .lower .ensures, n, b, c .before .before .before .before .before .before .step .ensures) at (c .before .if3 .taken) in
-    simp (c .empty-node .ensures, c .before .before .lower2 .ensures, c .before .before .before .lower .ensures, n, b, c .before .before .before .before .before .before .step .ensures, ne-eqb _ _ e)
+    simp (c .zero-node .ensures, c .before .before .lower2 .ensures, c .before .before .before .lower .ensures, n, b, c .before .before .before .before .before .before .step .ensures, ne-eqb _ _ e)
 
 returns-2 : tie.Need-returns-2
 unfolding answer diskAsked joined joinedAnswer
@@ -67,6 +67,6 @@ step-spec =
     ask-start-requires
     lower-requires
     lower-requires-2
-    empty-node-requires
+    zero-node-requires
     returns
     returns-2)

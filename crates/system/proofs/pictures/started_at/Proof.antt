@@ -9,12 +9,12 @@ picture-of-requires c κs = search needs
 naming-place-requires : tie.Need-naming-place-requires
 naming-place-requires c κs = search needs
 
-no-name-requires : tie.Need-no-name-requires
-no-name-requires c κs = search needs
+zero-named-requires : tie.Need-zero-named-requires
+zero-named-requires c κs = search needs
 
 returns : tie.Need-returns
-returns c = simp (c .no-name .ensures, c .before .naming-place .ensures, c .before .before .picture-of .ensures)
+returns c = simp (c .zero-named .ensures, c .before .naming-place .ensures, c .before .before .picture-of .ensures)
 
 pub started-at-spec : {M : Type 1} → statement M
 started-at-spec =
-    tie.close (tie.spec picture-of-requires naming-place-requires no-name-requires returns)
+    tie.close (tie.spec picture-of-requires naming-place-requires zero-named-requires returns)

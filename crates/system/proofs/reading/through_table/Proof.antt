@@ -9,12 +9,12 @@ node-at-requires c κs = search needs
 returns : tie.Need-returns
 returns c = simp (c .before .if1 .taken) (c .node-at .ensures)
 
-no-node-record-requires : tie.Need-no-node-record-requires
-no-node-record-requires c κs = search needs
+zero-node-record-requires : tie.Need-zero-node-record-requires
+zero-node-record-requires c κs = search needs
 
 returns-2 : tie.Need-returns-2
-returns-2 c = simp (c .before .if1 .left) (c .no-node-record .ensures)
+returns-2 c = simp (c .before .if1 .left) (c .zero-node-record .ensures)
 
 pub through-table-spec : {M : Type 1} → statement M
 through-table-spec =
-    tie.close (tie.spec node-at-requires returns no-node-record-requires returns-2)
+    tie.close (tie.spec node-at-requires returns zero-node-record-requires returns-2)

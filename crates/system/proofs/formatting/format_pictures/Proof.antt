@@ -1,0 +1,35 @@
+-- By what the callees ensure. Assumes nothing.
+use borrow.Author.Needs.{needs}
+use Rattle.system.proofs.formatting.format_pictures.Statement.{statement}
+use Rattle.blocksystem.specs.Names.{firstPictures}
+use Rattle.system.proofs.formatting.format_pictures.Tie as tie
+
+indirection-table1-addr-requires : tie.Need-indirection-table1-addr-requires
+indirection-table1-addr-requires c κs = search needs
+
+root-place-requires : tie.Need-root-place-requires
+root-place-requires c κs = search needs
+
+with-root-requires : tie.Need-with-root-requires
+with-root-requires c κs = search needs
+
+zero-named-requires : tie.Need-zero-named-requires
+zero-named-requires c κs = search needs
+
+empty-nodes-requires : tie.Need-empty-nodes-requires
+empty-nodes-requires c κs = search needs
+
+returns : tie.Need-returns
+unfolding firstPictures
+returns c = simp (c .empty-nodes .ensures, c .before .zero-named .ensures, c .before .before .with-root .ensures, c .before .before .before .root-place .ensures, c .before .before .before .before .indirection-table1-addr .ensures)
+
+pub format-pictures-spec : {M : Type 1} → statement M
+format-pictures-spec =
+    tie.close
+    (tie.spec
+    indirection-table1-addr-requires
+    root-place-requires
+    with-root-requires
+    zero-named-requires
+    empty-nodes-requires
+    returns)
