@@ -39,9 +39,9 @@ entry-reference q id form =
     let m : length (q .at) ≤ findOf q id = omega arith in
     rw (List·getD-eq-default (q .at) zeroRequest m) (omega arith))
 
-pub read-reference : (d : ℕ) (c : CacheState) (r : ℕ) (q : Call) → cacheForm c ≡ true → readRef d c r q < 64
+pub read-reference : (d : ℕ) (c : CacheState) (q : Call) → cacheForm c ≡ true → readRef d c q < 64
 unfolding cacheForm
-read-reference d c r q e =
+read-reference d c q e =
     let h = simp and-iff at e in
     entry-reference (c .outstanding .reads) (dopId (q .dop)) (h .0 .0 .1 .1)
 

@@ -10,9 +10,9 @@ use Rattle.base.proofs.Tests.{and-both, and-false-iff, and-iff, and-left, bool-
 use Rattle.base.specs.Maps.{flagged, isSome}
 use Rattle.base.specs.Scan.{allBelow, someBelow}
 use Rattle.blockcache.proofs.Waiting.{write-holds-iff}
+use Rattle.blockcache.specs.Abstract.{writesMap}
 use Rattle.blockcache.specs.Next.{assigned}
-use Rattle.blockcache.specs.Scan.{NoLocation, heldIn, listNames, hasPredecessor, namesAt, needsCached, nodeRejected, tableRejected}
-use Rattle.blockcache.specs.Steps.{writesMap}
+use Rattle.blockcache.specs.Scan.{NoLocation, hasPredecessor, heldIn, listNames, namesAt, needsCached, nodeRejected, tableRejected}
 use Rattle.blockcache.specs.Upstream.{AllLocationsForDifferentRefsDontOverlap, FrozenLocated, In, LocsValid, NoAddr, NoPredecessors, OutstandingWrite, SameSuccs, WFCompleteIndirectionTable, WFIndirectionTable, assignRefToLocation}
 use Rattle.blockcache.specs.declared.Tables.{Tables}
 use Rattle.blockdisk.specs.Ops.{somethingIn}

@@ -1,152 +1,116 @@
 -- Demand 2 for the cache: a call is accepted exactly where upstream's NextStep allows some next state and no narrowing of document 01 refuses it,
 -- and then the state handed back is one that upstream allows. For any device, cache, step number and call. Assumes nothing.
 use Prim.Native.Nat.{ℕ}
-use mathlib.Core.Bool.{Bool, _&&_, _||_, false, not, or-false, true, true≢false}
-use mathlib.Core.List.{List}
+use mathlib.Core.Bool.{_||_, false, true}
 use mathlib.Core.Logic.{_↔_}
-use mathlib.Core.Option.{Option, some}
+use mathlib.Core.Option.{some}
 use mathlib.Core.Path.{_∙_, _≡_, refl, subst, sym}
 use borrow.Author.Tests.{eq-eqb}
-use lib.Dec.{eqb, leb}
-use Rattle.base.proofs.Refusals.{Clear, accepted-iff}
-use Rattle.base.proofs.Tests.{never, not-iff, or-iff, or-left}
-use Rattle.base.specs.Refusals.{Row, answer}
-use Rattle.blockcache.proofs.Forms.{WellFormed, well-formed-iff}
-use Rattle.blockcache.proofs.GraphSteps.{complete11, complete15, complete16, complete17, complete5, read-sound, sound11, sound15, sound16, sound17, sound5}
-use Rattle.blockcache.proofs.Numbers.{by-number, rows-accepted-iff}
-use Rattle.blockcache.proofs.OtherSteps.{complete12, complete13, complete14, complete18, sound12, sound13, sound14, sound18}
-use Rattle.blockcache.proofs.ReadSteps.{complete10, complete6, complete7, complete8, complete9, sound10, sound6, sound7, sound8, sound9}
-use Rattle.blockcache.proofs.WriteSteps.{complete1, complete2, complete3, complete4, sound1, sound2, sound3, sound4}
-use Rattle.blockcache.specs.Form.{emptyCache, isReady}
-use Rattle.blockcache.specs.Narrowings.{narrowed, narrowedRead, narrowedWrite, outsideLimits}
-use Rattle.blockcache.specs.Next.{next1, next10, next11, next12, next13, next15, next2, next3, next4, next5, next6, next7, next8, next9}
-use Rattle.blockcache.specs.Rows.{rows1, rows10, rows11, rows12, rows13, rows14, rows15, rows16, rows17, rows18, rows2, rows3, rows4, rows5, rows6, rows7, rows8, rows9}
-use Rattle.blockcache.specs.Step.{cacheRows, stepNext, stepNode, stepRows, wellFormed}
-use Rattle.blockcache.specs.Steps.{Allowed, NextStep, Step, allocStep, cacheVars, callOp, cleanUpStep, crashStep, dirtyStep, evictStep, freezeStep, noOpStep, pageInIndirectionTableReqStep, pageInIndirectionTableRespStep, pageInNodeReqStep, pageInNodeRespStep, readStep, readyVars, receiveLocStep, stepOf, unallocStep, writeBackIndirectionTableReqStep, writeBackIndirectionTableRespStep, writeBackNodeReqStep, writeBackNodeRespStep}
+use lib.Dec.{eqb}
+use Rattle.blockcache.specs.Abstract.{Allowed, cacheVars, callOp, readyVars}
+use Rattle.blockcache.specs.Form.{isReady}
+use Rattle.blockcache.specs.Narrowings.{narrowed, narrowedOf, stepNarrowed}
+use Rattle.blockcache.specs.Next.{stepNext}
+use Rattle.blockcache.specs.NextStep.{NextStep}
+use Rattle.blockcache.specs.Rows.{ownRows, stepRows, takes}
+use Rattle.blockcache.specs.Step.{cacheNext, cacheRows, cacheStep, nodeOf, outsideLimits}
+use Rattle.blockcache.specs.Steps.{Step, allocStep, cleanUpStep, crashStep, dirtyStep, evictStep, freezeStep, isRead, noOpStep, pageInIndirectionTableReqStep, pageInIndirectionTableRespStep, pageInNodeReqStep, pageInNodeRespStep, readStep, receiveLocStep, stepOf, steps, unallocStep, writeBackIndirectionTableReqStep, writeBackIndirectionTableRespStep, writeBackNodeReqStep, writeBackNodeRespStep}
 use Rattle.blockcache.specs.Upstream.{ReadStep, Variables, unready}
+use Rattle.base.proofs.Refusals.{Clear}
+use Rattle.base.proofs.Tests.{or-iff}
+use Rattle.base.specs.Refusals.{answer}
+use Rattle.blockcache.proofs.Bounds.{cond-same}
+use Rattle.blockcache.proofs.Forms.{WellFormed, well-formed-iff}
+use Rattle.blockcache.proofs.Frames.{Exact, Next, frame, gate-iff}
+use Rattle.blockcache.proofs.GraphSteps.{alloc-exact, dirty-exact, evict-exact, read-cached, read-exact, unalloc-exact}
+use Rattle.blockcache.proofs.Numbers.{Accepted, call-accepted-iff, limits-iff}
+use Rattle.blockcache.proofs.OtherSteps.{clean-up-exact, crash-exact, freeze-exact, no-op-exact}
+use Rattle.blockcache.proofs.ReadSteps.{page-in-node-req-exact, page-in-node-resp-exact, page-in-table-req-exact, page-in-table-resp-exact, receive-loc-exact}
+use Rattle.blockcache.proofs.WriteSteps.{write-back-node-req-exact, write-back-node-resp-exact, write-back-table-req-exact, write-back-table-resp-exact}
 use Rattle.blockcache.specs.declared.CacheState.{CacheState}
 use Rattle.blockcache.specs.declared.Call.{Call}
+use Rattle.sectortype.specs.Form.{zeroNode}
 
-module _ (d : ℕ) (c : CacheState) (q : Call) where
-  abbrev Next : Step → Variables → Type 0
-  Next step s' = NextStep d (cacheVars c) s' (callOp q) (q .vop) step
+module _ (d : ℕ) (c : CacheState) (q : Call) (w : WellFormed d c q) where
+  exact : (step : Step) → Exact d c q step
+  exact writeBackNodeReqStep = write-back-node-req-exact d c q w
+  exact writeBackNodeRespStep = write-back-node-resp-exact d c q w
+  exact writeBackIndirectionTableReqStep = write-back-table-req-exact d c q w
+  exact writeBackIndirectionTableRespStep = write-back-table-resp-exact d c q w
+  exact unallocStep = unalloc-exact d c q w
+  exact pageInNodeReqStep = page-in-node-req-exact d c q w
+  exact pageInNodeRespStep = page-in-node-resp-exact d c q w
+  exact pageInIndirectionTableReqStep = page-in-table-req-exact d c q w
+  exact pageInIndirectionTableRespStep = page-in-table-resp-exact d c q w
+  exact receiveLocStep = receive-loc-exact d c q w
+  exact evictStep = evict-exact d c q w
+  exact freezeStep = freeze-exact d c q w
+  exact cleanUpStep = clean-up-exact d c q w
+  exact noOpStep = no-op-exact d c q w
+  exact dirtyStep = dirty-exact d c q w
+  exact allocStep = alloc-exact d c q w
+  exact readStep = read-exact d c q w
+  exact crashStep = crash-exact d c q w
 
-  -- the step of the number is this one
-  abbrev Some : Option Step → Type 0
-  Some o = (step : Step) × (o ≡ some step) × ((s' : Variables) × Next step s')
+  -- the rows of a step are clear exactly where upstream allows it and no narrowing of it applies
+  step-accepted : (step : Step) → Clear (stepRows d c q step) ↔ ((stepNarrowed c q step ≡ false) × ((s' : Variables) × Next d c q step s'))
+  step-accepted step =
+      let x = exact step in
+      let g = gate-iff (takes (c .phase) (q .vop) (q .dop) step) (ownRows d c q step) in
+      let after = cacheVars (stepNext c q step) in (
+        (λ k. let h = g .0 k in (x .free (h .1), (after, frame d c q after step .1 (h .0, x .sound (h .0) (h .1))))),
+        (λ (n, (s', nx)). let o = frame d c q s' step .0 nx in g .1 (o .0, x .complete s' n (o .1))),
+      )
 
-  of-step : (step : Step) → Some (some step) → (s' : Variables) × Next step s'
-  of-step step (st, e, (s', nx)) = let z : step ≡ st = cc in (s', subst (λ x. Next x s') (sym z) nx)
-
-  -- rows that are clear exactly where upstream allows the step and its narrowing doesn't refuse
-  join : (step : Step) (rows : List Row) (s : Variables) (narrow : Bool) → (Clear rows → narrow ≡ false) → (Clear rows → Next step s) → ((s' : Variables) → narrow ≡ false → Next step s' → Clear rows) →
-      Clear rows ↔ ((narrow ≡ false) × Some (some step))
-  join step rows s narrow free sound complete =
-      ((λ k. (free k, (step, refl, (s, sound k)))), (λ (n, a). let x = of-step step a in complete (x .0) n (x .1)))
-
-  -- the narrowings of a call in its form: of steps 1 and 6 alone
-  narrowed-write : wellFormed d c q ≡ true → narrowed d c 1 q ≡ narrowedWrite c q
-  unfolding narrowed
-  narrowed-write w = rw w (or-false (narrowedWrite c q))
-
-  narrowed-read : wellFormed d c q ≡ true → narrowed d c 6 q ≡ narrowedRead c q
-  unfolding narrowed
-  narrowed-read w = rw w
-
-  module _ (w : wellFormed d c q ≡ true) where
-    abbrev f : WellFormed d c q
-    f = well-formed-iff d c q .0 w
-
-    clear-write : Clear (rows1 d c (q .reference) q) → narrowed d c 1 q ≡ false
-    clear-write k = let h = simp or-iff at k in narrowed-write w ∙ or-iff _ _ .1 (or-iff _ _ .1 (h .1 .1 .1 .0, h .1 .1 .1 .1 .0 .1), h .1 .1 .1 .1 .1 .1 .1 .1 .1 .0)
-
-    clear-read : Clear (rows6 d c (q .reference) q) → narrowed d c 6 q ≡ false
-    clear-read k = narrowed-read w ∙ or-iff _ _ .1 (k .1 .1 .1 .0, k .1 .1 .1 .1 .1 .1 .1 .0)
-
-    pub step-accepted : (n : ℕ) → Clear (stepRows d c n (q .reference) q) ↔ ((narrowed d c n q ≡ false) × Allowed d c n q)
-    unfolding stepRows stepOf narrowed
-    step-accepted n =
-        by-number (λ n. Clear (stepRows d c n (q .reference) q) ↔ ((narrowed d c n q ≡ false) × Some (stepOf n (q .reference) (q .node))))
-        (join (writeBackNodeReqStep (q .reference)) (rows1 d c (q .reference) q) (cacheVars (next1 c (q .reference) q)) (narrowed d c 1 q) clear-write (sound1 d c (q .reference) q (f .on) (f .form) (f .call) (f .call .reference)) (λ s' n. complete1 d c (q .reference) q (f .on) (f .form) (f .call) (f .call .reference) s' (sym (narrowed-write w) ∙ n)))
-        (join writeBackNodeRespStep (rows2 d c (q .reference) q) (cacheVars (next2 c (q .reference) q)) (narrowed d c 2 q) (λ k. rw w) (sound2 d c (q .reference) q (f .on) (f .form) (f .call) (f .call .reference)) (λ s' n. complete2 d c (q .reference) q (f .on) (f .form) (f .call) (f .call .reference) s'))
-        (join writeBackIndirectionTableReqStep (rows3 d c (q .reference) q) (cacheVars (next3 c (q .reference) q)) (narrowed d c 3 q) (λ k. rw w) (sound3 d c (q .reference) q (f .on) (f .form) (f .call) (f .call .reference)) (λ s' n. complete3 d c (q .reference) q (f .on) (f .form) (f .call) (f .call .reference) s'))
-        (join writeBackIndirectionTableRespStep (rows4 d c (q .reference) q) (cacheVars (next4 c (q .reference) q)) (narrowed d c 4 q) (λ k. rw w) (sound4 d c (q .reference) q (f .on) (f .form) (f .call) (f .call .reference)) (λ s' n. complete4 d c (q .reference) q (f .on) (f .form) (f .call) (f .call .reference) s'))
-        (join (unallocStep (q .reference)) (rows5 d c (q .reference) q) (cacheVars (next5 c (q .reference) q)) (narrowed d c 5 q) (λ k. rw w) (sound5 d c (q .reference) q (f .on) (f .form) (f .call) (f .call .reference)) (λ s' n. complete5 d c (q .reference) q (f .on) (f .form) (f .call) (f .call .reference) s'))
-        (join (pageInNodeReqStep (q .reference)) (rows6 d c (q .reference) q) (cacheVars (next6 c (q .reference) q)) (narrowed d c 6 q) clear-read (sound6 d c (q .reference) q (f .on) (f .form) (f .call) (f .call .reference)) (λ s' n. complete6 d c (q .reference) q (f .on) (f .form) (f .call) (f .call .reference) s' (sym (narrowed-read w) ∙ n)))
-        (join pageInNodeRespStep (rows7 d c (q .reference) q) (cacheVars (next7 c (q .reference) q)) (narrowed d c 7 q) (λ k. rw w) (sound7 d c (q .reference) q (f .on) (f .form) (f .call) (f .call .reference)) (λ s' n. complete7 d c (q .reference) q (f .on) (f .form) (f .call) (f .call .reference) s'))
-        (join pageInIndirectionTableReqStep (rows8 d c (q .reference) q) (cacheVars (next8 c (q .reference) q)) (narrowed d c 8 q) (λ k. rw w) (sound8 d c (q .reference) q (f .on) (f .form) (f .call) (f .call .reference)) (λ s' n. complete8 d c (q .reference) q (f .on) (f .form) (f .call) (f .call .reference) s'))
-        (join pageInIndirectionTableRespStep (rows9 d c (q .reference) q) (cacheVars (next9 c (q .reference) q)) (narrowed d c 9 q) (λ k. rw w) (sound9 d c (q .reference) q (f .on) (f .form) (f .call) (f .call .reference)) (λ s' n. complete9 d c (q .reference) q (f .on) (f .form) (f .call) (f .call .reference) s'))
-        (join receiveLocStep (rows10 d c (q .reference) q) (cacheVars (next10 c (q .reference) q)) (narrowed d c 10 q) (λ k. rw w) (sound10 d c (q .reference) q (f .on) (f .form) (f .call) (f .call .reference)) (λ s' n. complete10 d c (q .reference) q (f .on) (f .form) (f .call) (f .call .reference) s'))
-        (join (evictStep (q .reference)) (rows11 d c (q .reference) q) (cacheVars (next11 c (q .reference) q)) (narrowed d c 11 q) (λ k. rw w) (sound11 d c (q .reference) q (f .on) (f .form) (f .call) (f .call .reference)) (λ s' n. complete11 d c (q .reference) q (f .on) (f .form) (f .call) (f .call .reference) s'))
-        (join freezeStep (rows12 d c (q .reference) q) (cacheVars (next12 c (q .reference) q)) (narrowed d c 12 q) (λ k. rw w) (sound12 d c (q .reference) q (f .on) (f .form) (f .call) (f .call .reference)) (λ s' n. complete12 d c (q .reference) q (f .on) (f .form) (f .call) (f .call .reference) s'))
-        (join cleanUpStep (rows13 d c (q .reference) q) (cacheVars (next13 c (q .reference) q)) (narrowed d c 13 q) (λ k. rw w) (sound13 d c (q .reference) q (f .on) (f .form) (f .call) (f .call .reference)) (λ s' n. complete13 d c (q .reference) q (f .on) (f .form) (f .call) (f .call .reference) s'))
-        (join noOpStep (rows14 d c (q .reference) q) (cacheVars c) (narrowed d c 14 q) (λ k. rw w) (sound14 d c (q .reference) q (f .on) (f .form) (f .call) (f .call .reference)) (λ s' n. complete14 d c (q .reference) q (f .on) (f .form) (f .call) (f .call .reference) s'))
-        (join (dirtyStep (q .reference) (q .node)) (rows15 d c (q .reference) q) (cacheVars (next15 c (q .reference) q)) (narrowed d c 15 q) (λ k. rw w) (sound15 d c (q .reference) q (f .on) (f .form) (f .call) (f .call .reference)) (λ s' n. complete15 d c (q .reference) q (f .on) (f .form) (f .call) (f .call .reference) s'))
-        (join (allocStep (q .reference) (q .node)) (rows16 d c (q .reference) q) (cacheVars (next15 c (q .reference) q)) (narrowed d c 16 q) (λ k. rw w) (sound16 d c (q .reference) q (f .on) (f .form) (f .call) (f .call .reference)) (λ s' n. complete16 d c (q .reference) q (f .on) (f .form) (f .call) (f .call .reference) s'))
-        (join (readStep (q .reference)) (rows17 d c (q .reference) q) (cacheVars c) (narrowed d c 17 q) (λ k. rw w) (sound17 d c (q .reference) q (f .on) (f .form) (f .call) (f .call .reference)) (λ s' n. complete17 d c (q .reference) q (f .on) (f .form) (f .call) (f .call .reference) s'))
-        (join crashStep (rows18 d c (q .reference) q) (cacheVars emptyCache) (narrowed d c 18 q) (λ k. rw w) (sound18 d c (q .reference) q (f .on) (f .form) (f .call) (f .call .reference)) (λ s' n. complete18 d c (q .reference) q (f .on) (f .form) (f .call) (f .call .reference) s'))
-        (λ n f1 f2 f3 f4 f5 f6 f7 f8 f9 f10 f11 f12 f13 f14 f15 f16 f17 f18. rw (f1, f2, f3, f4, f5, f6, f7, f8, f9, f10, f11, f12, f13, f14, f15, f16, f17, f18) ((λ k. absurd (true≢false (k .0))), (λ (x, (st, e, y)). never e)))
-        n
-
-    -- the next state is one that upstream allows
-    pub step-allowed : (n : ℕ) → Clear (stepRows d c n (q .reference) q) → (step : Step) × (stepOf n (q .reference) (q .node) ≡ some step) × Next step (cacheVars (stepNext d c n (q .reference) q))
-    unfolding stepRows stepOf stepNext
-    step-allowed n =
-        by-number (λ n. Clear (stepRows d c n (q .reference) q) → (step : Step) × (stepOf n (q .reference) (q .node) ≡ some step) × Next step (cacheVars (stepNext d c n (q .reference) q)))
-        (λ k. ((writeBackNodeReqStep (q .reference)), refl, sound1 d c (q .reference) q (f .on) (f .form) (f .call) (f .call .reference) k))
-        (λ k. (writeBackNodeRespStep, refl, sound2 d c (q .reference) q (f .on) (f .form) (f .call) (f .call .reference) k))
-        (λ k. (writeBackIndirectionTableReqStep, refl, sound3 d c (q .reference) q (f .on) (f .form) (f .call) (f .call .reference) k))
-        (λ k. (writeBackIndirectionTableRespStep, refl, sound4 d c (q .reference) q (f .on) (f .form) (f .call) (f .call .reference) k))
-        (λ k. ((unallocStep (q .reference)), refl, sound5 d c (q .reference) q (f .on) (f .form) (f .call) (f .call .reference) k))
-        (λ k. ((pageInNodeReqStep (q .reference)), refl, sound6 d c (q .reference) q (f .on) (f .form) (f .call) (f .call .reference) k))
-        (λ k. (pageInNodeRespStep, refl, sound7 d c (q .reference) q (f .on) (f .form) (f .call) (f .call .reference) k))
-        (λ k. (pageInIndirectionTableReqStep, refl, sound8 d c (q .reference) q (f .on) (f .form) (f .call) (f .call .reference) k))
-        (λ k. (pageInIndirectionTableRespStep, refl, sound9 d c (q .reference) q (f .on) (f .form) (f .call) (f .call .reference) k))
-        (λ k. (receiveLocStep, refl, sound10 d c (q .reference) q (f .on) (f .form) (f .call) (f .call .reference) k))
-        (λ k. ((evictStep (q .reference)), refl, sound11 d c (q .reference) q (f .on) (f .form) (f .call) (f .call .reference) k))
-        (λ k. (freezeStep, refl, sound12 d c (q .reference) q (f .on) (f .form) (f .call) (f .call .reference) k))
-        (λ k. (cleanUpStep, refl, sound13 d c (q .reference) q (f .on) (f .form) (f .call) (f .call .reference) k))
-        (λ k. (noOpStep, refl, sound14 d c (q .reference) q (f .on) (f .form) (f .call) (f .call .reference) k))
-        (λ k. ((dirtyStep (q .reference) (q .node)), refl, sound15 d c (q .reference) q (f .on) (f .form) (f .call) (f .call .reference) k))
-        (λ k. ((allocStep (q .reference) (q .node)), refl, sound16 d c (q .reference) q (f .on) (f .form) (f .call) (f .call .reference) k))
-        (λ k. ((readStep (q .reference)), refl, sound17 d c (q .reference) q (f .on) (f .form) (f .call) (f .call .reference) k))
-        (λ k. (crashStep, refl, sound18 d c (q .reference) q (f .on) (f .form) (f .call) (f .call .reference) k))
-        (λ n f1 f2 f3 f4 f5 f6 f7 f8 f9 f10 f11 f12 f13 f14 f15 f16 f17 f18. rw (f1, f2, f3, f4, f5, f6, f7, f8, f9, f10, f11, f12, f13, f14, f15, f16, f17, f18) (λ k. absurd (true≢false (k .0))))
-        n
-
--- no narrowing: the limits are kept
-limits-of : (d : ℕ) (c : CacheState) (n : ℕ) (q : Call) → narrowed d c n q ≡ false → outsideLimits d c n q ≡ false
-unfolding narrowed
-limits-of d c n q e =
-    or-left (outsideLimits d c n q) (eqb n 1 && narrowedWrite c q) (or-left (outsideLimits d c n q || (eqb n 1 && narrowedWrite c q)) (eqb n 6 && narrowedRead c q) e)
+  -- the next state is one that upstream allows
+  step-allowed : (step : Step) → Clear (stepRows d c q step) → Next d c q step (cacheVars (stepNext c q step))
+  step-allowed step k =
+      let h = gate-iff (takes (c .phase) (q .vop) (q .dop) step) (ownRows d c q step) .0 k in
+      frame d c q (cacheVars (stepNext c q step)) step .1 (h .0, exact step .sound (h .0) (h .1))
 
 -- THE THEOREMS
 
 pub cache-accepted : (d : ℕ) (c : CacheState) (n : ℕ) (q : Call) → (answer (cacheRows d c n q) ≡ 0) ↔ ((narrowed d c n q ≡ false) × Allowed d c n q)
+unfolding narrowed
 cache-accepted d c n q = (
-  (λ e. let h = rows-accepted-iff d c n q .0 e in step-accepted d c q (h .0) n .0 (h .1)),
-  (λ h. let w = in-form (h .0) in rows-accepted-iff d c n q .1 (w, step-accepted d c q w n .1 h)),
+  (λ e. let x = call-accepted-iff d c n q .0 e in
+      let h = step-accepted d c q (x .form) (x .step) .0 (x .clear) in
+      let within = limits-iff d c n q .1 (well-formed-iff d c q .1 (x .form), (x .step, x .is)) in
+      (or-iff (outsideLimits d c n q) (narrowedOf c q (stepOf n)) .1 (within, rw (x .is) (h .0)), (x .step, x .is, h .1))),
+  (λ (m, (step, e, a)).
+      let h = or-iff (outsideLimits d c n q) (narrowedOf c q (stepOf n)) .0 m in
+      let w = well-formed-iff d c q .0 (limits-iff d c n q .0 (h .0) .0) in
+      call-accepted-iff d c n q .1 (record { form = w; step = step; is = e; clear = step-accepted d c q w step .1 (rw e at (h .1), a) })),
 )
-  where
-    in-form : narrowed d c n q ≡ false → wellFormed d c q ≡ true
-    in-form e = not-iff (wellFormed d c q) .0 (or-left (not (wellFormed d c q)) (not (leb 1 n && leb n 18)) (limits-of d c n q e))
 
 pub cache-allowed : (d : ℕ) (c : CacheState) (n : ℕ) (q : Call) → answer (cacheRows d c n q) ≡ 0 →
-    (step : Step) × (stepOf n (q .reference) (q .node) ≡ some step) × NextStep d (cacheVars c) (cacheVars (stepNext d c n (q .reference) q)) (callOp q) (q .vop) step
-cache-allowed d c n q e = let h = rows-accepted-iff d c n q .0 e in step-allowed d c q (h .0) n (h .1)
+    (step : Step) × (stepOf n ≡ some step) × NextStep d (cacheVars c) (cacheVars (cacheNext c n q)) (callOp q) (q .vop) (q .reference) (q .node) step
+cache-allowed d c n q e =
+    let x = call-accepted-iff d c n q .0 e in (x .step, x .is, rw (x .is) (step-allowed d c q (x .form) (x .step) (x .clear)))
 
--- a read leaves the cache as it is and hands out the node that ReadStep names
+-- an accepted read leaves the cache as it is, and ReadStep names the cached node
 pub cache-read : (d : ℕ) (c : CacheState) (q : Call) → answer (cacheRows d c 17 q) ≡ 0 →
-    (isReady c ≡ true) × (stepNext d c 17 (q .reference) q ≡ c) × ReadStep (readyVars c) (q .reference) (stepNode d c 17 (q .reference) q)
-unfolding stepRows stepNext
+    (isReady c ≡ true) × (cacheNext c 17 q ≡ c) × ReadStep (readyVars c) (q .reference) (nodeOf c 17 q)
+unfolding stepOf steps
 cache-read d c q e =
-    let h = rows-accepted-iff d c 17 q .0 e in
-    let f = well-formed-iff d c q .0 (h .0) in
-    let s = read-sound d c (q .reference) q (f .on) (f .form) (f .call) (f .call .reference) (h .1) in
-    let z : eqb (answer (rows17 d c (q .reference) q)) 0 ≡ true = eq-eqb _ _ (accepted-iff (rows17 d c (q .reference) q) refl .1 (h .1)) in
-    (s .0, refl, rw z (s .1))
+    let x = call-accepted-iff d c 17 q .0 e in
+    let is : some readStep ≡ some (x .step) = x .is in
+    let same : readStep ≡ x .step = cc in
+    let k : Clear (stepRows d c q readStep) = subst (λ s. Clear (stepRows d c q s)) (sym same) (x .clear) in
+    let h = gate-iff (takes (c .phase) (q .vop) (q .dop) readStep) (ownRows d c q readStep) .0 k in
+    (h .0 .2, refl, read-cached d c q (x .form) (h .1))
+
+-- the node that cacheStep hands out with an accepted read is that node, the one that cache-read speaks of
+pub cache-node : (d : ℕ) (c : CacheState) (q : Call) → answer (cacheRows d c 17 q) ≡ 0 → cacheStep d c 17 q .node ≡ nodeOf c 17 q
+unfolding cacheStep
+cache-node d c q e = rw (eq-eqb (answer (cacheRows d c 17 q)) 0 e)
+
+-- with every other step, and a refusal, it is zeros
+pub cache-no-node : (d : ℕ) (c : CacheState) (n : ℕ) (q : Call) → isRead n ≡ false → cacheStep d c n q .node ≡ zeroNode
+unfolding cacheStep
+cache-no-node d c n q e = rw (e, cond-same (eqb (answer (cacheRows d c n q)) 0) zeroNode)
 
 -- a crash leaves the cache unready
-pub cache-crash : (d : ℕ) (c : CacheState) (q : Call) → cacheVars (stepNext d c 18 (q .reference) q) ≡ unready
-unfolding stepNext
-cache-crash d c q = refl
+pub cache-crash : (c : CacheState) (q : Call) → cacheVars (cacheNext c 18 q) ≡ unready
+unfolding stepOf steps
+cache-crash c q = refl

@@ -9,24 +9,32 @@ use Rattle.base.proofs.Refusals.{Clear}
 use Rattle.base.proofs.Tests.{not-iff, split}
 use Rattle.base.specs.Refusals.{answer}
 use Rattle.blockcache.proofs.Bridge.{assigned-form}
-use Rattle.blockcache.proofs.Forms.{CacheForm, CallForm, Idle, WellFormed, cache-form-iff, count-none-at, frozen-empty, idle-iff, loading-idle, no-reads-form, no-writes-form, read-ref-bounded, reads-insert-form, reads-remove-form, ready-form, well-formed-iff, writes-insert-form, writes-remove-form}
-use Rattle.blockcache.proofs.Numbers.{by-number, rows-accepted-iff}
-use Rattle.blockcache.specs.Form.{cacheForm, emptyCache, formIn, idle, isReady, loadingAt, loadingPhase, phaseForm}
-use Rattle.blockcache.specs.Next.{assigned, cachedSlot, next1, next10, next11, next12, next13, next15, next2, next3, next4, next5, next6, next7, next8, next9, unlocated}
+use Rattle.blockcache.proofs.Forms.{CacheForm, Idle, OutstandingForm, TablesForm, WellFormed, cache-form-iff, count-none-at, frozen-empty, idle-iff, loading-idle, no-reads-form, no-writes-form, read-ref-bounded, reads-insert-form, reads-remove-form, ready-form, well-formed-iff, writes-insert-form, writes-remove-form}
+use Rattle.blockcache.proofs.Frames.{Open, gate-iff}
+use Rattle.blockcache.proofs.Numbers.{call-accepted-iff}
+use Rattle.blockcache.specs.Form.{awaitedForm, cacheForm, emptyCache, formIn, idle, isReady, loadingAt, loadingPhase, notWaiting, phaseForm, placesForm, readsForm, writesForm}
+use Rattle.blockcache.specs.Next.{assigned, cachedSlot, stepNext, unlocated, waitingFor, withAwaited, withEphemeral, withNodes, withOutstanding, withPlaces, withReads, withTables, withWrites}
 use Rattle.blockcache.specs.Ops.{dopId, dopLoc, vopLoc}
-use Rattle.blockcache.specs.Rows.{rows1, rows10, rows11, rows12, rows13, rows2, rows3, rows4, rows5, rows6, rows7, rows8, rows9}
-use Rattle.blockcache.specs.Step.{cacheRows, stepNext, stepRows}
+use Rattle.blockcache.specs.Rows.{ownRows, takes}
+use Rattle.blockcache.specs.Step.{cacheNext, cacheRows}
+use Rattle.blockcache.specs.Steps.{Step, allocStep, cleanUpStep, crashStep, dirtyStep, evictStep, freezeStep, noOpStep, pageInIndirectionTableReqStep, pageInIndirectionTableRespStep, pageInNodeReqStep, pageInNodeRespStep, readStep, receiveLocStep, unallocStep, writeBackIndirectionTableReqStep, writeBackIndirectionTableRespStep, writeBackNodeReqStep, writeBackNodeRespStep}
 use Rattle.blockcache.specs.declared.CacheState.{CacheState}
 use Rattle.blockcache.specs.declared.Call.{Call}
+use Rattle.blockcache.specs.declared.Awaited.{Awaited}
+use Rattle.blockcache.specs.declared.Outstanding.{Outstanding}
 use Rattle.blockcache.specs.declared.Phase.{Phase}
 use Rattle.blockcache.specs.declared.Phase.the-variants.{Loading as PhaseLoading, Ready as PhaseReady, Unready as PhaseUnready}
+use Rattle.blockcache.specs.declared.Places.{Places}
+use Rattle.blockcache.specs.declared.Tables.{Tables}
 use Rattle.disklayout.specs.declared.Location.{Location}
-use Rattle.queue.specs.Queue.{entryOf, hasOf}
+use Rattle.queue.specs.Queue.{entryOf, hasOf, insertOf, removeOf}
+use Rattle.queue.specs.declared.Request.{Request}
 use Rattle.queue.specs.declared.Requests.{Requests}
 use Rattle.disklayout.specs.Calls.{zeroLoc}
 use Rattle.sectortype.proofs.Forms.{empty-nodes-form, empty-table-form, table-iff, with-entry-form, with-slot-form, zero-succs-form}
-use Rattle.sectortype.specs.Form.{allocatedAt, entryAt, entryForm, nodeForm, slotForm, tableForm, zeroEntry, zeroSlot}
+use Rattle.sectortype.specs.Form.{allocatedAt, emptyTable, entryAt, entryForm, nodeForm, nodesForm, slotForm, tableForm, withEntry, withSlot, zeroEntry, zeroSlot}
 use Rattle.sectortype.specs.declared.Node.{Node}
+use Rattle.sectortype.specs.declared.Nodes.{Nodes}
 use Rattle.sectortype.specs.declared.Table.{Table}
 
 -- A PLACE SET
@@ -64,14 +72,10 @@ loading-form c l i = go (c .phase) l
 loading-at-form : (p : Phase) (l : Location) → phaseForm (loadingAt p l) ≡ true → CacheForm (loadingAt p l)
 loading-at-form p l e =
     record {
-      persistent = empty-table-form;
-      ephemeral = empty-table-form;
-      frozen = empty-table-form;
-      frozen-absent = refl;
-      place = refl;
+      tables = record { persistent = empty-table-form; ephemeral = empty-table-form; frozen = empty-table-form; frozen-absent = refl };
+      places = refl;
       awaited = refl;
-      writes = no-writes-form;
-      reading = no-reads-form;
+      outstanding = record { writes = no-writes-form; reading = no-reads-form };
       nodes = empty-nodes-form;
       phase = e;
     }
@@ -84,9 +88,47 @@ received-form : (l : Location) → CacheForm (loadingAt PhaseLoading l)
 unfolding phaseForm idle
 received-form l = loading-at-form PhaseLoading l refl
 
+-- A GROUP SET, IN READY: what the other groups say stays
+
+module _ (c : CacheState) (f : CacheForm c) (ok : isReady c ≡ true) where
+  pub with-tables-form : (ts : Tables) → TablesForm ts → CacheForm (withTables c ts)
+  with-tables-form ts h =
+      record { tables = h; places = f .places; awaited = f .awaited; outstanding = f .outstanding; nodes = f .nodes; phase = ready-form (withTables c ts) ok }
+
+  pub with-places-form : (ps : Places) → placesForm ps ≡ true → CacheForm (withPlaces c ps)
+  with-places-form ps h =
+      record { tables = f .tables; places = h; awaited = f .awaited; outstanding = f .outstanding; nodes = f .nodes; phase = ready-form (withPlaces c ps) ok }
+
+  pub with-awaited-form : (a : Awaited) → awaitedForm a ≡ true → CacheForm (withAwaited c a)
+  with-awaited-form a h =
+      record { tables = f .tables; places = f .places; awaited = h; outstanding = f .outstanding; nodes = f .nodes; phase = ready-form (withAwaited c a) ok }
+
+  pub with-outstanding-form : (o : Outstanding) → OutstandingForm o → CacheForm (withOutstanding c o)
+  with-outstanding-form o h =
+      record { tables = f .tables; places = f .places; awaited = f .awaited; outstanding = h; nodes = f .nodes; phase = ready-form (withOutstanding c o) ok }
+
+  pub with-nodes-form : (m : Nodes) → nodesForm m ≡ true → CacheForm (withNodes c m)
+  with-nodes-form m h =
+      record { tables = f .tables; places = f .places; awaited = f .awaited; outstanding = f .outstanding; nodes = h; phase = ready-form (withNodes c m) ok }
+
+  pub with-ephemeral-form : (t : Table) → tableForm t ≡ true → CacheForm (withEphemeral c t)
+  with-ephemeral-form t h =
+      let ts = f .tables in
+      with-tables-form (record { persistent = c .tables .persistent; ephemeral = t; isfrozen = c .tables .isfrozen; frozen = c .tables .frozen })
+      (record { persistent = ts .persistent; ephemeral = h; frozen = ts .frozen; frozen-absent = ts .frozen-absent })
+
+  pub with-writes-form : (w : Requests) → writesForm w ≡ true → CacheForm (withWrites c w)
+  with-writes-form w h = with-outstanding-form (record { writes = w; reads = c .outstanding .reads }) (record { writes = h; reading = f .outstanding .reading })
+
+  pub with-reads-form : (r : Requests) → readsForm r ≡ true → CacheForm (withReads c r)
+  with-reads-form r h = with-outstanding-form (record { writes = c .outstanding .writes; reads = r }) (record { writes = f .outstanding .writes; reading = h })
+
 -- THE STEPS
 
-module _ (d : ℕ) (c : CacheState) (r : ℕ) (q : Call) (f : CacheForm c) (g : CallForm q) (b : r < 64) where
+module _ (d : ℕ) (c : CacheState) (q : Call) (w : WellFormed d c q) where
+  abbrev r : ℕ
+  r = q .reference
+
   abbrev id : ℕ
   id = dopId (q .dop)
 
@@ -102,139 +144,33 @@ module _ (d : ℕ) (c : CacheState) (r : ℕ) (q : Call) (f : CacheForm c) (g : 
   abbrev reads : Requests
   reads = c .outstanding .reads
 
+  abbrev f : CacheForm c
+  f = w .form
+
   small : leb r 63 ≡ true
-  small = le-leb r 63 (omega arith)
+  small = let b : r < 64 = w .call .reference in le-leb r 63 (omega arith)
 
   -- a frozen table that is absent stays so
   frozen-kept : (c .tables .isfrozen || eqb (assigned (c .tables .frozen) r loc .count) 0) ≡ true
   frozen-kept =
       split (c .tables .isfrozen) (λ t. rw t)
-      (λ t. let z = frozen-empty c f t in rw (t, assigned-absent (c .tables .frozen) r loc (f .frozen) b z) (eq-eqb _ _ z))
+      (λ t. let z = frozen-empty c f t in rw (t, assigned-absent (c .tables .frozen) r loc (f .tables .frozen) (w .call .reference) z) (eq-eqb _ _ z))
 
-  kept1 : Clear (rows1 d c r q) → CacheForm (next1 c r q)
-  kept1 k =
+  -- the awaited id is no part of what a cache lacks before Ready
+  awaiting-form : loadingPhase (c .phase) ≡ true → CacheForm (withAwaited c (waitingFor id))
+  awaiting-form loading =
+      let i = loading-idle c (f .phase) loading in
+      let a = withAwaited c (waitingFor id) in
       record {
-        persistent = f .persistent;
-        ephemeral = assigned-form table r loc (f .ephemeral) b;
-        frozen = assigned-form (c .tables .frozen) r loc (f .frozen) b;
-        frozen-absent = frozen-kept;
-        place = f .place;
-        awaited = f .awaited;
-        writes = writes-insert-form writing (record { id = id; reference = r; loc = loc }) (f .writes) (leb-false 16 (writing .count) (k .1 .1 .1 .1 .1 .1 .1 .1 .1 .0)) (k .1 .1 .1 .0) small;
-        reading = f .reading;
-        nodes = f .nodes;
-        phase = ready-form (next1 c r q) (not-iff (isReady c) .0 (k .1 .1 .0));
-      }
-
-  kept2 : Clear (rows2 d c r q) → CacheForm (next2 c r q)
-  kept2 k =
-      record {
-        persistent = f .persistent;
-        ephemeral = f .ephemeral;
-        frozen = f .frozen;
-        frozen-absent = f .frozen-absent;
-        place = f .place;
-        awaited = f .awaited;
-        writes = writes-remove-form writing id (f .writes) (not-iff (hasOf writing id) .0 (k .1 .1 .1 .0));
-        reading = f .reading;
-        nodes = f .nodes;
-        phase = ready-form (next2 c r q) (not-iff (isReady c) .0 (k .1 .1 .0));
-      }
-
-  kept3 : Clear (rows3 d c r q) → CacheForm (next3 c r q)
-  kept3 k =
-      record {
-        persistent = f .persistent;
-        ephemeral = f .ephemeral;
-        frozen = f .frozen;
-        frozen-absent = f .frozen-absent;
-        place = refl;
+        tables = f .tables;
+        places = f .places;
         awaited = refl;
-        writes = f .writes;
-        reading = f .reading;
+        outstanding = f .outstanding;
         nodes = f .nodes;
-        phase = ready-form (next3 c r q) (not-iff (isReady c) .0 (k .1 .1 .0));
-      }
-
-  kept4 : Clear (rows4 d c r q) → CacheForm (next4 c r q)
-  kept4 k =
-      record {
-        persistent = f .persistent;
-        ephemeral = f .ephemeral;
-        frozen = f .frozen;
-        frozen-absent = f .frozen-absent;
-        place = f .place;
-        awaited = refl;
-        writes = f .writes;
-        reading = f .reading;
-        nodes = f .nodes;
-        phase = ready-form (next4 c r q) (not-iff (isReady c) .0 (k .1 .1 .0));
-      }
-
-  kept5 : Clear (rows5 d c r q) → CacheForm (next5 c r q)
-  kept5 k =
-      record {
-        persistent = f .persistent;
-        ephemeral = with-entry-form table r zeroEntry (f .ephemeral) b zero-entry-form;
-        frozen = f .frozen;
-        frozen-absent = f .frozen-absent;
-        place = f .place;
-        awaited = f .awaited;
-        writes = f .writes;
-        reading = f .reading;
-        nodes = with-slot-form (c .nodes) r zeroSlot (f .nodes) b zero-slot-form;
-        phase = ready-form (next5 c r q) (not-iff (isReady c) .0 (k .1 .1 .0));
-      }
-
-  kept6 : Clear (rows6 d c r q) → CacheForm (next6 c r q)
-  kept6 k =
-      record {
-        persistent = f .persistent;
-        ephemeral = f .ephemeral;
-        frozen = f .frozen;
-        frozen-absent = f .frozen-absent;
-        place = f .place;
-        awaited = f .awaited;
-        writes = f .writes;
-        reading = reads-insert-form reads (record { id = id; reference = r; loc = zeroLoc }) (f .reading) (leb-false 16 (reads .count) (k .1 .1 .1 .1 .1 .1 .1 .0)) (k .1 .1 .1 .0) (rw small);
-        nodes = f .nodes;
-        phase = ready-form (next6 c r q) (not-iff (isReady c) .0 (k .1 .1 .0));
-      }
-
-  kept7 : Clear (rows7 d c r q) → CacheForm (next7 c r q)
-  kept7 k =
-      let there = not-iff (hasOf reads id) .0 (k .1 .1 .1 .0) in
-      record {
-        persistent = f .persistent;
-        ephemeral = f .ephemeral;
-        frozen = f .frozen;
-        frozen-absent = f .frozen-absent;
-        place = f .place;
-        awaited = f .awaited;
-        writes = f .writes;
-        reading = reads-remove-form reads id (f .reading) there;
-        nodes = with-slot-form (c .nodes) (entryOf reads id .reference) (cachedSlot (q .node)) (f .nodes) (read-ref-bounded reads id (f .reading) there) (cached-slot-form (q .node) (g .node));
-        phase = ready-form (next7 c r q) (not-iff (isReady c) .0 (k .1 .1 .0));
-      }
-
-  kept8 : Clear (rows8 d c r q) → CacheForm (next8 c r q)
-  kept8 k =
-      let loading = not-iff (loadingPhase (c .phase)) .0 (k .1 .1 .0) in
-      record {
-        persistent = f .persistent;
-        ephemeral = f .ephemeral;
-        frozen = f .frozen;
-        frozen-absent = f .frozen-absent;
-        place = f .place;
-        awaited = refl;
-        writes = f .writes;
-        reading = f .reading;
-        nodes = f .nodes;
-        phase = loading-form (next8 c r q) loading (idle-iff (next8 c r q) .1 (still-idle (loading-idle c (f .phase) loading)));
+        phase = loading-form a loading (idle-iff a .1 (still-idle i));
       }
     where
-      -- the awaited id is no part of it
-      still-idle : Idle c → Idle (next8 c r q)
+      still-idle : Idle c → Idle (withAwaited c (waitingFor id))
       still-idle i =
           record {
             no-persistent = i .no-persistent;
@@ -246,113 +182,81 @@ module _ (d : ℕ) (c : CacheState) (r : ℕ) (q : Call) (f : CacheForm c) (g : 
             no-nodes = i .no-nodes;
           }
 
-  kept9 : Clear (rows9 d c r q) → CacheForm (next9 c r q)
-  kept9 k =
-      record {
-        persistent = g .table;
-        ephemeral = g .table;
-        frozen = empty-table-form;
-        frozen-absent = refl;
-        place = f .place;
-        awaited = refl;
-        writes = f .writes;
-        reading = f .reading;
-        nodes = f .nodes;
-        phase = ready-form (next9 c r q) refl;
-      }
-
-  kept10 : Clear (rows10 d c r q) → CacheForm (next10 c r q)
-  kept10 k = received-form (vopLoc (q .vop))
-
-  kept11 : Clear (rows11 d c r q) → CacheForm (next11 c r q)
-  kept11 k =
-      record {
-        persistent = f .persistent;
-        ephemeral = f .ephemeral;
-        frozen = f .frozen;
-        frozen-absent = f .frozen-absent;
-        place = f .place;
-        awaited = f .awaited;
-        writes = f .writes;
-        reading = f .reading;
-        nodes = with-slot-form (c .nodes) r zeroSlot (f .nodes) b zero-slot-form;
-        phase = ready-form (next11 c r q) (not-iff (isReady c) .0 (k .1 .1 .0));
-      }
-
-  kept12 : Clear (rows12 d c r q) → CacheForm (next12 c r q)
-  kept12 k =
-      record {
-        persistent = f .persistent;
-        ephemeral = f .ephemeral;
-        frozen = f .ephemeral;
-        frozen-absent = refl;
-        place = refl;
-        awaited = f .awaited;
-        writes = f .writes;
-        reading = f .reading;
-        nodes = f .nodes;
-        phase = ready-form (next12 c r q) (not-iff (isReady c) .0 (k .1 .1 .0));
-      }
-
-  kept13 : Clear (rows13 d c r q) → CacheForm (next13 c r q)
-  kept13 k =
-      record {
-        persistent = f .frozen;
-        ephemeral = f .ephemeral;
-        frozen = empty-table-form;
-        frozen-absent = refl;
-        place = refl;
-        awaited = f .awaited;
-        writes = f .writes;
-        reading = f .reading;
-        nodes = f .nodes;
-        phase = ready-form (next13 c r q) (not-iff (isReady c) .0 (k .1 .1 .0));
-      }
-
   -- Dirty and Alloc
-  kept15 : isReady c ≡ true → CacheForm (next15 c r q)
-  kept15 k =
+  set-node-form : isReady c ≡ true → CacheForm (stepNext c q dirtyStep)
+  set-node-form ok =
+      let t = withEntry table r (unlocated (q .node .succs)) in
+      let e = with-ephemeral-form c f ok t (with-entry-form table r (unlocated (q .node .succs)) (f .tables .ephemeral) (w .call .reference) (unlocated-form (q .node) (w .call .node))) in
+      with-nodes-form (withEphemeral c t) e ok (withSlot (c .nodes) r (cachedSlot (q .node)))
+      (with-slot-form (c .nodes) r (cachedSlot (q .node)) (f .nodes) (w .call .reference) (cached-slot-form (q .node) (w .call .node)))
+
+  pub next-form : (step : Step) → Open d c q step → Clear (ownRows d c q step) → CacheForm (stepNext c q step)
+  next-form writeBackNodeReqStep taken k =
+      let new : Request = record { id = id; reference = r; loc = loc } in
+      let h = with-writes-form c f (taken .2) (insertOf writing new)
+      (writes-insert-form writing new (f .outstanding .writes) (leb-false 16 (writing .count) (k .1 .1 .1 .1 .1 .1 .0)) (k .0) small) in
+      with-tables-form (withWrites c (insertOf writing new)) h (taken .2)
+      (record { persistent = c .tables .persistent; ephemeral = assigned table r loc; isfrozen = c .tables .isfrozen; frozen = assigned (c .tables .frozen) r loc })
+      (record {
+        persistent = f .tables .persistent;
+        ephemeral = assigned-form table r loc (f .tables .ephemeral) (w .call .reference);
+        frozen = assigned-form (c .tables .frozen) r loc (f .tables .frozen) (w .call .reference);
+        frozen-absent = frozen-kept;
+      })
+  next-form writeBackNodeRespStep taken k =
+      with-writes-form c f (taken .2) (removeOf writing id) (writes-remove-form writing id (f .outstanding .writes) (not-iff (hasOf writing id) .0 (k .0)))
+  next-form writeBackIndirectionTableReqStep taken k =
+      let ps : Places = record { persistent = c .places .persistent; isfrozen = true; frozen = loc } in
+      with-awaited-form (withPlaces c ps) (with-places-form c f (taken .2) ps refl) (taken .2) (waitingFor id) refl
+  next-form writeBackIndirectionTableRespStep taken k = with-awaited-form c f (taken .2) notWaiting refl
+  next-form unallocStep taken k =
+      let t = withEntry table r zeroEntry in
+      let e = with-ephemeral-form c f (taken .2) t (with-entry-form table r zeroEntry (f .tables .ephemeral) (w .call .reference) zero-entry-form) in
+      with-nodes-form (withEphemeral c t) e (taken .2) (withSlot (c .nodes) r zeroSlot) (with-slot-form (c .nodes) r zeroSlot (f .nodes) (w .call .reference) zero-slot-form)
+  next-form pageInNodeReqStep taken k =
+      let new : Request = record { id = id; reference = r; loc = zeroLoc } in
+      with-reads-form c f (taken .2) (insertOf reads new)
+      (reads-insert-form reads new (f .outstanding .reading) (leb-false 16 (reads .count) (k .1 .1 .1 .1 .0)) (k .0) (rw small))
+  next-form pageInNodeRespStep taken k =
+      let there = not-iff (hasOf reads id) .0 (k .0) in
+      let ref = entryOf reads id .reference in
+      let m = withSlot (c .nodes) ref (cachedSlot (q .node)) in
+      let n = with-nodes-form c f (taken .2) m
+      (with-slot-form (c .nodes) ref (cachedSlot (q .node)) (f .nodes) (read-ref-bounded reads id (f .outstanding .reading) there) (cached-slot-form (q .node) (w .call .node))) in
+      with-reads-form (withNodes c m) n (taken .2) (removeOf reads id) (reads-remove-form reads id (f .outstanding .reading) there)
+  next-form pageInIndirectionTableReqStep taken k = awaiting-form (taken .2)
+  next-form pageInIndirectionTableRespStep taken k =
       record {
-        persistent = f .persistent;
-        ephemeral = with-entry-form table r (unlocated (q .node .succs)) (f .ephemeral) b (unlocated-form (q .node) (g .node));
-        frozen = f .frozen;
-        frozen-absent = f .frozen-absent;
-        place = f .place;
-        awaited = f .awaited;
-        writes = f .writes;
-        reading = f .reading;
-        nodes = with-slot-form (c .nodes) r (cachedSlot (q .node)) (f .nodes) b (cached-slot-form (q .node) (g .node));
-        phase = ready-form (next15 c r q) k;
+        tables = record { persistent = w .call .table; ephemeral = w .call .table; frozen = empty-table-form; frozen-absent = refl };
+        places = f .places;
+        awaited = refl;
+        outstanding = f .outstanding;
+        nodes = f .nodes;
+        phase = ready-form (stepNext c q pageInIndirectionTableRespStep) refl;
       }
+  next-form receiveLocStep taken k = received-form (vopLoc (q .vop))
+  next-form evictStep taken k =
+      with-nodes-form c f (taken .2) (withSlot (c .nodes) r zeroSlot) (with-slot-form (c .nodes) r zeroSlot (f .nodes) (w .call .reference) zero-slot-form)
+  next-form freezeStep taken k =
+      let ts : Tables = record { persistent = c .tables .persistent; ephemeral = table; isfrozen = true; frozen = table } in
+      let h = with-tables-form c f (taken .2) ts
+      (record { persistent = f .tables .persistent; ephemeral = f .tables .ephemeral; frozen = f .tables .ephemeral; frozen-absent = refl }) in
+      with-places-form (withTables c ts) h (taken .2) (record { persistent = c .places .persistent; isfrozen = false; frozen = zeroLoc }) refl
+  next-form cleanUpStep taken k =
+      let ts : Tables = record { persistent = c .tables .frozen; ephemeral = table; isfrozen = false; frozen = emptyTable } in
+      let h = with-tables-form c f (taken .2) ts
+      (record { persistent = f .tables .frozen; ephemeral = f .tables .ephemeral; frozen = empty-table-form; frozen-absent = refl }) in
+      with-places-form (withTables c ts) h (taken .2) (record { persistent = c .places .frozen; isfrozen = false; frozen = zeroLoc }) refl
+  next-form noOpStep taken k = f
+  next-form dirtyStep taken k = set-node-form (taken .2)
+  next-form allocStep taken k = set-node-form (taken .2)
+  next-form readStep taken k = f
+  next-form crashStep taken k = empty-cache-form
 
 -- THE THEOREM
 
-pub next-form : (d : ℕ) (c : CacheState) (n : ℕ) (q : Call) → WellFormed d c q → Clear (stepRows d c n (q .reference) q) → CacheForm (stepNext d c n (q .reference) q)
-unfolding stepRows stepNext
-next-form d c n q w =
-    by-number (λ n. Clear (stepRows d c n (q .reference) q) → CacheForm (stepNext d c n (q .reference) q))
-    (kept1 d c (q .reference) q (w .form) (w .call) (w .call .reference))
-    (kept2 d c (q .reference) q (w .form) (w .call) (w .call .reference))
-    (kept3 d c (q .reference) q (w .form) (w .call) (w .call .reference))
-    (kept4 d c (q .reference) q (w .form) (w .call) (w .call .reference))
-    (kept5 d c (q .reference) q (w .form) (w .call) (w .call .reference))
-    (kept6 d c (q .reference) q (w .form) (w .call) (w .call .reference))
-    (kept7 d c (q .reference) q (w .form) (w .call) (w .call .reference))
-    (kept8 d c (q .reference) q (w .form) (w .call) (w .call .reference))
-    (kept9 d c (q .reference) q (w .form) (w .call) (w .call .reference))
-    (kept10 d c (q .reference) q (w .form) (w .call) (w .call .reference))
-    (kept11 d c (q .reference) q (w .form) (w .call) (w .call .reference))
-    (kept12 d c (q .reference) q (w .form) (w .call) (w .call .reference))
-    (kept13 d c (q .reference) q (w .form) (w .call) (w .call .reference))
-    (λ k. w .form)
-    (λ k. kept15 d c (q .reference) q (w .form) (w .call) (w .call .reference) (not-iff (isReady c) .0 (k .1 .1 .0)))
-    (λ k. kept15 d c (q .reference) q (w .form) (w .call) (w .call .reference) (not-iff (isReady c) .0 (k .1 .1 .0)))
-    (λ k. w .form)
-    (λ k. empty-cache-form)
-    (λ n f1 f2 f3 f4 f5 f6 f7 f8 f9 f10 f11 f12 f13 f14 f15 f16 f17 f18. rw (f1, f2, f3, f4, f5, f6, f7, f8, f9, f10, f11, f12, f13, f14, f15, f16, f17, f18) (λ k. w .form))
-    n
-
-pub cache-form-kept : (d : ℕ) (c : CacheState) (n : ℕ) (q : Call) → answer (cacheRows d c n q) ≡ 0 → cacheForm (stepNext d c n (q .reference) q) ≡ true
+pub cache-form-kept : (d : ℕ) (c : CacheState) (n : ℕ) (q : Call) → answer (cacheRows d c n q) ≡ 0 → cacheForm (cacheNext c n q) ≡ true
 cache-form-kept d c n q e =
-    let h = rows-accepted-iff d c n q .0 e in
-    cache-form-iff (stepNext d c n (q .reference) q) .1 (next-form d c n q (well-formed-iff d c q .0 (h .0)) (h .1))
+    let x = call-accepted-iff d c n q .0 e in
+    let g = gate-iff (takes (c .phase) (q .vop) (q .dop) (x .step)) (ownRows d c q (x .step)) .0 (x .clear) in
+    rw (x .is) (cache-form-iff (stepNext c q (x .step)) .1 (next-form d c q (x .form) (x .step) (g .0) (g .1)))

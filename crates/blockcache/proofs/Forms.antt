@@ -16,8 +16,10 @@ use Rattle.blockcache.specs.Form.{awaitedForm, cacheForm, formIn, idle, 
 use Rattle.blockcache.specs.Step.{wellFormed}
 use Rattle.blockcache.specs.declared.CacheState.{CacheState}
 use Rattle.blockcache.specs.declared.Call.{Call}
+use Rattle.blockcache.specs.declared.Outstanding.{Outstanding}
 use Rattle.blockcache.specs.declared.Phase.{Phase}
 use Rattle.blockcache.specs.declared.Phase.the-variants.{Loading as PhaseLoading, Ready as PhaseReady, Unready as PhaseUnready}
+use Rattle.blockcache.specs.declared.Tables.{Tables}
 use Rattle.blockdisk.proofs.Outstanding.{queue-iff, queue-insert, queue-remove}
 use Rattle.disklayout.specs.Device.{made}
 use Rattle.queue.proofs.Laws.{entry-map, none-form, none-map}
@@ -30,15 +32,23 @@ use Rattle.sectortype.specs.Abstract.{nodesMap}
 use Rattle.sectortype.specs.Form.{locZero, nodeForm, nodesForm, presentAt, slotAt, tableForm}
 use Rattle.sectortype.specs.declared.Nodes.{Nodes}
 
+-- THE GROUPS OF THE WRITTEN FORM
+
+pub record TablesForm (ts : Tables) : Type 0 where
+  pub persistent : tableForm (ts .persistent) ≡ true
+  pub ephemeral : tableForm (ts .ephemeral) ≡ true
+  pub frozen : tableForm (ts .frozen) ≡ true
+  pub frozen-absent : (ts .isfrozen || eqb (ts .frozen .count) 0) ≡ true
+
+pub record OutstandingForm (o : Outstanding) : Type 0 where
+  pub writes : writesForm (o .writes) ≡ true
+  pub reading : readsForm (o .reads) ≡ true
+
 pub record CacheForm (c : CacheState) : Type 0 where
-  pub persistent : tableForm (c .tables .persistent) ≡ true
-  pub ephemeral : tableForm (c .tables .ephemeral) ≡ true
-  pub frozen : tableForm (c .tables .frozen) ≡ true
-  pub frozen-absent : (c .tables .isfrozen || eqb (c .tables .frozen .count) 0) ≡ true
-  pub place : placesForm (c .places) ≡ true
+  pub tables : TablesForm (c .tables)
+  pub places : placesForm (c .places) ≡ true
   pub awaited : awaitedForm (c .awaited) ≡ true
-  pub writes : writesForm (c .outstanding .writes) ≡ true
-  pub reading : readsForm (c .outstanding .reads) ≡ true
+  pub outstanding : OutstandingForm (c .outstanding)
   pub nodes : nodesForm (c .nodes) ≡ true
   pub phase : phaseForm c ≡ true
 
@@ -46,19 +56,17 @@ pub cache-form-iff : (c : CacheState) → (cacheForm c ≡ true) ↔ CacheForm c
 unfolding cacheForm
 cache-form-iff c = (
   (λ e. let h = simp and-iff at e in
+      let ts = h .0 .0 .0 .0 .0 in
       record {
-        persistent = h .0 .0 .0 .0 .0 .0 .0 .0;
-        ephemeral = h .0 .0 .0 .0 .0 .0 .0 .1;
-        frozen = h .0 .0 .0 .0 .0 .0 .1;
-        frozen-absent = h .0 .0 .0 .0 .0 .1;
-        place = h .0 .0 .0 .0 .1;
+        tables = record { persistent = ts .0 .0 .0; ephemeral = ts .0 .0 .1; frozen = ts .0 .1; frozen-absent = ts .1 };
+        places = h .0 .0 .0 .0 .1;
         awaited = h .0 .0 .0 .1;
-        writes = h .0 .0 .1 .0;
-        reading = h .0 .0 .1 .1;
+        outstanding = record { writes = h .0 .0 .1 .0; reading = h .0 .0 .1 .1 };
         nodes = h .0 .1;
         phase = h .1;
       }),
-  (λ f. simp and-iff ((((((((f .persistent, f .ephemeral), f .frozen), f .frozen-absent), f .place), f .awaited), (f .writes, f .reading)), f .nodes), f .phase)),
+  (λ f. let ts = f .tables in let o = f .outstanding in
+      simp and-iff ((((((((ts .persistent, ts .ephemeral), ts .frozen), ts .frozen-absent), f .places), f .awaited), (o .writes, o .reading)), f .nodes), f .phase)),
 )
 
 -- THE QUEUES
@@ -104,13 +112,13 @@ read-ref-bounded q id f h =
 
 module _ (c : CacheState) (f : CacheForm c) where
   pub writes-requests : requestsForm (c .outstanding .writes) ≡ true
-  writes-requests = writes-form-iff (c .outstanding .writes) .0 (f .writes) .0
+  writes-requests = writes-form-iff (c .outstanding .writes) .0 (f .outstanding .writes) .0
 
   pub reads-requests : requestsForm (c .outstanding .reads) ≡ true
-  reads-requests = reads-form-iff (c .outstanding .reads) .0 (f .reading) .0
+  reads-requests = reads-form-iff (c .outstanding .reads) .0 (f .outstanding .reading) .0
 
   pub frozen-empty : c .tables .isfrozen ≡ false → c .tables .frozen .count ≡ 0
-  frozen-empty e = eqb-true _ _ (or-true-iff (c .tables .isfrozen) (eqb (c .tables .frozen .count) 0) .0 (f .frozen-absent) e)
+  frozen-empty e = eqb-true _ _ (or-true-iff (c .tables .isfrozen) (eqb (c .tables .frozen .count) 0) .0 (f .tables .frozen-absent) e)
 
 -- BEFORE READY
 

@@ -8,6 +8,7 @@ use Rattle.base.proofs.Maps.{del-some, put-some}
 use Rattle.base.proofs.Tests.{never}
 use Rattle.base.specs.Maps.{Map, del, empty, put}
 use Rattle.blockcache.proofs.InvLaws.{in-put, put-none, ready-ext}
+use Rattle.blockcache.specs.Form.{idle}
 use Rattle.blockcache.specs.Upstream.{AllLocationsForDifferentRefsDontOverlap, CleanUp, PageInIndirectionTableResp, PageInNodeReq, PageInNodeResp, Ready, WFCompleteIndirectionTable, setCache, setLocs, setReads, setTables}
 use Rattle.blockcache.specs.UpstreamInv.{CacheConsistentWithSuccessors, InvFrozen, InvReady, OutstandingReadRefsUnique}
 use Rattle.disklayout.specs.Device.{deviceOf}

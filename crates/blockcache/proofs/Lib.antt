@@ -6,6 +6,7 @@ pub mod FormKept
 pub mod Forms
 pub mod Frames
 pub mod GraphSteps
+pub mod IdleOps
 pub mod InvGraph
 pub mod InvKept
 pub mod InvLaws

@@ -1,77 +1,96 @@
--- The step number: a statement of every number from the eighteen steps and the rest, and what it is for a call to be accepted. Assumes nothing.
-use Prim.Native.Nat.{ℕ}
-use mathlib.Core.Bool.{Bool, false, false≢true, not, true, true≢false}
+-- The number of a step, and what it is for a call to be accepted: it is within the limits, its number is a step's, and none of the step's
+-- conditions holds. Assumes nothing.
+use Prim.Native.Nat.{_<_, _≤_, suc, zero, ℕ}
+use mathlib.Core.Bool.{and-false, Bool, _&&_, false, not, true}
 use mathlib.Core.List.{List, [], _∷_}
 use mathlib.Core.Logic.{_↔_}
-use mathlib.Core.Path.{_≡_, refl}
+use mathlib.Core.Option.{Option, none, some}
+use mathlib.Core.Path.{_∙_, _≡_, ap, refl, sym}
 use native.Mathlib.Omega.{arith}
-use borrow.Author.Tests.{eqb-true}
-use lib.Dec.{eqb}
+use borrow.Author.Tests.{le-leb, le-ltb, lt-leb, lt-ltb, ltb-false, ltb-true}
+use lib.Dec.{leb, ltb}
+use lib.ListN.{length}
 use Rattle.base.proofs.Refusals.{Clear, accepted-iff}
-use Rattle.base.proofs.Tests.{not-iff, split}
-use Rattle.base.specs.Refusals.{Row, _when_, answer, ascending}
-use Rattle.blockcache.specs.Rows.{rows1, rows10, rows11, rows12, rows13, rows14, rows15, rows16, rows17, rows18, rows2, rows3, rows4, rows5, rows6, rows7, rows8, rows9}
-use Rattle.blockcache.specs.Step.{cacheRows, stepRows, wellFormed}
+use Rattle.base.proofs.Tests.{and-both, not-iff, or-iff, some-iff, split}
+use Rattle.base.specs.Lists.{nth}
+use Rattle.base.specs.Maps.{isSome}
+use Rattle.base.specs.Refusals.{_when_, answer, ascending}
+use Rattle.blockcache.proofs.Forms.{WellFormed, well-formed-iff}
+use Rattle.blockcache.specs.Rows.{stepRows}
+use Rattle.blockcache.specs.Step.{cacheRows, outsideLimits, rowsOf, wellFormed}
+use Rattle.blockcache.specs.Steps.{Step, allocStep, cleanUpStep, crashStep, dirtyStep, evictStep, freezeStep, noOpStep, pageInIndirectionTableReqStep, pageInIndirectionTableRespStep, pageInNodeReqStep, pageInNodeRespStep, readStep, receiveLocStep, stepOf, steps, unallocStep, writeBackIndirectionTableReqStep, writeBackIndirectionTableRespStep, writeBackNodeReqStep, writeBackNodeRespStep}
 use Rattle.blockcache.specs.declared.CacheState.{CacheState}
 use Rattle.blockcache.specs.declared.Call.{Call}
 
--- a statement that holds of the eighteen steps and of every other number holds of all
-pub by-number : (P : ℕ → Type 0) → P 1 → P 2 → P 3 → P 4 → P 5 → P 6 → P 7 → P 8 → P 9 → P 10 → P 11 → P 12 → P 13 → P 14 → P 15 → P 16 → P 17 → P 18 →
-    ((n : ℕ) → eqb n 1 ≡ false → eqb n 2 ≡ false → eqb n 3 ≡ false → eqb n 4 ≡ false → eqb n 5 ≡ false → eqb n 6 ≡ false → eqb n 7 ≡ false → eqb n 8 ≡ false → eqb n 9 ≡ false → eqb n 10 ≡ false → eqb n 11 ≡ false → eqb n 12 ≡ false → eqb n 13 ≡ false → eqb n 14 ≡ false → eqb n 15 ≡ false → eqb n 16 ≡ false → eqb n 17 ≡ false → eqb n 18 ≡ false → P n) → (n : ℕ) → P n
-by-number P p1 p2 p3 p4 p5 p6 p7 p8 p9 p10 p11 p12 p13 p14 p15 p16 p17 p18 rest n =
-    split (eqb n 1) (λ t. rw (eqb-true n 1 t) p1) (λ f1.
-    split (eqb n 2) (λ t. rw (eqb-true n 2 t) p2) (λ f2.
-    split (eqb n 3) (λ t. rw (eqb-true n 3 t) p3) (λ f3.
-    split (eqb n 4) (λ t. rw (eqb-true n 4 t) p4) (λ f4.
-    split (eqb n 5) (λ t. rw (eqb-true n 5 t) p5) (λ f5.
-    split (eqb n 6) (λ t. rw (eqb-true n 6 t) p6) (λ f6.
-    split (eqb n 7) (λ t. rw (eqb-true n 7 t) p7) (λ f7.
-    split (eqb n 8) (λ t. rw (eqb-true n 8 t) p8) (λ f8.
-    split (eqb n 9) (λ t. rw (eqb-true n 9 t) p9) (λ f9.
-    split (eqb n 10) (λ t. rw (eqb-true n 10 t) p10) (λ f10.
-    split (eqb n 11) (λ t. rw (eqb-true n 11 t) p11) (λ f11.
-    split (eqb n 12) (λ t. rw (eqb-true n 12 t) p12) (λ f12.
-    split (eqb n 13) (λ t. rw (eqb-true n 13 t) p13) (λ f13.
-    split (eqb n 14) (λ t. rw (eqb-true n 14 t) p14) (λ f14.
-    split (eqb n 15) (λ t. rw (eqb-true n 15 t) p15) (λ f15.
-    split (eqb n 16) (λ t. rw (eqb-true n 16 t) p16) (λ f16.
-    split (eqb n 17) (λ t. rw (eqb-true n 17 t) p17) (λ f17.
-    split (eqb n 18) (λ t. rw (eqb-true n 18 t) p18) (λ f18.
-    rest n f1 f2 f3 f4 f5 f6 f7 f8 f9 f10 f11 f12 f13 f14 f15 f16 f17 f18))))))))))))))))))
+-- THE NUMBER
 
--- a row 1 before rows whose numbers ascend
-first-iff : (ok : Bool) (rows : List Row) → ascending ((1 when not ok) ∷ rows) ≡ true → (answer ((1 when not ok) ∷ rows) ≡ 0) ↔ ((ok ≡ true) × Clear rows)
-first-iff ok rows asc =
-    let a = accepted-iff ((1 when not ok) ∷ rows) asc in
-    ((λ e. let h = a .0 e in (not-iff ok .0 (h .0), h .1)), (λ h. a .1 (not-iff ok .1 (h .0), h .1)))
+ltb-suc : (k n : ℕ) → ltb (suc k) (suc n) ≡ ltb k n
+ltb-suc k n = split (ltb k n) (λ t. rw t (lt-ltb (suc k) (suc n) (omega (arith, ltb-true k n t)))) (λ t. rw t (le-ltb (suc k) (suc n) (omega (arith, ltb-false k n t))))
 
--- a step outside 1 to 18 is refused
-outside-iff : (ok : Bool) → (answer ((1 when not ok) ∷ (1 when true) ∷ []) ≡ 0) ↔ ((ok ≡ true) × Clear ((1 when true) ∷ []))
-unfolding answer
-outside-iff true = ((λ e. absurd (omega arith)), (λ h. absurd (true≢false (h .1 .0))))
-outside-iff false = ((λ e. absurd (omega arith)), (λ h. absurd (false≢true (h .0))))
+nth-within : {A : Type 0} (l : List A) (k : ℕ) → isSome (nth l k) ≡ ltb k (length l)
+nth-within [] k = sym (le-ltb k 0 (omega arith))
+nth-within (x ∷ xs) zero = sym (lt-ltb 0 (suc (length xs)) (omega arith))
+nth-within (x ∷ xs) (suc k) = nth-within xs k ∙ sym (ltb-suc k (length xs))
 
-pub rows-accepted-iff : (d : ℕ) (c : CacheState) (n : ℕ) (q : Call) → (answer (cacheRows d c n q) ≡ 0) ↔ ((wellFormed d c q ≡ true) × Clear (stepRows d c n (q .reference) q))
-unfolding stepRows
-rows-accepted-iff d c n q =
-    by-number (λ n. (answer (cacheRows d c n q) ≡ 0) ↔ ((wellFormed d c q ≡ true) × Clear (stepRows d c n (q .reference) q)))
-    (first-iff (wellFormed d c q) (rows1 d c (q .reference) q) refl)
-    (first-iff (wellFormed d c q) (rows2 d c (q .reference) q) refl)
-    (first-iff (wellFormed d c q) (rows3 d c (q .reference) q) refl)
-    (first-iff (wellFormed d c q) (rows4 d c (q .reference) q) refl)
-    (first-iff (wellFormed d c q) (rows5 d c (q .reference) q) refl)
-    (first-iff (wellFormed d c q) (rows6 d c (q .reference) q) refl)
-    (first-iff (wellFormed d c q) (rows7 d c (q .reference) q) refl)
-    (first-iff (wellFormed d c q) (rows8 d c (q .reference) q) refl)
-    (first-iff (wellFormed d c q) (rows9 d c (q .reference) q) refl)
-    (first-iff (wellFormed d c q) (rows10 d c (q .reference) q) refl)
-    (first-iff (wellFormed d c q) (rows11 d c (q .reference) q) refl)
-    (first-iff (wellFormed d c q) (rows12 d c (q .reference) q) refl)
-    (first-iff (wellFormed d c q) (rows13 d c (q .reference) q) refl)
-    (first-iff (wellFormed d c q) (rows14 d c (q .reference) q) refl)
-    (first-iff (wellFormed d c q) (rows15 d c (q .reference) q) refl)
-    (first-iff (wellFormed d c q) (rows16 d c (q .reference) q) refl)
-    (first-iff (wellFormed d c q) (rows17 d c (q .reference) q) refl)
-    (first-iff (wellFormed d c q) (rows18 d c (q .reference) q) refl)
-    (λ n f1 f2 f3 f4 f5 f6 f7 f8 f9 f10 f11 f12 f13 f14 f15 f16 f17 f18. rw (f1, f2, f3, f4, f5, f6, f7, f8, f9, f10, f11, f12, f13, f14, f15, f16, f17, f18) (outside-iff (wellFormed d c q)))
-    n
+-- the steps have the numbers 1 to 18
+pub step-number : (n : ℕ) → isSome (stepOf n) ≡ (leb 1 n && leb n 18)
+unfolding stepOf steps
+step-number zero = refl
+step-number (suc k) =
+    let e = nth-within steps k in
+    split (ltb k 18)
+    (λ t. let b : k < 18 = ltb-true k 18 t in e ∙ t ∙ sym (and-both (le-leb 1 (suc k) (omega arith)) (le-leb (suc k) 18 (omega arith))))
+    (λ t. let b : 18 ≤ k = ltb-false k 18 t in e ∙ t ∙ sym (rw (lt-leb (suc k) 18 (omega arith)) (and-false (leb 1 (suc k)))))
+
+-- A CALL THAT IS ACCEPTED
+
+module _ (d : ℕ) (c : CacheState) (q : Call) (b : Bool) where
+  -- the numbers of the rows ascend
+  rows-ascend : (step : Step) → ascending ((1 when b) ∷ stepRows d c q step) ≡ true
+  rows-ascend writeBackNodeReqStep = refl
+  rows-ascend writeBackNodeRespStep = refl
+  rows-ascend writeBackIndirectionTableReqStep = refl
+  rows-ascend writeBackIndirectionTableRespStep = refl
+  rows-ascend unallocStep = refl
+  rows-ascend pageInNodeReqStep = refl
+  rows-ascend pageInNodeRespStep = refl
+  rows-ascend pageInIndirectionTableReqStep = refl
+  rows-ascend pageInIndirectionTableRespStep = refl
+  rows-ascend receiveLocStep = refl
+  rows-ascend evictStep = refl
+  rows-ascend freezeStep = refl
+  rows-ascend cleanUpStep = refl
+  rows-ascend noOpStep = refl
+  rows-ascend dirtyStep = refl
+  rows-ascend allocStep = refl
+  rows-ascend readStep = refl
+  rows-ascend crashStep = refl
+
+  of-ascend : (o : Option Step) → ascending ((1 when b) ∷ rowsOf d c q o) ≡ true
+  of-ascend none = refl
+  of-ascend (some step) = rows-ascend step
+
+pub rows-ascending : (d : ℕ) (c : CacheState) (n : ℕ) (q : Call) → ascending (cacheRows d c n q) ≡ true
+rows-ascending d c n q = of-ascend d c q (outsideLimits d c n q) (stepOf n)
+
+pub record Accepted (d : ℕ) (c : CacheState) (n : ℕ) (q : Call) : Type 0 where
+  pub form : WellFormed d c q
+  pub step : Step
+  pub is : stepOf n ≡ some step
+  pub clear : Clear (stepRows d c q step)
+
+-- within the limits: the forms, and a step
+pub limits-iff : (d : ℕ) (c : CacheState) (n : ℕ) (q : Call) → (outsideLimits d c n q ≡ false) ↔ ((wellFormed d c q ≡ true) × ((step : Step) × (stepOf n ≡ some step)))
+limits-iff d c n q = (
+  (λ e. let h = or-iff (not (wellFormed d c q)) (not (isSome (stepOf n))) .0 e in
+      (not-iff (wellFormed d c q) .0 (h .0), some-iff (stepOf n) .0 (not-iff (isSome (stepOf n)) .0 (h .1)))),
+  (λ (w, (step, e)). or-iff (not (wellFormed d c q)) (not (isSome (stepOf n))) .1 (not-iff (wellFormed d c q) .1 w, not-iff (isSome (stepOf n)) .1 (ap isSome e))),
+)
+
+pub call-accepted-iff : (d : ℕ) (c : CacheState) (n : ℕ) (q : Call) → (answer (cacheRows d c n q) ≡ 0) ↔ Accepted d c n q
+call-accepted-iff d c n q =
+    let a = accepted-iff (cacheRows d c n q) (rows-ascending d c n q) in (
+      (λ e. let k = a .0 e in let l = limits-iff d c n q .0 (k .0) in
+          record { form = well-formed-iff d c q .0 (l .0); step = l .1 .0; is = l .1 .1; clear = rw (l .1 .1) at (k .1) }),
+      (λ x. a .1 (limits-iff d c n q .1 (well-formed-iff d c q .1 (x .form), (x .step, x .is)), rw (x .is) (x .clear))),
+    )

@@ -8,9 +8,10 @@ use native.Mathlib.Omega.{arith}
 use borrow.Author.Tests.{eq-eqb, eqb-true}
 use lib.Dec.{eqb}
 use Rattle.base.specs.Maps.{flagged}
+use Rattle.blockcache.specs.Abstract.{awaitedId, cacheVars, readyVars, varsIn}
 use Rattle.blockcache.specs.Form.{isReady, loadingPhase, readyPhase, unreadyPhase}
+use Rattle.blockcache.specs.NextStep.{IdleVop, OnLoading, OnReady, OnReqReadIndirectionTable, OnReqReadNode, OnReqWriteIndirectionTable, OnReqWriteNode, OnRespReadIndirectionTable, OnRespReadNode, OnRespWriteIndirectionTable, OnRespWriteNode}
 use Rattle.blockcache.specs.Ops.{dopBrought, dopId, dopKind, dopLoc, vopKind, vopLoc, vopNoOp}
-use Rattle.blockcache.specs.Steps.{IdleVop, OnLoading, OnReady, OnReqReadIndirectionTable, OnReqReadNode, OnReqWriteIndirectionTable, OnReqWriteNode, OnRespReadIndirectionTable, OnRespReadNode, OnRespWriteIndirectionTable, OnRespWriteNode, awaitedId, cacheVars, readyVars, varsIn}
 use Rattle.blockcache.specs.Upstream.{Ready, loadingIndirectionTable, ready, unready}
 use Rattle.blockcache.specs.declared.CacheState.{CacheState}
 use Rattle.blockcache.specs.declared.Phase.{Phase}

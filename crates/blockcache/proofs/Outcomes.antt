@@ -3,16 +3,16 @@
 use Prim.Native.Nat.{ℕ}
 use mathlib.Core.Bool.{cond, true}
 use mathlib.Core.List.{List}
-use mathlib.Core.Path.{_∙_, _≡_, subst, sym}
+use mathlib.Core.Path.{_∙_, _≡_, refl, subst, sym}
 use borrow.Author.Tests.{eq-eqb, eqb-false, eqb-true, ne-eqb}
 use lib.Dec.{eqb}
 use Rattle.base.proofs.Tests.{split}
 use Rattle.base.specs.Refusals.{Row, answer}
 use Rattle.blockcache.proofs.FormKept.{cache-form-kept}
 use Rattle.blockcache.proofs.InvKept.{inv-kept}
+use Rattle.blockcache.specs.Abstract.{cacheVars}
 use Rattle.blockcache.specs.Form.{cacheForm}
-use Rattle.blockcache.specs.Step.{cacheRows, cacheStep, stepped, stepNext, wellFormed}
-use Rattle.blockcache.specs.Steps.{cacheVars}
+use Rattle.blockcache.specs.Step.{cacheNext, cacheRows, cacheStep}
 use Rattle.blockcache.specs.UpstreamInv.{Inv}
 use Rattle.blockcache.specs.declared.CacheState.{CacheState}
 use Rattle.blockcache.specs.declared.Call.{Call}
@@ -22,15 +22,15 @@ module _ (d : ℕ) (c : CacheState) (n : ℕ) (q : Call) where
   rows = cacheRows d c n q
 
   abbrev next : CacheState
-  next = stepNext d c n (q .reference) q
+  next = cacheNext c n q
 
   pub step-answer : cacheStep d c n q .answer ≡ answer rows
-  unfolding cacheStep stepped answer
-  step-answer = split (wellFormed d c q) (λ t. rw t) (λ t. rw t)
+  unfolding cacheStep
+  step-answer = refl
 
   pub step-cache : cacheStep d c n q .cache ≡ cond (eqb (answer rows) 0) next c
-  unfolding cacheStep stepped answer
-  step-cache = split (wellFormed d c q) (λ t. rw t) (λ t. rw t)
+  unfolding cacheStep
+  step-cache = refl
 
   pub step-taken : answer rows ≡ 0 → cacheStep d c n q .cache ≡ next
   step-taken e = step-cache ∙ rw (eq-eqb (answer rows) 0 e)

@@ -9,16 +9,17 @@ use Rattle.base.proofs.Refusals.{Clear}
 use Rattle.base.proofs.Tests.{and-both, and-false-iff, and-iff, and-right, none-iff, not-iff, or-iff}
 use Rattle.base.specs.Maps.{flagged, isSome}
 use Rattle.blockcache.proofs.Bridge.{flagged-is-iff, flagged-none-iff, node-rejected-iff, table-rejected-iff}
-use Rattle.blockcache.proofs.Forms.{CacheForm, CallForm, loading-idle, no-nodes-map, read-ref-bounded, reads-requests, writes-requests}
-use Rattle.blockcache.proofs.Frames.{frame10, frame6, frame7, frame8, frame9}
+use Rattle.blockcache.proofs.Forms.{CacheForm, WellFormed, loading-idle, no-nodes-map, read-ref-bounded, reads-requests, writes-requests}
+use Rattle.blockcache.proofs.Frames.{Exact, Open, Own}
 use Rattle.blockcache.proofs.OpKinds.{loading-is, on-ready-iff, unready-iff}
 use Rattle.blockcache.proofs.Waiting.{not-read-iff, reads-at, reads-empty-iff, reads-has, reads-insert, reads-remove, writes-empty-iff}
-use Rattle.blockcache.specs.Narrowings.{narrowedRead}
-use Rattle.blockcache.specs.Next.{cachedSlot, next10, next6, next7, next8, next9}
+use Rattle.blockcache.specs.Abstract.{cacheVars, readyVars}
+use Rattle.blockcache.specs.Narrowings.{stepNarrowed}
+use Rattle.blockcache.specs.Next.{cachedSlot, stepNext}
 use Rattle.blockcache.specs.Ops.{dopBrought, dopId, dopLoc, vopLoc}
-use Rattle.blockcache.specs.Rows.{rows10, rows6, rows7, rows8, rows9}
+use Rattle.blockcache.specs.Rows.{ownRows}
 use Rattle.blockcache.specs.Scan.{nodeRejected}
-use Rattle.blockcache.specs.Steps.{NextStep, Step, cacheVars, callOp, pageInIndirectionTableReqStep, pageInIndirectionTableRespStep, pageInNodeReqStep, pageInNodeRespStep, readyVars, receiveLocStep}
+use Rattle.blockcache.specs.Steps.{pageInIndirectionTableReqStep, pageInIndirectionTableRespStep, pageInNodeReqStep, pageInNodeRespStep, receiveLocStep}
 use Rattle.blockcache.specs.Upstream.{AllLocationsForDifferentRefsDontOverlap, PageInNodeReq, PageInNodeResp, SameSuccs, Variables, WFCompleteIndirectionTable, setCache, setReads}
 use Rattle.blockcache.specs.declared.CacheState.{CacheState}
 use Rattle.blockcache.specs.declared.Call.{Call}
@@ -40,7 +41,13 @@ use Rattle.sectortype.specs.declared.Entry.{Entry}
 use Rattle.sectortype.specs.declared.Node.{Node}
 use Rattle.sectortype.specs.declared.Table.{Table}
 
-module _ (d : ℕ) (c : CacheState) (r : ℕ) (q : Call) (on : made d ≡ true) (f : CacheForm c) (g : CallForm q) (b : r < 64) where
+module _ (d : ℕ) (c : CacheState) (q : Call) (w : WellFormed d c q) where
+  abbrev r : ℕ
+  r = q .reference
+
+  abbrev f : CacheForm c
+  f = w .form
+
   abbrev id : ℕ
   id = dopId (q .dop)
 
@@ -62,63 +69,46 @@ module _ (d : ℕ) (c : CacheState) (r : ℕ) (q : Call) (on : made d ≡ true) 
   abbrev brings : Brought
   brings = dopBrought (q .dop)
 
-  abbrev Next : Step → Variables → Type 0
-  Next step s' = NextStep d (cacheVars c) s' (callOp q) (q .vop) step
-
   -- PageInNodeReq
 
-  pub sound6 : Clear (rows6 d c r q) → Next (pageInNodeReqStep r) (cacheVars (next6 c r q))
-  sound6 k =
+  page-in-node-req-sound : Open d c q pageInNodeReqStep → Clear (ownRows d c q pageInNodeReqStep) → Own d c q pageInNodeReqStep (cacheVars (stepNext c q pageInNodeReqStep))
+  page-in-node-req-sound taken k =
       let h = simp (not-iff, or-iff) at k in
-      let ok = h .1 .1 .0 in
-      let there = h .1 .1 .1 .1 .1 .0 in
-      let same = not-iff (sameLoc (entry .loc) loc) .0 (and-false-iff (entry .located) (not (sameLoc (entry .loc) loc)) .0 (h .1 .1 .1 .1 .0) (there .0 .1)) in
-      let room = leb-false 16 (reading .count) (h .1 .1 .1 .1 .1 .1 .1 .0) in
-      frame6 d c q (cacheVars (next6 c r q)) r .1 (
-        h .0,
+      let ok = taken .2 in
+      let there = h .1 .1 .0 in
+      let same = not-iff (sameLoc (entry .loc) loc) .0 (and-false-iff (entry .located) (not (sameLoc (entry .loc) loc)) .0 (h .1 .0) (there .0 .1)) in
+      let room = leb-false 16 (reading .count) (h .1 .1 .1 .1 .0) in
+      on-ready-iff (stepNext c q pageInNodeReqStep) (λ y. PageInNodeReq (readyVars c) y id loc r) .1 (
+        ok,
+        record {
+          allocated = in-graph table r ∙ there .0 .0;
+          located = locs-at table r (there .0 .1) ∙ ap some (same-loc-iff (entry .loc) loc .0 same);
+          not-cached = none-iff (nodesMap (c .nodes) r) .0 (in-nodes (c .nodes) r ∙ there .1);
+          not-read = not-read-iff reading (reads-requests c f) r .0 (h .1 .1 .1 .0);
+          next = ap (setReads (readyVars c)) (reads-insert reading (reads-requests c f) (record { id = id; reference = r; loc = zeroLoc }) room (h .0));
+        },
+      )
+
+  page-in-node-req-complete : (s' : Variables) → stepNarrowed c q pageInNodeReqStep ≡ false → Own d c q pageInNodeReqStep s' → Clear (ownRows d c q pageInNodeReqStep)
+  page-in-node-req-complete s' ns (y, e, p) =
+      let n = simp or-iff at ns in
+      let l = locs-some table r (p .located) in
+      simp (not-iff, or-iff) (
+        n .0,
         (
-          h .1 .0,
+          and-false-iff (entry .located) (not (sameLoc (entry .loc) loc)) .1 (λ e. not-iff (sameLoc (entry .loc) loc) .1 (same-loc-iff (entry .loc) loc .1 (l .1))),
           (
-            ok,
-            on-ready-iff (next6 c r q) (λ y. PageInNodeReq (readyVars c) y id loc r) .1 (
-              ok,
-              record {
-                allocated = in-graph table r ∙ there .0 .0;
-                located = locs-at table r (there .0 .1) ∙ ap some (same-loc-iff (entry .loc) loc .0 same);
-                not-cached = none-iff (nodesMap (c .nodes) r) .0 (in-nodes (c .nodes) r ∙ there .1);
-                not-read = not-read-iff reading (reads-requests c f) r .0 (h .1 .1 .1 .1 .1 .1 .0);
-                next = ap (setReads (readyVars c)) (reads-insert reading (reads-requests c f) (record { id = id; reference = r; loc = zeroLoc }) room (h .1 .1 .1 .0));
-              },
-            ),
+            ((sym (in-graph table r) ∙ p .allocated, l .0), sym (in-nodes (c .nodes) r) ∙ none-iff (nodesMap (c .nodes) r) .1 (p .not-cached)),
+            (not-read-iff reading (reads-requests c f) r .1 (p .not-read), (n .1, tt)),
           ),
         ),
       )
 
-  pub complete6 : (s' : Variables) → narrowedRead c q ≡ false → Next (pageInNodeReqStep r) s' → Clear (rows6 d c r q)
-  complete6 s' ns nx =
-      let n = simp or-iff at ns in
-      let u = frame6 d c q s' r .0 nx in
-      let p = u .1 .1 .1 .2 in
-      let l = locs-some table r (p .located) in
-      simp (not-iff, or-iff) (
-        u .0,
-        (
-          u .1 .0,
-          (
-            u .1 .1 .0,
-            (
-              n .0,
-              (
-                and-false-iff (entry .located) (not (sameLoc (entry .loc) loc)) .1 (λ e. not-iff (sameLoc (entry .loc) loc) .1 (same-loc-iff (entry .loc) loc .1 (l .1))),
-                (
-                  ((sym (in-graph table r) ∙ p .allocated, l .0), sym (in-nodes (c .nodes) r) ∙ none-iff (nodesMap (c .nodes) r) .1 (p .not-cached)),
-                  (not-read-iff reading (reads-requests c f) r .1 (p .not-read), (n .1, tt)),
-                ),
-              ),
-            ),
-          ),
-        ),
-      )
+  page-in-node-req-free : Clear (ownRows d c q pageInNodeReqStep) → stepNarrowed c q pageInNodeReqStep ≡ false
+  page-in-node-req-free k = or-iff _ _ .1 (k .0, k .1 .1 .1 .1 .0)
+
+  pub page-in-node-req-exact : Exact d c q pageInNodeReqStep
+  page-in-node-req-exact = record { sound = page-in-node-req-sound; complete = page-in-node-req-complete; free = page-in-node-req-free }
 
   -- PageInNodeResp
 
@@ -135,45 +125,34 @@ module _ (d : ℕ) (c : CacheState) (r : ℕ) (q : Call) (on : made d ≡ true) 
   abbrev unwanted : Bool
   unwanted = slotAt (c .nodes) ref .present || not (wanted .allocated)
 
-  pub sound7 : Clear (rows7 d c r q) → Next pageInNodeRespStep (cacheVars (next7 c r q))
-  sound7 k =
+  page-in-node-resp-sound : Open d c q pageInNodeRespStep → Clear (ownRows d c q pageInNodeRespStep) → Own d c q pageInNodeRespStep (cacheVars (stepNext c q pageInNodeRespStep))
+  page-in-node-resp-sound taken k =
       let h = simp not-iff at k in
-      let ok = h .1 .1 .0 in
-      let there = h .1 .1 .1 .0 in
-      let free = simp (not-iff, or-iff) at (and-false-iff known unwanted .0 (h .1 .1 .1 .1 .0) there) in
-      let right : nodeRejected brings true wanted (q .node) ≡ false = rw there at (h .1 .1 .1 .1 .1 .0) in
+      let ok = taken .2 in
+      let there = h .0 in
+      let free = simp (not-iff, or-iff) at (and-false-iff known unwanted .0 (h .1 .0) there) in
+      let right : nodeRejected brings true wanted (q .node) ≡ false = rw there at (h .1 .1 .0) in
       let w = node-rejected-iff brings wanted (q .node) (free .1) .0 right in
-      let small = read-ref-bounded reading id (f .reading) there in
+      let small = read-ref-bounded reading id (f .outstanding .reading) there in
       let x = nodes-put (c .nodes) ref (cachedSlot (q .node)) (f .nodes) small refl in
       let y = reads-remove reading (reads-requests c f) id there in
-      frame7 d c q (cacheVars (next7 c r q)) .1 (
-        h .0,
-        (
-          h .1 .0,
-          (
-            ok,
-            on-ready-iff (next7 c r q) (λ y. PageInNodeResp (readyVars c) y id (flagged (somethingIn brings) (q .node))) .1 (
-              ok,
-              record {
-                ref = ref;
-                there = reads-at reading id there;
-                not-cached = none-iff (nodesMap (c .nodes) ref) .0 (in-nodes (c .nodes) ref ∙ free .0);
-                block = q .node;
-                brought = flagged-is-iff (somethingIn brings) (q .node) (q .node) .1 (w .0, refl);
-                list = wanted .succs;
-                allocated = graph-at table ref (free .1);
-                succs = w .1;
-                next = λ i. setReads (setCache (readyVars c) (x i)) (y i);
-              },
-            ),
-          ),
-        ),
+      on-ready-iff (stepNext c q pageInNodeRespStep) (λ y. PageInNodeResp (readyVars c) y id (flagged (somethingIn brings) (q .node))) .1 (
+        ok,
+        record {
+          ref = ref;
+          there = reads-at reading id there;
+          not-cached = none-iff (nodesMap (c .nodes) ref) .0 (in-nodes (c .nodes) ref ∙ free .0);
+          block = q .node;
+          brought = flagged-is-iff (somethingIn brings) (q .node) (q .node) .1 (w .0, refl);
+          list = wanted .succs;
+          allocated = graph-at table ref (free .1);
+          succs = w .1;
+          next = λ i. setReads (setCache (readyVars c) (x i)) (y i);
+        },
       )
 
-  pub complete7 : (s' : Variables) → Next pageInNodeRespStep s' → Clear (rows7 d c r q)
-  complete7 s' nx =
-      let u = frame7 d c q s' .0 nx in
-      let p = u .1 .1 .1 .2 in
+  page-in-node-resp-complete : (s' : Variables) → stepNarrowed c q pageInNodeRespStep ≡ false → Own d c q pageInNodeRespStep s' → Clear (ownRows d c q pageInNodeRespStep)
+  page-in-node-resp-complete s' ns (y, e, p) =
       let there : known ≡ true = sym (reads-has reading id) ∙ ap isSome (p .there) in
       let one : some (p .ref) ≡ some ref = sym (p .there) ∙ reads-at reading id there in
       let same : p .ref ≡ ref = cc in
@@ -182,129 +161,91 @@ module _ (d : ℕ) (c : CacheState) (r : ℕ) (q : Call) (on : made d ≡ true) 
       let absent = sym (in-nodes (c .nodes) ref) ∙ none-iff (nodesMap (c .nodes) ref) .1 (rw same at (p .not-cached)) in
       let succs : SameSuccs (wanted .succs) (q .node) = λ j. ap (λ x. hasSucc x j) (alloc .1) ∙ p .succs j ∙ sym (ap (λ (x : Node). hasSucc (x .succs) j) (something .1)) in
       simp not-iff (
-        u .0,
+        there,
         (
-          u .1 .0,
-          (
-            u .1 .1 .0,
-            (
-              there,
-              (
-                and-false-iff known unwanted .1 (λ e. simp (not-iff, or-iff) (absent, alloc .0)),
-                (rw there (node-rejected-iff brings wanted (q .node) (alloc .0) .1 (something .0, succs)), tt),
-              ),
-            ),
-          ),
+          and-false-iff known unwanted .1 (λ e. simp (not-iff, or-iff) (absent, alloc .0)),
+          (rw there (node-rejected-iff brings wanted (q .node) (alloc .0) .1 (something .0, succs)), tt),
         ),
       )
+
+  pub page-in-node-resp-exact : Exact d c q pageInNodeRespStep
+  page-in-node-resp-exact = record { sound = page-in-node-resp-sound; complete = page-in-node-resp-complete; free = λ k. refl }
 
   -- PageInIndirectionTableReq
 
-  pub sound8 : Clear (rows8 d c r q) → Next pageInIndirectionTableReqStep (cacheVars (next8 c r q))
-  sound8 k =
+  page-in-table-req-sound : Open d c q pageInIndirectionTableReqStep → Clear (ownRows d c q pageInIndirectionTableReqStep) → Own d c q pageInIndirectionTableReqStep (cacheVars (stepNext c q pageInIndirectionTableReqStep))
+  page-in-table-req-sound taken k =
       let h = simp not-iff at k in
-      frame8 d c q (cacheVars (next8 c r q)) .1 (
-        h .0,
-        (
-          h .1 .0,
-          (
-            h .1 .1 .0,
-            record {
-              no-read = flagged-none-iff (c .awaited .waiting) (c .awaited .id) .0 (h .1 .1 .1 .1 .0);
-              place = same-loc-iff loc (c .places .persistent) .0 (h .1 .1 .1 .0);
-              next = loading-is (next8 c r q) (h .1 .1 .0);
-            },
-          ),
-        ),
-      )
+      record {
+        no-read = flagged-none-iff (c .awaited .waiting) (c .awaited .id) .0 (h .1 .0);
+        place = same-loc-iff loc (c .places .persistent) .0 (h .0);
+        next = loading-is (stepNext c q pageInIndirectionTableReqStep) (taken .2);
+      }
 
-  pub complete8 : (s' : Variables) → Next pageInIndirectionTableReqStep s' → Clear (rows8 d c r q)
-  complete8 s' nx =
-      let u = frame8 d c q s' .0 nx in
-      let p = u .1 .1 .1 in
+  page-in-table-req-complete : (s' : Variables) → stepNarrowed c q pageInIndirectionTableReqStep ≡ false → Own d c q pageInIndirectionTableReqStep s' → Clear (ownRows d c q pageInIndirectionTableReqStep)
+  page-in-table-req-complete s' ns p =
       simp not-iff
-      (u .0, (u .1 .0, (u .1 .1 .0, (same-loc-iff loc (c .places .persistent) .1 (p .place), (flagged-none-iff (c .awaited .waiting) (c .awaited .id) .1 (p .no-read), tt)))))
+      (same-loc-iff loc (c .places .persistent) .1 (p .place), (flagged-none-iff (c .awaited .waiting) (c .awaited .id) .1 (p .no-read), tt))
+
+  pub page-in-table-req-exact : Exact d c q pageInIndirectionTableReqStep
+  page-in-table-req-exact = record { sound = page-in-table-req-sound; complete = page-in-table-req-complete; free = λ k. refl }
 
   -- PageInIndirectionTableResp
 
-  pub sound9 : Clear (rows9 d c r q) → Next pageInIndirectionTableRespStep (cacheVars (next9 c r q))
-  sound9 k =
+  page-in-table-resp-sound : Open d c q pageInIndirectionTableRespStep → Clear (ownRows d c q pageInIndirectionTableRespStep) → Own d c q pageInIndirectionTableRespStep (cacheVars (stepNext c q pageInIndirectionTableRespStep))
+  page-in-table-resp-sound taken k =
       let h = simp not-iff at k in
-      let wait = and-iff (c .awaited .waiting) (eqb (c .awaited .id) id) .0 (h .1 .1 .1 .0) in
-      let w = table-rejected-iff d on brings (q .table) (g .table) .0 (h .1 .1 .1 .1 .0) in
-      let i = loading-idle c (f .phase) (h .1 .1 .0) in
-      frame9 d c q (cacheVars (next9 c r q)) .1 (
-        h .0,
-        (
-          h .1 .0,
-          (
-            h .1 .1 .0,
-            (
-              readyVars (next9 c r q),
-              refl,
-              record {
-                t = indirectionTable (q .table);
-                table = flagged-is-iff (somethingIn brings) (indirectionTable (q .table)) (indirectionTable (q .table)) .1 (w .0, refl);
-                wf = w .1 .0;
-                distinct = w .1 .1;
-                awaited = flagged-is-iff (c .awaited .waiting) (c .awaited .id) id .1 (wait .0, eqb-true (c .awaited .id) id (wait .1));
-                persistentIndirectionTable' = refl;
-                frozenIndirectionTable' = refl;
-                ephemeralIndirectionTable' = refl;
-                persistentIndirectionTableLoc' = refl;
-                frozenIndirectionTableLoc' = flagged-none-iff (c .places .isfrozen) (c .places .frozen) .0 (i .no-place);
-                outstandingIndirectionTableWrite' = refl;
-                outstandingBlockWrites' = writes-empty-iff (c .outstanding .writes) (writes-requests c f) .0 (i .no-writes);
-                outstandingBlockReads' = reads-empty-iff reading (reads-requests c f) .0 (i .no-reads);
-                cache' = no-nodes-map (c .nodes) (f .nodes) (i .no-nodes);
-              },
-            ),
-          ),
-        ),
+      let wait = and-iff (c .awaited .waiting) (eqb (c .awaited .id) id) .0 (h .0) in
+      let w = table-rejected-iff d (w .on) brings (q .table) (w .call .table) .0 (h .1 .0) in
+      let i = loading-idle c (f .phase) (taken .2) in (
+        readyVars (stepNext c q pageInIndirectionTableRespStep),
+        refl,
+        record {
+          t = indirectionTable (q .table);
+          table = flagged-is-iff (somethingIn brings) (indirectionTable (q .table)) (indirectionTable (q .table)) .1 (w .0, refl);
+          wf = w .1 .0;
+          distinct = w .1 .1;
+          awaited = flagged-is-iff (c .awaited .waiting) (c .awaited .id) id .1 (wait .0, eqb-true (c .awaited .id) id (wait .1));
+          persistentIndirectionTable' = refl;
+          frozenIndirectionTable' = refl;
+          ephemeralIndirectionTable' = refl;
+          persistentIndirectionTableLoc' = refl;
+          frozenIndirectionTableLoc' = flagged-none-iff (c .places .isfrozen) (c .places .frozen) .0 (i .no-place);
+          outstandingIndirectionTableWrite' = refl;
+          outstandingBlockWrites' = writes-empty-iff (c .outstanding .writes) (writes-requests c f) .0 (i .no-writes);
+          outstandingBlockReads' = reads-empty-iff reading (reads-requests c f) .0 (i .no-reads);
+          cache' = no-nodes-map (c .nodes) (f .nodes) (i .no-nodes);
+        },
       )
 
-  pub complete9 : (s' : Variables) → Next pageInIndirectionTableRespStep s' → Clear (rows9 d c r q)
-  complete9 s' nx =
-      let u = frame9 d c q s' .0 nx in
-      let p = u .1 .1 .1 .2 in
+  page-in-table-resp-complete : (s' : Variables) → stepNarrowed c q pageInIndirectionTableRespStep ≡ false → Own d c q pageInIndirectionTableRespStep s' → Clear (ownRows d c q pageInIndirectionTableRespStep)
+  page-in-table-resp-complete s' ns (y, e, p) =
       let wait = flagged-is-iff (c .awaited .waiting) (c .awaited .id) id .0 (p .awaited) in
       let something = flagged-is-iff (somethingIn brings) (indirectionTable (q .table)) (p .t) .0 (p .table) in
       let e : indirectionTable (q .table) ≡ p .t = something .1 in
       let wf : WFCompleteIndirectionTable d (indirectionTable (q .table)) = subst (λ x. WFCompleteIndirectionTable d x) (sym e) (p .wf) in
       let distinct : AllLocationsForDifferentRefsDontOverlap (indirectionTable (q .table)) = subst (λ x. AllLocationsForDifferentRefsDontOverlap x) (sym e) (p .distinct) in
       simp not-iff (
-        u .0,
-        (
-          u .1 .0,
-          (
-            u .1 .1 .0,
-            (
-              and-both (wait .0) (eq-eqb (c .awaited .id) id (wait .1)),
-              (table-rejected-iff d on brings (q .table) (g .table) .1 (something .0, (wf, distinct)), tt),
-            ),
-          ),
-        ),
+        and-both (wait .0) (eq-eqb (c .awaited .id) id (wait .1)),
+        (table-rejected-iff d (w .on) brings (q .table) (w .call .table) .1 (something .0, (wf, distinct)), tt),
       )
+
+  pub page-in-table-resp-exact : Exact d c q pageInIndirectionTableRespStep
+  page-in-table-resp-exact = record { sound = page-in-table-resp-sound; complete = page-in-table-resp-complete; free = λ k. refl }
 
   -- ReceiveLoc
 
-  pub sound10 : Clear (rows10 d c r q) → Next receiveLocStep (cacheVars (next10 c r q))
-  sound10 k =
+  receive-loc-sound : Open d c q receiveLocStep → Clear (ownRows d c q receiveLocStep) → Own d c q receiveLocStep (cacheVars (stepNext c q receiveLocStep))
+  receive-loc-sound taken k =
       let h = simp not-iff at k in
-      frame10 d c q (cacheVars (next10 c r q)) .1 (
-        h .0,
-        (
-          h .1 .0,
-          record {
-            valid = and-right (made d) (ValidIndirectionTableLocation (deviceOf d) vloc) (h .1 .1 .1 .0);
-            before = unready-iff c .1 (h .1 .1 .0);
-            next = refl;
-          },
-        ),
-      )
+      record {
+        valid = and-right (made d) (ValidIndirectionTableLocation (deviceOf d) vloc) (h .0);
+        before = unready-iff c .1 (taken .2);
+        next = refl;
+      }
 
-  pub complete10 : (s' : Variables) → Next receiveLocStep s' → Clear (rows10 d c r q)
-  complete10 s' nx =
-      let u = frame10 d c q s' .0 nx in
-      let p = u .1 .1 in
-      simp not-iff (u .0, (u .1 .0, (unready-iff c .0 (p .before), (and-both on (p .valid), tt))))
+  receive-loc-complete : (s' : Variables) → stepNarrowed c q receiveLocStep ≡ false → Own d c q receiveLocStep s' → Clear (ownRows d c q receiveLocStep)
+  receive-loc-complete s' ns p = simp not-iff (and-both (w .on) (p .valid), tt)
+
+  pub receive-loc-exact : Exact d c q receiveLocStep
+  receive-loc-exact = record { sound = receive-loc-sound; complete = receive-loc-complete; free = λ k. refl }

@@ -9,8 +9,8 @@ use lib.Dec.{eqb, ltb}
 use Rattle.base.proofs.Scan.{some-same}
 use Rattle.base.proofs.Tests.{and-left, and-right, clash, split}
 use Rattle.base.specs.Maps.{del, empty, isSome, put}
+use Rattle.blockcache.specs.Abstract.{readsMap, writeOf, writesMap}
 use Rattle.blockcache.specs.Scan.{reads, writesTo}
-use Rattle.blockcache.specs.Steps.{readsMap, writeOf, writesMap}
 use Rattle.blockcache.specs.Upstream.{OutstandingBlockReadsDoesNotHaveRef, OutstandingWrite}
 use Rattle.disklayout.specs.declared.Location.{Location}
 use Rattle.queue.proofs.Mapped.{mapped-at, mapped-empty-iff, mapped-has, mapped-insert, mapped-none-iff, mapped-remove}

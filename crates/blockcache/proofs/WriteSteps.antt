@@ -9,16 +9,17 @@ use lib.Dec.{eqb}
 use Rattle.base.proofs.Refusals.{Clear}
 use Rattle.base.proofs.Tests.{and-both, and-false-iff, and-iff, and-right, not-iff, or-iff}
 use Rattle.blockcache.proofs.Bridge.{assigned-is, flagged-each-iff, flagged-is-iff, flagged-none-iff, held-iff, no-location-iff}
-use Rattle.blockcache.proofs.Forms.{CacheForm, CallForm, writes-requests}
-use Rattle.blockcache.proofs.Frames.{frame1, frame2, frame3, frame4}
+use Rattle.blockcache.proofs.Forms.{CacheForm, WellFormed, writes-requests}
+use Rattle.blockcache.proofs.Frames.{Exact, Open, Own}
 use Rattle.blockcache.proofs.OpKinds.{on-ready-iff}
 use Rattle.blockcache.proofs.Waiting.{writes-empty-iff, writes-has, writes-insert, writes-remove}
-use Rattle.blockcache.specs.Narrowings.{narrowedWrite}
-use Rattle.blockcache.specs.Next.{assigned, next1, next2, next3, next4}
+use Rattle.blockcache.specs.Abstract.{cacheVars, readyVars}
+use Rattle.blockcache.specs.Narrowings.{stepNarrowed}
+use Rattle.blockcache.specs.Next.{assigned, stepNext}
 use Rattle.blockcache.specs.Ops.{dopId, dopLoc, vopLoc}
-use Rattle.blockcache.specs.Rows.{rows1, rows2, rows3, rows4}
+use Rattle.blockcache.specs.Rows.{ownRows}
 use Rattle.blockcache.specs.Scan.{heldIn}
-use Rattle.blockcache.specs.Steps.{NextStep, Step, cacheVars, callOp, readyVars, writeBackIndirectionTableReqStep, writeBackIndirectionTableRespStep, writeBackNodeReqStep, writeBackNodeRespStep}
+use Rattle.blockcache.specs.Steps.{writeBackIndirectionTableReqStep, writeBackIndirectionTableRespStep, writeBackNodeReqStep, writeBackNodeRespStep}
 use Rattle.blockcache.specs.Upstream.{NoAddr, ValidAllocation, Variables, WriteBackIndirectionTableReq, WriteBackIndirectionTableResp, WriteBackNodeReq, WriteBackNodeResp, assignRefToLocation, setWrites}
 use Rattle.blockcache.specs.declared.CacheState.{CacheState}
 use Rattle.blockcache.specs.declared.Call.{Call}
@@ -34,7 +35,13 @@ use Rattle.sectortype.specs.Same.{sameLoc}
 use Rattle.sectortype.specs.declared.Slot.{Slot}
 use Rattle.sectortype.specs.declared.Table.{Table}
 
-module _ (d : ℕ) (c : CacheState) (r : ℕ) (q : Call) (on : made d ≡ true) (f : CacheForm c) (g : CallForm q) (b : r < 64) where
+module _ (d : ℕ) (c : CacheState) (q : Call) (w : WellFormed d c q) where
+  abbrev r : ℕ
+  r = q .reference
+
+  abbrev f : CacheForm c
+  f = w .form
+
   abbrev id : ℕ
   id = dopId (q .dop)
 
@@ -50,16 +57,13 @@ module _ (d : ℕ) (c : CacheState) (r : ℕ) (q : Call) (on : made d ≡ true) 
   abbrev frozen : Table
   frozen = c .tables .frozen
 
-  abbrev Next : Step → Variables → Type 0
-  Next step s' = NextStep d (cacheVars c) s' (callOp q) (q .vop) step
-
   -- the cached node, where there is one
   cached-form : slot .present ≡ true → nodeForm (slot .node) ≡ true
   cached-form p = nodes-form-at (c .nodes) (f .nodes) r (slot .node) (nodes-at (c .nodes) r p)
 
   allocation-iff : (heldIn (c .tables) writes (loc .addr) ≡ false) ↔ ValidAllocation (readyVars c) loc
   allocation-iff =
-      let h = held-iff (c .tables) writes (f .persistent) (f .ephemeral) (f .frozen) (writes-requests c f) (loc .addr) in
+      let h = held-iff (c .tables) writes (f .tables .persistent) (f .tables .ephemeral) (f .tables .frozen) (writes-requests c f) (loc .addr) in
       let z = flagged-each-iff (c .tables .isfrozen) (indirectionTable frozen) (λ t. NoAddr (t .locs) (loc .addr)) in (
         (λ e. let k = h .0 e in record { persistent = k .0; ephemeral = k .1; frozen = z .1 (k .2); writes = k .3 }),
         (λ v. h .1 (v .persistent, v .ephemeral, z .0 (v .frozen), v .writes)),
@@ -67,191 +71,146 @@ module _ (d : ℕ) (c : CacheState) (r : ℕ) (q : Call) (on : made d ≡ true) 
 
   -- WriteBackNodeReq
 
-  pub sound1 : Clear (rows1 d c r q) → Next (writeBackNodeReqStep r) (cacheVars (next1 c r q))
-  sound1 k =
+  write-back-node-req-sound : Open d c q writeBackNodeReqStep → Clear (ownRows d c q writeBackNodeReqStep) → Own d c q writeBackNodeReqStep (cacheVars (stepNext c q writeBackNodeReqStep))
+  write-back-node-req-sound taken k =
       let h = simp (not-iff, or-iff, and-false-iff) at k in
-      let ready = h .1 .1 .0 in
-      let fresh = h .1 .1 .1 .0 in
-      let valid = h .1 .1 .1 .1 .0 .0 in
-      let free = h .1 .1 .1 .1 .1 .0 in
-      let present = h .1 .1 .1 .1 .1 .1 .0 in
-      let same = h .1 .1 .1 .1 .1 .1 .1 .0 present in
-      let idle = h .1 .1 .1 .1 .1 .1 .1 .1 .0 in
-      let room = h .1 .1 .1 .1 .1 .1 .1 .1 .1 .0 in
-      frame1 d c q (cacheVars (next1 c r q)) r .1 (
-        h .0,
+      let ready = taken .2 in
+      let fresh = h .0 in
+      let valid = h .1 .0 .0 in
+      let free = h .1 .1 .0 in
+      let present = h .1 .1 .1 .0 in
+      let same = h .1 .1 .1 .1 .0 present in
+      let idle = h .1 .1 .1 .1 .1 .0 in
+      let room = h .1 .1 .1 .1 .1 .1 .0 in
+      on-ready-iff (stepNext c q writeBackNodeReqStep) (λ y. WriteBackNodeReq d (readyVars c) y id loc (q .node) r) .1 (
+        ready,
+        record {
+          cached = nodes-at (c .nodes) r present ∙ ap some (same-node-iff (slot .node) (q .node) (cached-form present) (w .call .node) .0 same);
+          valid = and-right (made d) (ValidNodeLocation (deviceOf d) loc) valid;
+          persistentIndirectionTable' = refl;
+          no-table-write = flagged-none-iff (c .awaited .waiting) (c .awaited .id) .0 idle;
+          free = allocation-iff .0 free;
+          ephemeralIndirectionTable' = assigned-is (c .tables .ephemeral) r loc (f .tables .ephemeral) (w .call .reference);
+          frozen-some = λ t e.
+              let p = flagged-is-iff (c .tables .isfrozen) (indirectionTable frozen) t .0 e in
+              flagged-is-iff (c .tables .isfrozen) (indirectionTable (assigned frozen r loc)) (assignRefToLocation t r loc) .1
+              (p .0, assigned-is frozen r loc (f .tables .frozen) (w .call .reference) ∙ ap (λ u. assignRefToLocation u r loc) (p .1));
+          frozen-none = λ e. flagged-none-iff (c .tables .isfrozen) (indirectionTable (assigned frozen r loc)) .0 (flagged-none-iff (c .tables .isfrozen) (indirectionTable frozen) .1 e);
+          cache' = refl;
+          outstandingBlockWrites' = writes-insert writes (writes-requests c f) (record { id = id; reference = r; loc = loc }) (leb-false 16 (writes .count) room) fresh;
+          outstandingBlockReads' = refl;
+          outstandingIndirectionTableWrite' = refl;
+          frozenIndirectionTableLoc' = refl;
+          persistentIndirectionTableLoc' = refl;
+        },
+      )
+
+  write-back-node-req-complete : (s' : Variables) → stepNarrowed c q writeBackNodeReqStep ≡ false → Own d c q writeBackNodeReqStep s' → Clear (ownRows d c q writeBackNodeReqStep)
+  write-back-node-req-complete s' ns (y, e, p) =
+      let n = simp or-iff at ns in
+      let there = nodes-some (c .nodes) r (p .cached) in
+      simp (not-iff, or-iff, and-false-iff) (
+        n .0 .0,
         (
-          h .1 .0,
+          (and-both (w .on) (p .valid), n .0 .1),
           (
-            ready,
-            on-ready-iff (next1 c r q) (λ y. WriteBackNodeReq d (readyVars c) y id loc (q .node) r) .1 (
-              ready,
-              record {
-                cached = nodes-at (c .nodes) r present ∙ ap some (same-node-iff (slot .node) (q .node) (cached-form present) (g .node) .0 same);
-                valid = and-right (made d) (ValidNodeLocation (deviceOf d) loc) valid;
-                persistentIndirectionTable' = refl;
-                no-table-write = flagged-none-iff (c .awaited .waiting) (c .awaited .id) .0 idle;
-                free = allocation-iff .0 free;
-                ephemeralIndirectionTable' = assigned-is (c .tables .ephemeral) r loc (f .ephemeral) b;
-                frozen-some = λ t e.
-                    let p = flagged-is-iff (c .tables .isfrozen) (indirectionTable frozen) t .0 e in
-                    flagged-is-iff (c .tables .isfrozen) (indirectionTable (assigned frozen r loc)) (assignRefToLocation t r loc) .1
-                    (p .0, assigned-is frozen r loc (f .frozen) b ∙ ap (λ u. assignRefToLocation u r loc) (p .1));
-                frozen-none = λ e. flagged-none-iff (c .tables .isfrozen) (indirectionTable (assigned frozen r loc)) .0 (flagged-none-iff (c .tables .isfrozen) (indirectionTable frozen) .1 e);
-                cache' = refl;
-                outstandingBlockWrites' = writes-insert writes (writes-requests c f) (record { id = id; reference = r; loc = loc }) (leb-false 16 (writes .count) room) fresh;
-                outstandingBlockReads' = refl;
-                outstandingIndirectionTableWrite' = refl;
-                frozenIndirectionTableLoc' = refl;
-                persistentIndirectionTableLoc' = refl;
-              },
+            allocation-iff .1 (p .free),
+            (
+              there .0,
+              ((λ e. same-node-iff (slot .node) (q .node) (cached-form e) (w .call .node) .1 (there .1)), (flagged-none-iff (c .awaited .waiting) (c .awaited .id) .1 (p .no-table-write), (n .1, tt))),
             ),
           ),
         ),
       )
 
-  pub complete1 : (s' : Variables) → narrowedWrite c q ≡ false → Next (writeBackNodeReqStep r) s' → Clear (rows1 d c r q)
-  complete1 s' ns nx =
-      let n = simp or-iff at ns in
-      let u = frame1 d c q s' r .0 nx in
-      let p = u .1 .1 .1 .2 in
-      let there = nodes-some (c .nodes) r (p .cached) in
-      simp (not-iff, or-iff, and-false-iff) (
-        u .0,
-        (
-          u .1 .0,
-          (
-            u .1 .1 .0,
-            (
-              n .0 .0,
-              (
-                (and-both on (p .valid), n .0 .1),
-                (
-                  allocation-iff .1 (p .free),
-                  (
-                    there .0,
-                    ((λ e. same-node-iff (slot .node) (q .node) (cached-form e) (g .node) .1 (there .1)), (flagged-none-iff (c .awaited .waiting) (c .awaited .id) .1 (p .no-table-write), (n .1, tt))),
-                  ),
-                ),
-              ),
-            ),
-          ),
-        ),
-      )
+  write-back-node-req-free : Clear (ownRows d c q writeBackNodeReqStep) → stepNarrowed c q writeBackNodeReqStep ≡ false
+  write-back-node-req-free k = let h = simp or-iff at k in or-iff _ _ .1 (or-iff _ _ .1 (h .0, h .1 .0 .1), h .1 .1 .1 .1 .1 .1 .0)
+
+  pub write-back-node-req-exact : Exact d c q writeBackNodeReqStep
+  write-back-node-req-exact = record { sound = write-back-node-req-sound; complete = write-back-node-req-complete; free = write-back-node-req-free }
 
   -- WriteBackNodeResp
 
-  pub sound2 : Clear (rows2 d c r q) → Next writeBackNodeRespStep (cacheVars (next2 c r q))
-  sound2 k =
+  write-back-node-resp-sound : Open d c q writeBackNodeRespStep → Clear (ownRows d c q writeBackNodeRespStep) → Own d c q writeBackNodeRespStep (cacheVars (stepNext c q writeBackNodeRespStep))
+  write-back-node-resp-sound taken k =
       let h = simp not-iff at k in
-      frame2 d c q (cacheVars (next2 c r q)) .1 (
-        h .0,
-        (
-          h .1 .0,
-          (
-            h .1 .1 .0,
-            on-ready-iff (next2 c r q) (λ y. WriteBackNodeResp (readyVars c) y id) .1 (
-              h .1 .1 .0,
-              record { there = writes-has writes id ∙ h .1 .1 .1 .0; next = ap (setWrites (readyVars c)) (writes-remove writes (writes-requests c f) id (h .1 .1 .1 .0)) },
-            ),
-          ),
-        ),
+      on-ready-iff (stepNext c q writeBackNodeRespStep) (λ y. WriteBackNodeResp (readyVars c) y id) .1 (
+        taken .2,
+        record { there = writes-has writes id ∙ h .0; next = ap (setWrites (readyVars c)) (writes-remove writes (writes-requests c f) id (h .0)) },
       )
 
-  pub complete2 : (s' : Variables) → Next writeBackNodeRespStep s' → Clear (rows2 d c r q)
-  complete2 s' nx = let u = frame2 d c q s' .0 nx in simp not-iff (u .0, (u .1 .0, (u .1 .1 .0, (sym (writes-has writes id) ∙ u .1 .1 .1 .2 .there, tt))))
+  write-back-node-resp-complete : (s' : Variables) → stepNarrowed c q writeBackNodeRespStep ≡ false → Own d c q writeBackNodeRespStep s' → Clear (ownRows d c q writeBackNodeRespStep)
+  write-back-node-resp-complete s' ns (y, e, p) = simp not-iff (sym (writes-has writes id) ∙ p .there, tt)
+
+  pub write-back-node-resp-exact : Exact d c q writeBackNodeRespStep
+  write-back-node-resp-exact = record { sound = write-back-node-resp-sound; complete = write-back-node-resp-complete; free = λ k. refl }
 
   -- WriteBackIndirectionTableReq
 
-  pub sound3 : Clear (rows3 d c r q) → Next writeBackIndirectionTableReqStep (cacheVars (next3 c r q))
-  sound3 k =
+  write-back-table-req-sound : Open d c q writeBackIndirectionTableReqStep → Clear (ownRows d c q writeBackIndirectionTableReqStep) → Own d c q writeBackIndirectionTableReqStep (cacheVars (stepNext c q writeBackIndirectionTableReqStep))
+  write-back-table-req-sound taken k =
       let h = simp (not-iff, or-iff, and-false-iff) at k in
-      let ready = h .1 .1 .0 in
-      let place = h .1 .1 .1 .0 in
-      let frz = h .1 .1 .1 .1 .1 .1 .0 in
-      let same = same-table-iff frozen (q .table) (f .frozen) (g .table) .0 (h .1 .1 .1 .1 .0 (frz .0 .0)) in
-      frame3 d c q (cacheVars (next3 c r q)) .1 (
-        h .0,
+      let ready = taken .2 in
+      let place = h .0 in
+      let frz = h .1 .1 .1 .0 in
+      let same = same-table-iff frozen (q .table) (f .tables .frozen) (w .call .table) .0 (h .1 .0 (frz .0 .0)) in
+      on-ready-iff (stepNext c q writeBackIndirectionTableReqStep) (λ y. WriteBackIndirectionTableReq d (readyVars c) y id loc (indirectionTable (q .table))) .1 (
+        ready,
+        record {
+          valid = and-right (made d) (ValidIndirectionTableLocation (deviceOf d) loc) (place .0);
+          frozen = flagged-is-iff (c .tables .isfrozen) (indirectionTable frozen) (indirectionTable (q .table)) .1 (frz .0 .0, ap indirectionTable same);
+          complete = rw same at (no-location-iff frozen (f .tables .frozen) .0 (frz .0 .1));
+          no-writes = writes-empty-iff writes (writes-requests c f) .0 (eqb-true (writes .count) 0 (h .1 .1 .0));
+          no-loc = flagged-none-iff (c .places .isfrozen) (c .places .frozen) .0 (frz .1);
+          apart = place .1 (w .on);
+          next = refl;
+        },
+      )
+
+  write-back-table-req-complete : (s' : Variables) → stepNarrowed c q writeBackIndirectionTableReqStep ≡ false → Own d c q writeBackIndirectionTableReqStep s' → Clear (ownRows d c q writeBackIndirectionTableReqStep)
+  write-back-table-req-complete s' ns (y, e, p) =
+      let z = flagged-is-iff (c .tables .isfrozen) (indirectionTable frozen) (indirectionTable (q .table)) .0 (p .frozen) in
+      let same : frozen ≡ q .table = table-abstract frozen (q .table) (f .tables .frozen) (w .call .table) .0 (z .1) in
+      simp (not-iff, or-iff, and-false-iff) (
+        (and-both (w .on) (p .valid), (λ e. p .apart)),
         (
-          h .1 .0,
+          (λ e. same-table-iff frozen (q .table) (f .tables .frozen) (w .call .table) .1 same),
           (
-            ready,
-            on-ready-iff (next3 c r q) (λ y. WriteBackIndirectionTableReq d (readyVars c) y id loc (indirectionTable (q .table))) .1 (
-              ready,
-              record {
-                valid = and-right (made d) (ValidIndirectionTableLocation (deviceOf d) loc) (place .0);
-                frozen = flagged-is-iff (c .tables .isfrozen) (indirectionTable frozen) (indirectionTable (q .table)) .1 (frz .0 .0, ap indirectionTable same);
-                complete = rw same at (no-location-iff frozen (f .frozen) .0 (frz .0 .1));
-                no-writes = writes-empty-iff writes (writes-requests c f) .0 (eqb-true (writes .count) 0 (h .1 .1 .1 .1 .1 .0));
-                no-loc = flagged-none-iff (c .places .isfrozen) (c .places .frozen) .0 (frz .1);
-                apart = place .1 on;
-                next = refl;
-              },
-            ),
+            eq-eqb (writes .count) 0 (writes-empty-iff writes (writes-requests c f) .1 (p .no-writes)),
+            (((z .0, no-location-iff frozen (f .tables .frozen) .1 (rw same (p .complete))), flagged-none-iff (c .places .isfrozen) (c .places .frozen) .1 (p .no-loc)), tt),
           ),
         ),
       )
 
-  pub complete3 : (s' : Variables) → Next writeBackIndirectionTableReqStep s' → Clear (rows3 d c r q)
-  complete3 s' nx =
-      let u = frame3 d c q s' .0 nx in
-      let p = u .1 .1 .1 .2 in
-      let z = flagged-is-iff (c .tables .isfrozen) (indirectionTable frozen) (indirectionTable (q .table)) .0 (p .frozen) in
-      let same : frozen ≡ q .table = table-abstract frozen (q .table) (f .frozen) (g .table) .0 (z .1) in
-      simp (not-iff, or-iff, and-false-iff) (
-        u .0,
-        (
-          u .1 .0,
-          (
-            u .1 .1 .0,
-            (
-              (and-both on (p .valid), (λ e. p .apart)),
-              (
-                (λ e. same-table-iff frozen (q .table) (f .frozen) (g .table) .1 same),
-                (
-                  eq-eqb (writes .count) 0 (writes-empty-iff writes (writes-requests c f) .1 (p .no-writes)),
-                  (((z .0, no-location-iff frozen (f .frozen) .1 (rw same (p .complete))), flagged-none-iff (c .places .isfrozen) (c .places .frozen) .1 (p .no-loc)), tt),
-                ),
-              ),
-            ),
-          ),
-        ),
-      )
+  pub write-back-table-req-exact : Exact d c q writeBackIndirectionTableReqStep
+  write-back-table-req-exact = record { sound = write-back-table-req-sound; complete = write-back-table-req-complete; free = λ k. refl }
 
   -- WriteBackIndirectionTableResp
 
   abbrev vloc : Location
   vloc = vopLoc (q .vop)
 
-  pub sound4 : Clear (rows4 d c r q) → Next writeBackIndirectionTableRespStep (cacheVars (next4 c r q))
-  sound4 k =
+  write-back-table-resp-sound : Open d c q writeBackIndirectionTableRespStep → Clear (ownRows d c q writeBackIndirectionTableRespStep) → Own d c q writeBackIndirectionTableRespStep (cacheVars (stepNext c q writeBackIndirectionTableRespStep))
+  write-back-table-resp-sound taken k =
       let h = simp not-iff at k in
-      let ready = h .1 .1 .0 in
-      let wait = and-iff (c .awaited .waiting) (eqb (c .awaited .id) id) .0 (h .1 .1 .1 .0) in
-      let place = and-iff (c .places .isfrozen) (sameLoc (c .places .frozen) vloc) .0 (h .1 .1 .1 .1 .0) in
-      frame4 d c q (cacheVars (next4 c r q)) .1 (
-        h .0,
-        (
-          h .1 .0,
-          (
-            ready,
-            on-ready-iff (next4 c r q) (λ y. WriteBackIndirectionTableResp (readyVars c) y id vloc) .1 (
-              ready,
-              record {
-                frozen-loc = sym (flagged-is-iff (c .places .isfrozen) (c .places .frozen) vloc .1 (place .0, same-loc-iff (c .places .frozen) vloc .0 (place .1)));
-                awaited = flagged-is-iff (c .awaited .waiting) (c .awaited .id) id .1 (wait .0, eqb-true (c .awaited .id) id (wait .1));
-                next = refl;
-              },
-            ),
-          ),
-        ),
+      let ready = taken .2 in
+      let wait = and-iff (c .awaited .waiting) (eqb (c .awaited .id) id) .0 (h .0) in
+      let place = and-iff (c .places .isfrozen) (sameLoc (c .places .frozen) vloc) .0 (h .1 .0) in
+      on-ready-iff (stepNext c q writeBackIndirectionTableRespStep) (λ y. WriteBackIndirectionTableResp (readyVars c) y id vloc) .1 (
+        ready,
+        record {
+          frozen-loc = sym (flagged-is-iff (c .places .isfrozen) (c .places .frozen) vloc .1 (place .0, same-loc-iff (c .places .frozen) vloc .0 (place .1)));
+          awaited = flagged-is-iff (c .awaited .waiting) (c .awaited .id) id .1 (wait .0, eqb-true (c .awaited .id) id (wait .1));
+          next = refl;
+        },
       )
 
-  pub complete4 : (s' : Variables) → Next writeBackIndirectionTableRespStep s' → Clear (rows4 d c r q)
-  complete4 s' nx =
-      let u = frame4 d c q s' .0 nx in
-      let p = u .1 .1 .1 .2 in
+  write-back-table-resp-complete : (s' : Variables) → stepNarrowed c q writeBackIndirectionTableRespStep ≡ false → Own d c q writeBackIndirectionTableRespStep s' → Clear (ownRows d c q writeBackIndirectionTableRespStep)
+  write-back-table-resp-complete s' ns (y, e, p) =
       let wait = flagged-is-iff (c .awaited .waiting) (c .awaited .id) id .0 (p .awaited) in
       let place = flagged-is-iff (c .places .isfrozen) (c .places .frozen) vloc .0 (sym (p .frozen-loc)) in
       simp not-iff
-      (u .0, (u .1 .0, (u .1 .1 .0, (and-both (wait .0) (eq-eqb (c .awaited .id) id (wait .1)), (and-both (place .0) (same-loc-iff (c .places .frozen) vloc .1 (place .1)), tt)))))
+      (and-both (wait .0) (eq-eqb (c .awaited .id) id (wait .1)), (and-both (place .0) (same-loc-iff (c .places .frozen) vloc .1 (place .1)), tt))
+
+  pub write-back-table-resp-exact : Exact d c q writeBackIndirectionTableRespStep
+  write-back-table-resp-exact = record { sound = write-back-table-resp-sound; complete = write-back-table-resp-complete; free = λ k. refl }

@@ -1,7 +1,9 @@
 -- What the cache's contracts cite, and upstream's BlockCache, which the theorem of demand 2 compares with it.
+pub mod Abstract
 pub mod Form
 pub mod Narrowings
 pub mod Next
+pub mod NextStep
 pub mod Ops
 pub mod Rows
 pub mod Scan

@@ -1,13 +1,15 @@
 -- The next cache of each step: only what a step sets; every other part goes through a setter, one for each group of fields.
 use Prim.Native.Nat.{ℕ}
 use mathlib.Core.Bool.{_&&_, cond, false, not, true}
-use Rattle.blockcache.specs.Form.{loadingAt, notWaiting}
+use Rattle.blockcache.specs.Form.{emptyCache, loadingAt, notWaiting}
 use Rattle.blockcache.specs.Ops.{dopId, dopLoc, vopLoc}
 use Rattle.blockcache.specs.Scan.{reads}
+use Rattle.blockcache.specs.Steps.{Step, allocStep, cleanUpStep, crashStep, dirtyStep, evictStep, freezeStep, noOpStep, pageInIndirectionTableReqStep, pageInIndirectionTableRespStep, pageInNodeReqStep, pageInNodeRespStep, readStep, receiveLocStep, unallocStep, writeBackIndirectionTableReqStep, writeBackIndirectionTableRespStep, writeBackNodeReqStep, writeBackNodeRespStep}
 use Rattle.blockcache.specs.declared.Awaited.{Awaited}
 use Rattle.blockcache.specs.declared.CacheState.{CacheState}
 use Rattle.blockcache.specs.declared.Call.{Call}
 use Rattle.blockcache.specs.declared.Outstanding.{Outstanding}
+use Rattle.blockcache.specs.declared.Phase.{Phase}
 use Rattle.blockcache.specs.declared.Phase.the-variants.{Loading, Ready}
 use Rattle.blockcache.specs.declared.Places.{Places}
 use Rattle.blockcache.specs.declared.Tables.{Tables}
@@ -24,6 +26,9 @@ use Rattle.sectortype.specs.declared.Succs.{Succs}
 use Rattle.sectortype.specs.declared.Table.{Table}
 
 -- THE SETTERS
+
+abbrev pub withPhase : CacheState → Phase → CacheState
+withPhase c p = record { phase = p; tables = c .tables; places = c .places; awaited = c .awaited; outstanding = c .outstanding; nodes = c .nodes }
 
 abbrev pub withTables : CacheState → Tables → CacheState
 withTables c ts = record { phase = c .phase; tables = ts; places = c .places; awaited = c .awaited; outstanding = c .outstanding; nodes = c .nodes }
@@ -71,73 +76,50 @@ cachedSlot n = record { present = true; node = n }
 
 -- THE STEPS
 
-module _ (c : CacheState) (r : ℕ) (q : Call) where
+module _ (c : CacheState) (q : Call) where
+  abbrev r : ℕ
+  r = q .reference
+
   abbrev id : ℕ
   id = dopId (q .dop)
 
   abbrev loc : Location
   loc = dopLoc (q .dop)
 
-  abbrev pub next1 : CacheState
-  next1 =
+  -- a reference's node set, by Dirty and Alloc
+  abbrev withNode : CacheState
+  withNode = withNodes (withEphemeral c (withEntry (c .tables .ephemeral) r (unlocated (q .node .succs)))) (withSlot (c .nodes) r (cachedSlot (q .node)))
+
+  abbrev pub stepNext : Step → CacheState
+  stepNext writeBackNodeReqStep =
       withWrites
       (withTables c
       (record { persistent = c .tables .persistent; ephemeral = assigned (c .tables .ephemeral) r loc; isfrozen = c .tables .isfrozen; frozen = assigned (c .tables .frozen) r loc }))
       (insertOf (c .outstanding .writes) (record { id = id; reference = r; loc = loc }))
-
-  abbrev pub next2 : CacheState
-  next2 = withWrites c (removeOf (c .outstanding .writes) id)
-
-  abbrev pub next3 : CacheState
-  next3 = withAwaited (withPlaces c (record { persistent = c .places .persistent; isfrozen = true; frozen = loc })) (waitingFor id)
-
-  abbrev pub next4 : CacheState
-  next4 = withAwaited c notWaiting
-
-  abbrev pub next5 : CacheState
-  next5 = withNodes (withEphemeral c (withEntry (c .tables .ephemeral) r zeroEntry)) (withSlot (c .nodes) r zeroSlot)
-
-  abbrev pub next6 : CacheState
-  next6 = withReads c (insertOf (c .outstanding .reads) (record { id = id; reference = r; loc = zeroLoc }))
-
-  abbrev pub next7 : CacheState
-  next7 =
+  stepNext writeBackNodeRespStep = withWrites c (removeOf (c .outstanding .writes) id)
+  stepNext writeBackIndirectionTableReqStep = withAwaited (withPlaces c (record { persistent = c .places .persistent; isfrozen = true; frozen = loc })) (waitingFor id)
+  stepNext writeBackIndirectionTableRespStep = withAwaited c notWaiting
+  stepNext unallocStep = withNodes (withEphemeral c (withEntry (c .tables .ephemeral) r zeroEntry)) (withSlot (c .nodes) r zeroSlot)
+  stepNext pageInNodeReqStep = withReads c (insertOf (c .outstanding .reads) (record { id = id; reference = r; loc = zeroLoc }))
+  stepNext pageInNodeRespStep =
       withReads (withNodes c (withSlot (c .nodes) (entryOf (c .outstanding .reads) id .reference) (cachedSlot (q .node))))
       (removeOf (c .outstanding .reads) id)
-
-  abbrev pub next8 : CacheState
-  next8 = withAwaited c (waitingFor id)
-
-  abbrev pub next9 : CacheState
-  next9 =
-      record {
-        phase = Ready;
-        tables = record { persistent = q .table; ephemeral = q .table; isfrozen = false; frozen = emptyTable };
-        places = c .places;
-        awaited = notWaiting;
-        outstanding = c .outstanding;
-        nodes = c .nodes;
-      }
-
-  abbrev pub next10 : CacheState
-  next10 = loadingAt Loading (vopLoc (q .vop))
-
-  abbrev pub next11 : CacheState
-  next11 = withNodes c (withSlot (c .nodes) r zeroSlot)
-
+  stepNext pageInIndirectionTableReqStep = withAwaited c (waitingFor id)
+  stepNext pageInIndirectionTableRespStep =
+      withPhase (withAwaited (withTables c (record { persistent = q .table; ephemeral = q .table; isfrozen = false; frozen = emptyTable })) notWaiting) Ready
+  stepNext receiveLocStep = loadingAt Loading (vopLoc (q .vop))
+  stepNext evictStep = withNodes c (withSlot (c .nodes) r zeroSlot)
   -- a frozen place, if set, is dropped
-  abbrev pub next12 : CacheState
-  next12 =
+  stepNext freezeStep =
       withPlaces
       (withTables c (record { persistent = c .tables .persistent; ephemeral = c .tables .ephemeral; isfrozen = true; frozen = c .tables .ephemeral }))
       (record { persistent = c .places .persistent; isfrozen = false; frozen = zeroLoc })
-
-  abbrev pub next13 : CacheState
-  next13 =
+  stepNext cleanUpStep =
       withPlaces
       (withTables c (record { persistent = c .tables .frozen; ephemeral = c .tables .ephemeral; isfrozen = false; frozen = emptyTable }))
       (record { persistent = c .places .frozen; isfrozen = false; frozen = zeroLoc })
-
-  -- Dirty and Alloc
-  abbrev pub next15 : CacheState
-  next15 = withNodes (withEphemeral c (withEntry (c .tables .ephemeral) r (unlocated (q .node .succs)))) (withSlot (c .nodes) r (cachedSlot (q .node)))
+  stepNext noOpStep = c
+  stepNext dirtyStep = withNode
+  stepNext allocStep = withNode
+  stepNext readStep = c
+  stepNext crashStep = emptyCache

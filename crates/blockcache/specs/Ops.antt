@@ -1,4 +1,4 @@
--- A version operation and a disk operation as numbers: its kind, and what it carries, zeros where it carries none.
+-- A version operation and a disk operation as numbers: its kind, by name, and what it carries, zeros where it carries none.
 use Prim.Native.Nat.{ℕ}
 use mathlib.Core.Bool.{Bool, false}
 use Rattle.disklayout.specs.Calls.{zeroLoc}
@@ -10,17 +10,78 @@ use Rattle.blockdisk.specs.declared.DiskOp.{DiskOp}
 use Rattle.blockdisk.specs.declared.DiskOp.the-variants.{NoDiskOp, ReqReadIndirectionTableOp, ReqReadNodeOp, ReqWriteIndirectionTableOp, ReqWriteNodeOp, RespReadIndirectionTableOp, RespReadNodeOp, RespWriteIndirectionTableOp, RespWriteNodeOp}
 use Rattle.disklayout.specs.declared.Location.{Location}
 
+-- THE KINDS
+
+abbrev pub internal : ℕ
+internal = 1
+
+abbrev pub journalInternal : ℕ
+journalInternal = 2
+
+abbrev pub sendPersistentLoc : ℕ
+sendPersistentLoc = 3
+
+abbrev pub sendFrozenLoc : ℕ
+sendFrozenLoc = 4
+
+abbrev pub advance : ℕ
+advance = 5
+
+abbrev pub freeze : ℕ
+freeze = 6
+
+abbrev pub cleanUp : ℕ
+cleanUp = 7
+
+abbrev pub pushSync : ℕ
+pushSync = 8
+
+abbrev pub popSync : ℕ
+popSync = 9
+
+abbrev pub crash : ℕ
+crash = 10
+
+abbrev pub noDop : ℕ
+noDop = 0
+
+abbrev pub tableReadReq : ℕ
+tableReadReq = 1
+
+abbrev pub nodeReadReq : ℕ
+nodeReadReq = 2
+
+abbrev pub tableWriteReq : ℕ
+tableWriteReq = 3
+
+abbrev pub nodeWriteReq : ℕ
+nodeWriteReq = 4
+
+abbrev pub tableReadResp : ℕ
+tableReadResp = 5
+
+abbrev pub nodeReadResp : ℕ
+nodeReadResp = 6
+
+abbrev pub tableWriteResp : ℕ
+tableWriteResp = 7
+
+abbrev pub nodeWriteResp : ℕ
+nodeWriteResp = 8
+
+-- WHAT AN OPERATION IS AND CARRIES
+
 abbrev pub vopKind : VersionOp → ℕ
-vopKind StatesInternalOp = 1
-vopKind JournalInternalOp = 2
-vopKind (SendPersistentLocOp l) = 3
-vopKind (SendFrozenLocOp l) = 4
-vopKind (AdvanceOp b) = 5
-vopKind FreezeOp = 6
-vopKind CleanUpOp = 7
-vopKind PushSyncOp = 8
-vopKind PopSyncOp = 9
-vopKind CrashOp = 10
+vopKind StatesInternalOp = internal
+vopKind JournalInternalOp = journalInternal
+vopKind (SendPersistentLocOp l) = sendPersistentLoc
+vopKind (SendFrozenLocOp l) = sendFrozenLoc
+vopKind (AdvanceOp b) = advance
+vopKind FreezeOp = freeze
+vopKind CleanUpOp = cleanUp
+vopKind PushSyncOp = pushSync
+vopKind PopSyncOp = popSync
+vopKind CrashOp = crash
 
 abbrev pub vopLoc : VersionOp → Location
 vopLoc StatesInternalOp = zeroLoc
@@ -48,15 +109,15 @@ vopNoOp PopSyncOp = false
 vopNoOp CrashOp = false
 
 abbrev pub dopKind : DiskOp → ℕ
-dopKind (ReqReadIndirectionTableOp id l) = 1
-dopKind (ReqReadNodeOp id l) = 2
-dopKind (ReqWriteIndirectionTableOp id l) = 3
-dopKind (ReqWriteNodeOp id l) = 4
-dopKind (RespReadIndirectionTableOp id b) = 5
-dopKind (RespReadNodeOp id b) = 6
-dopKind (RespWriteIndirectionTableOp id) = 7
-dopKind (RespWriteNodeOp id) = 8
-dopKind NoDiskOp = 0
+dopKind (ReqReadIndirectionTableOp id l) = tableReadReq
+dopKind (ReqReadNodeOp id l) = nodeReadReq
+dopKind (ReqWriteIndirectionTableOp id l) = tableWriteReq
+dopKind (ReqWriteNodeOp id l) = nodeWriteReq
+dopKind (RespReadIndirectionTableOp id b) = tableReadResp
+dopKind (RespReadNodeOp id b) = nodeReadResp
+dopKind (RespWriteIndirectionTableOp id) = tableWriteResp
+dopKind (RespWriteNodeOp id) = nodeWriteResp
+dopKind NoDiskOp = noDop
 
 abbrev pub dopId : DiskOp → ℕ
 dopId (ReqReadIndirectionTableOp id l) = id

@@ -24,8 +24,8 @@ use crate::write::write_back_indirection_table_req;
 use crate::write::write_back_indirection_table_resp;
 use crate::write::write_back_node_req;
 use crate::write::write_back_node_resp;
-use blockcache::CacheState;
 use blockcache::CacheOutcome;
+use blockcache::CacheState;
 use blockcache::Call;
 
 // The step alone, on a cache and a call in their written form.

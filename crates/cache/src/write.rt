@@ -16,8 +16,8 @@ use crate::refusal::first_three;
 use crate::scan::held;
 use crate::scan::lacks_location;
 use blockcache::Awaited;
-use blockcache::CacheState;
 use blockcache::CacheOutcome;
+use blockcache::CacheState;
 use blockcache::Call;
 use blockcache::Phase;
 use disklayout::Location;
@@ -150,7 +150,12 @@ fn write_back_node_resp_refusal(c: CacheState, device: u64, r: usize, q: Call) -
     first_three(vk != 1, dk != 8, !ready, n5)
 }
 
-pub(crate) fn write_back_node_resp(mut c: CacheState, device: u64, r: usize, q: Call) -> CacheOutcome
+pub(crate) fn write_back_node_resp(
+    mut c: CacheState,
+    device: u64,
+    r: usize,
+    q: Call,
+) -> CacheOutcome
     ensures { λ o. ⌜ o ≡ outcome (rows2 device c r q) (next2 c r q) c ⌝ }
 {
     let n = write_back_node_resp_refusal(c, device, r, q);

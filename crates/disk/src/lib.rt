@@ -8,7 +8,7 @@ pub use crashing::crash;
 pub use crashing::empty_queues;
 pub use form::records_ok;
 pub use ops::next;
-pub use read::zero_node_record;
 pub use read::empty_records;
 pub use read::node_at;
 pub use read::table_at;
+pub use read::zero_node_record;

@@ -1,7 +1,7 @@
 // Number 1: lists, tables and queues that are not in their written form, at each place where one can stand.
-use blockdisk::DiskState;
 use blockdisk::DiskCall;
 use blockdisk::DiskOp;
+use blockdisk::DiskState;
 use blockdisk::Records;
 use disklayout::Location;
 use fixtures::AREA1;

@@ -1,8 +1,8 @@
 // A million calls of the disk that do nothing but judge its written form, to be timed: `time target/bin/formspeed`.
 // Prints how many were accepted.
-use blockdisk::DiskState;
 use blockdisk::DiskCall;
 use blockdisk::DiskOp;
+use blockdisk::DiskState;
 
 fn empty() -> DiskState {
     let records = disk::empty_records();

@@ -11,8 +11,8 @@ use blockcache::CacheState;
 use blockcache::Call;
 use blockcache::Phase;
 use blockdisk::Brought;
-use blockdisk::DiskState;
 use blockdisk::DiskOp;
+use blockdisk::DiskState;
 use sectortype::Node;
 use sectortype::Nodes;
 use sectortype::Table;
@@ -154,7 +154,13 @@ fn node_value(
     }
 }
 
-fn table_value(w: TableWord, id: u64, device: u64, cache: CacheState, disk: DiskState) -> BroughtTable
+fn table_value(
+    w: TableWord,
+    id: u64,
+    device: u64,
+    cache: CacheState,
+    disk: DiskState,
+) -> BroughtTable
     ensures { λ r. ⌜ r ≡ tableValue (w .source) (w .table) id device cache disk ⌝ }
 {
     let ready = is_ready(cache);

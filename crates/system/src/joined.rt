@@ -5,9 +5,9 @@ ghost use Rattle.blocksystem.specs.Joined.{diskCall, startRows, joined};
 use crate::start::wf_succs;
 use blockcache::CacheState;
 use blockcache::Call;
-use blockdisk::DiskState;
 use blockdisk::DiskCall;
 use blockdisk::DiskOp;
+use blockdisk::DiskState;
 use blockdisk::Records;
 use blocksystem::Outcome;
 
@@ -60,7 +60,14 @@ fn ask_start(device: u64, q: Call, s: DiskState) -> u64
 
 // A crash is offered records, every other step asks the disk for its operation, and a start alone asks for a graph. The three are
 // asked here and not in a function between, as each call by value copies the disk.
-pub fn step(device: u64, number: u64, q: Call, offered: Records, c: CacheState, s: DiskState) -> Outcome
+pub fn step(
+    device: u64,
+    number: u64,
+    q: Call,
+    offered: Records,
+    c: CacheState,
+    s: DiskState,
+) -> Outcome
     ensures { λ o. ⌜ o ≡ joined device number q offered c s ⌝ }
 {
     let a = cache::step(c, device, number, q);

@@ -6,7 +6,7 @@ use borrow.Author.Needs.{needs}
 use Rattle.base.proofs.Scan.{some-at, some-end, some-none, some-turn}
 use Rattle.base.specs.Scan.{someBelow}
 use Rattle.cache.proofs.scan.has_predecessor.Statement.{statement}
-use Rattle.blockcache.specs.Scan.{listNames, named, namesAt}
+use Rattle.blockcache.specs.Scan.{listNames, hasPredecessor, namesAt}
 use Rattle.sectortype.specs.Form.{entryAt, succAt}
 use Rattle.cache.proofs.scan.has_predecessor.Tie as tie
 

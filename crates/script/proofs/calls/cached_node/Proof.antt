@@ -35,7 +35,7 @@ zero-node-requires-2 c κs = search needs
 
 returns-3 : tie.Need-returns-3
 unfolding cachedNode
-returns-3 c = simp (c .before .if2 .left) (c .empty-node2 .ensures)
+returns-3 c = simp (c .before .if2 .left) (c .zero-node2 .ensures)
 
 pub cached-node-spec : {M : Type 1} → statement M
 cached-node-spec =
