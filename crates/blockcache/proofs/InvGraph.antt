@@ -59,33 +59,29 @@ module _ (d : ℕ) (s s' : Ready) (ref : ℕ) (v : InvReady d s) (u : Unalloc s 
   without-wf : WFIndirectionTable d (record { locs = del locs ref; graph = del graph ref })
   without-wf =
       record {
-        valid = λ j l e. v .ephemeral .valid j l (del-some locs ref j e .1);
-        keys = λ j i. let h = in-del locs ref j i in in-del-other graph ref j (h .0) (v .ephemeral .keys j (h .1));
-        root = in-del-other graph ref 0 (λ q. u .not-root (sym q)) (v .ephemeral .root);
+        valid = λ j l e. v .ephemeral .wf .valid j l (del-some locs ref j e .1);
+        keys = λ j i. let h = in-del locs ref j i in in-del-other graph ref j (h .0) (v .ephemeral .wf .keys j (h .1));
+        root = in-del-other graph ref 0 (λ q. u .not-root (sym q)) (v .ephemeral .wf .root);
         graphClosed = λ j list e k m.
             let h = del-some graph ref j e .1 in
-            in-del-other graph ref k (λ q. clash {b = hasSucc list ref} (rw q at m) (u .no-predecessors j list h)) (v .ephemeral .graphClosed j list h k m);
+            in-del-other graph ref k (λ q. clash {b = hasSucc list ref} (rw q at m) (u .no-predecessors j list h)) (v .ephemeral .wf .graphClosed j list h k m);
       }
 
   pub unalloc-kept : InvReady d (setEphemeral s (record { locs = del locs ref; graph = del graph ref }) (del nodes ref))
   unalloc-kept =
       record {
         persistent = v .persistent;
-        ephemeral = without-wf;
-        consistent = λ j i. let h = in-del graph ref j i in ⊎-elim (λ x. inl (in-del-other nodes ref j (h .0) x)) (λ x. inr (in-del-other locs ref j (h .0) x)) (v .consistent j (h .1));
-        successors = λ j n list m e. v .successors j n list (del-some nodes ref j m .1) (del-some graph ref j e .1);
-        not-written = λ j i a k w m l e. let h = in-del graph ref j i in v .not-written j (h .1) (sym (del-other nodes ref j (h .0)) ∙ a) k w m l (del-some locs ref j e .1);
-        reads-unique = v .reads-unique;
-        ephemeral-overlapping = λ j l e. v .ephemeral-overlapping j l (del-some locs ref j e .1);
-        persistent-overlapping = v .persistent-overlapping;
-        writes-valid = v .writes-valid;
-        writes-apart = v .writes-apart;
-        distinct = λ i j l k e m. v .distinct i j l k (del-some locs ref i e .1) (del-some locs ref j m .1);
-        persistent-distinct = v .persistent-distinct;
+        ephemeral = record {
+          wf = without-wf;
+          consistent = λ j i. let h = in-del graph ref j i in ⊎-elim (λ x. inl (in-del-other nodes ref j (h .0) x)) (λ x. inr (in-del-other locs ref j (h .0) x)) (v .ephemeral .consistent j (h .1));
+          successors = λ j n list m e. v .ephemeral .successors j n list (del-some nodes ref j m .1) (del-some graph ref j e .1);
+          not-written = λ j i a k w m l e. let h = in-del graph ref j i in v .ephemeral .not-written j (h .1) (sym (del-other nodes ref j (h .0)) ∙ a) k w m l (del-some locs ref j e .1);
+          overlapping = λ j l e. v .ephemeral .overlapping j l (del-some locs ref j e .1);
+          distinct = λ i j l k e m. v .ephemeral .distinct i j l k (del-some locs ref i e .1) (del-some locs ref j m .1);
+        };
         frozen = λ t e. frozen-uncached d t nodes (s .outstandingBlockWrites) ref (u .frozen-located t e) (v .frozen t e);
-        table-write = v .table-write;
-        persistent-valid = v .persistent-valid;
-        frozen-loc = v .frozen-loc;
+        outstanding = v .outstanding;
+        places = v .places;
       }
 
 -- EVICT
@@ -102,32 +98,28 @@ module _ (d : ℕ) (s s' : Ready) (ref : ℕ) (v : InvReady d s) (u : Evict s s'
   not-written-after j i a k w m l e same addr =
       split (eqb j ref)
       (λ y. let q : j ≡ ref = eqb-true j ref y in
-      let at : l ≡ w .loc = v .ephemeral-overlapping j l e k w m (sym addr) in
+      let at : l ≡ w .loc = v .ephemeral .overlapping j l e k w m (sym addr) in
       let is : w ≡ record { ref = ref; loc = l } = let p = same ∙ q in let o = sym at in λ z. record { ref = p z; loc = o z } in
       u .not-written (rw q at i) l (rw q at e) k (m ∙ ap some is))
-      (λ y. v .not-written j i (sym (del-other (s .cache) ref j (eqb-false j ref y)) ∙ a) k w m l e same addr)
+      (λ y. v .ephemeral .not-written j i (sym (del-other (s .cache) ref j (eqb-false j ref y)) ∙ a) k w m l e same addr)
 
   pub evict-kept : InvReady d (setCache s (del (s .cache) ref))
   evict-kept =
       record {
         persistent = v .persistent;
-        ephemeral = v .ephemeral;
-        consistent = λ j i. split (eqb j ref)
-            (λ y. let q : j ≡ ref = eqb-true j ref y in inr (rw q (u .located (rw q at i))))
-            (λ y. ⊎-elim (λ x. inl (in-del-other (s .cache) ref j (eqb-false j ref y) x)) (λ x. inr x) (v .consistent j i));
-        successors = λ j n list m e. v .successors j n list (del-some (s .cache) ref j m .1) e;
-        not-written = not-written-after;
-        reads-unique = v .reads-unique;
-        ephemeral-overlapping = v .ephemeral-overlapping;
-        persistent-overlapping = v .persistent-overlapping;
-        writes-valid = v .writes-valid;
-        writes-apart = v .writes-apart;
-        distinct = v .distinct;
-        persistent-distinct = v .persistent-distinct;
+        ephemeral = record {
+          wf = v .ephemeral .wf;
+          consistent = λ j i. split (eqb j ref)
+              (λ y. let q : j ≡ ref = eqb-true j ref y in inr (rw q (u .located (rw q at i))))
+              (λ y. ⊎-elim (λ x. inl (in-del-other (s .cache) ref j (eqb-false j ref y) x)) (λ x. inr x) (v .ephemeral .consistent j i));
+          successors = λ j n list m e. v .ephemeral .successors j n list (del-some (s .cache) ref j m .1) e;
+          not-written = not-written-after;
+          overlapping = v .ephemeral .overlapping;
+          distinct = v .ephemeral .distinct;
+        };
         frozen = λ t e. frozen-uncached d t (s .cache) writes ref (u .frozen-located t e) (v .frozen t e);
-        table-write = v .table-write;
-        persistent-valid = v .persistent-valid;
-        frozen-loc = v .frozen-loc;
+        outstanding = v .outstanding;
+        places = v .places;
       }
 
 -- DIRTY AND ALLOC: the reference's list is in the graph, its node cached, and it has no location
@@ -148,12 +140,12 @@ module _ (d : ℕ) (s : Ready) (ref : ℕ) (list : Succs) (block : Node) (v : In
   set-wf : WFIndirectionTable d (record { locs = del locs' ref; graph = put graph' ref list })
   set-wf =
       record {
-        valid = λ j l e. v .ephemeral .valid j l (del-some locs' ref j e .1);
-        keys = λ j i. in-put graph' ref list j (v .ephemeral .keys j (in-del locs' ref j i .1));
-        root = in-put graph' ref list 0 (v .ephemeral .root);
+        valid = λ j l e. v .ephemeral .wf .valid j l (del-some locs' ref j e .1);
+        keys = λ j i. in-put graph' ref list j (v .ephemeral .wf .keys j (in-del locs' ref j i .1));
+        root = in-put graph' ref list 0 (v .ephemeral .wf .root);
         graphClosed = λ j l e k m.
             in-put graph' ref list k
-            (⊎-elim (λ x. points k (sym (succs k) ∙ ap (λ z. hasSucc z k) (x .1) ∙ m)) (λ x. v .ephemeral .graphClosed j l (x .1) k m) (put-some graph' ref list j e));
+            (⊎-elim (λ x. points k (sym (succs k) ∙ ap (λ z. hasSucc z k) (x .1) ∙ m)) (λ x. v .ephemeral .wf .graphClosed j l (x .1) k m) (put-some graph' ref list j e));
       }
 
   set-consistent : IndirectionTableCacheConsistent (record { locs = del locs' ref; graph = put graph' ref list }) (put nodes' ref block)
@@ -161,34 +153,30 @@ module _ (d : ℕ) (s : Ready) (ref : ℕ) (list : Succs) (block : Node) (v : In
       split (eqb j ref)
       (λ y. let q : j ≡ ref = eqb-true j ref y in inl (rw q (in-put-same nodes' ref block)))
       (λ y. let ne = eqb-false j ref y in
-      ⊎-elim (λ x. inl (in-put nodes' ref block j x)) (λ x. inr (in-del-other locs' ref j ne x)) (v .consistent j (in-put-old graph' ref list j ne i)))
+      ⊎-elim (λ x. inl (in-put nodes' ref block j x)) (λ x. inr (in-del-other locs' ref j ne x)) (v .ephemeral .consistent j (in-put-old graph' ref list j ne i)))
 
   set-successors : CacheConsistentWithSuccessors (put nodes' ref block) (put graph' ref list)
   set-successors j n l m e k =
       ⊎-elim
       (λ x. ⊎-elim (λ y. ap (λ z. hasSucc z k) (sym (y .1)) ∙ succs k ∙ ap (λ (z : Node). hasSucc (z .succs) k) (x .1)) (λ y. absurd (y .0 (x .0))) (put-some graph' ref list j e))
-      (λ x. ⊎-elim (λ y. absurd (x .0 (y .0))) (λ y. v .successors j n l (x .1) (y .1) k) (put-some graph' ref list j e))
+      (λ x. ⊎-elim (λ y. absurd (x .0 (y .0))) (λ y. v .ephemeral .successors j n l (x .1) (y .1) k) (put-some graph' ref list j e))
       (put-some nodes' ref block j m)
 
   pub set-kept : InvReady d after
   set-kept =
       record {
         persistent = v .persistent;
-        ephemeral = set-wf;
-        consistent = set-consistent;
-        successors = set-successors;
-        not-written = λ j i a k w m l e. let h = put-none nodes' ref block j a in v .not-written j (in-put-old graph' ref list j (h .0) i) (h .1) k w m l (del-some locs' ref j e .1);
-        reads-unique = v .reads-unique;
-        ephemeral-overlapping = λ j l e. v .ephemeral-overlapping j l (del-some locs' ref j e .1);
-        persistent-overlapping = v .persistent-overlapping;
-        writes-valid = v .writes-valid;
-        writes-apart = v .writes-apart;
-        distinct = λ i j l k e m. v .distinct i j l k (del-some locs' ref i e .1) (del-some locs' ref j m .1);
-        persistent-distinct = v .persistent-distinct;
+        ephemeral = record {
+          wf = set-wf;
+          consistent = set-consistent;
+          successors = set-successors;
+          not-written = λ j i a k w m l e. let h = put-none nodes' ref block j a in v .ephemeral .not-written j (in-put-old graph' ref list j (h .0) i) (h .1) k w m l (del-some locs' ref j e .1);
+          overlapping = λ j l e. v .ephemeral .overlapping j l (del-some locs' ref j e .1);
+          distinct = λ i j l k e m. v .ephemeral .distinct i j l k (del-some locs' ref i e .1) (del-some locs' ref j m .1);
+        };
         frozen = λ t e. frozen-cached d t nodes' (s .outstandingBlockWrites) ref block (v .frozen t e);
-        table-write = v .table-write;
-        persistent-valid = v .persistent-valid;
-        frozen-loc = v .frozen-loc;
+        outstanding = v .outstanding;
+        places = v .places;
       }
 
 pub dirty-fixed : (s s' : Ready) (ref : ℕ) (block : Node) (u : Dirty s s' ref block) →
@@ -202,6 +190,6 @@ pub alloc-fixed : (d : ℕ) (s s' : Ready) (ref : ℕ) (block : Node) → InvRea
     s' ≡ setEphemeral s (record { locs = del (s .ephemeralIndirectionTable .locs) ref; graph = put (s .ephemeralIndirectionTable .graph) ref (u .list) }) (put (s .cache) ref block)
 alloc-fixed d s s' ref block v u =
     let locs = s .ephemeralIndirectionTable .locs in
-    let absent : locs ref ≡ none = none-iff (locs ref) .0 (split (isSome (locs ref)) (λ t. clash {b = isSome (s .ephemeralIndirectionTable .graph ref)} (v .ephemeral .keys ref t) (ap isSome (u .not-allocated))) (λ t. t)) in
+    let absent : locs ref ≡ none = none-iff (locs ref) .0 (split (isSome (locs ref)) (λ t. clash {b = isSome (s .ephemeralIndirectionTable .graph ref)} (v .ephemeral .wf .keys ref t) (ap isSome (u .not-allocated))) (λ t. t)) in
     ready-ext (u .persistentIndirectionTable') (u .frozenIndirectionTable') (table-is (u .locs' ∙ sym (del-absent locs ref absent)) (u .graph')) (u .persistentIndirectionTableLoc')
     (u .frozenIndirectionTableLoc') (u .outstandingIndirectionTableWrite') (u .outstandingBlockWrites') (u .outstandingBlockReads') (u .cache')

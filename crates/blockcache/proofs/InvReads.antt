@@ -25,27 +25,20 @@ page-in-kept d s s' id loc ref v u =
     record {
       persistent = v .persistent;
       ephemeral = v .ephemeral;
-      consistent = v .consistent;
-      successors = v .successors;
-      not-written = v .not-written;
-      reads-unique = unique;
-      ephemeral-overlapping = v .ephemeral-overlapping;
-      persistent-overlapping = v .persistent-overlapping;
-      writes-valid = v .writes-valid;
-      writes-apart = v .writes-apart;
-      distinct = v .distinct;
-      persistent-distinct = v .persistent-distinct;
       frozen = v .frozen;
-      table-write = v .table-write;
-      persistent-valid = v .persistent-valid;
-      frozen-loc = v .frozen-loc;
+      outstanding = record {
+        reads-unique = unique;
+        writes-valid = v .outstanding .writes-valid;
+        writes-apart = v .outstanding .writes-apart;
+      };
+      places = v .places;
     }
   where
     unique : OutstandingReadRefsUnique (put (s .outstandingBlockReads) id ref)
     unique i j r e k =
         ⊎-elim
         (λ x. ⊎-elim (λ y. x .0 ∙ sym (y .0)) (λ y. absurd (u .not-read j (y .1 ∙ ap some (sym (x .1))))) (put-some (s .outstandingBlockReads) id ref j k))
-        (λ x. ⊎-elim (λ y. absurd (u .not-read i (x .1 ∙ ap some (sym (y .1))))) (λ y. v .reads-unique i j r (x .1) (y .1)) (put-some (s .outstandingBlockReads) id ref j k))
+        (λ x. ⊎-elim (λ y. absurd (u .not-read i (x .1 ∙ ap some (sym (y .1))))) (λ y. v .outstanding .reads-unique i j r (x .1) (y .1)) (put-some (s .outstandingBlockReads) id ref j k))
         (put-some (s .outstandingBlockReads) id ref i e)
 
 -- PageInNodeResp
@@ -61,24 +54,21 @@ module _ (d : ℕ) (s s' : Ready) (id : ℕ) (node : Option Node) (v : InvReady 
       (λ x. let a : some l ≡ some (u .list) = sym e ∙ ap (s .ephemeralIndirectionTable .graph) (x .0) ∙ u .allocated in
       let q : l ≡ u .list = cc in
       ap (λ z. hasSucc z k) q ∙ u .succs k ∙ ap (λ (z : Node). hasSucc (z .succs) k) (x .1))
-      (λ x. v .successors j n l (x .1) e k)
+      (λ x. v .ephemeral .successors j n l (x .1) e k)
       (put-some (s .cache) (u .ref) (u .block) j m)
 
   pub paged-in-kept : InvReady d (setReads (setCache s nodes) (del (s .outstandingBlockReads) id))
   paged-in-kept =
       record {
         persistent = v .persistent;
-        ephemeral = v .ephemeral;
-        consistent = λ j i. ⊎-elim (λ x. inl (in-put (s .cache) (u .ref) (u .block) j x)) (λ x. inr x) (v .consistent j i);
-        successors = successors-after;
-        not-written = λ j i a. v .not-written j i (put-none (s .cache) (u .ref) (u .block) j a .1);
-        reads-unique = λ i j r e k. v .reads-unique i j r (del-some (s .outstandingBlockReads) id i e .1) (del-some (s .outstandingBlockReads) id j k .1);
-        ephemeral-overlapping = v .ephemeral-overlapping;
-        persistent-overlapping = v .persistent-overlapping;
-        writes-valid = v .writes-valid;
-        writes-apart = v .writes-apart;
-        distinct = v .distinct;
-        persistent-distinct = v .persistent-distinct;
+        ephemeral = record {
+          wf = v .ephemeral .wf;
+          consistent = λ j i. ⊎-elim (λ x. inl (in-put (s .cache) (u .ref) (u .block) j x)) (λ x. inr x) (v .ephemeral .consistent j i);
+          successors = successors-after;
+          not-written = λ j i a. v .ephemeral .not-written j i (put-none (s .cache) (u .ref) (u .block) j a .1);
+          overlapping = v .ephemeral .overlapping;
+          distinct = v .ephemeral .distinct;
+        };
         frozen = λ t e. let i = v .frozen t e in
             record {
               wf = i .wf;
@@ -86,9 +76,12 @@ module _ (d : ℕ) (s s' : Ready) (id : ℕ) (node : Option Node) (v : InvReady 
               overlapping = i .overlapping;
               distinct = i .distinct;
             };
-        table-write = v .table-write;
-        persistent-valid = v .persistent-valid;
-        frozen-loc = v .frozen-loc;
+        outstanding = record {
+          reads-unique = λ i j r e k. v .outstanding .reads-unique i j r (del-some (s .outstandingBlockReads) id i e .1) (del-some (s .outstandingBlockReads) id j k .1);
+          writes-valid = v .outstanding .writes-valid;
+          writes-apart = v .outstanding .writes-apart;
+        };
+        places = v .places;
       }
 
 -- PageInIndirectionTableResp: one table, nothing cached, nothing outstanding
@@ -115,22 +108,30 @@ loaded-fixed d at read s' id o u =
 pub loaded-inv : (d : ℕ) (t : IndirectionTable) (at : Location) → WFCompleteIndirectionTable d t → AllLocationsForDifferentRefsDontOverlap t → ValidIndirectionTableLocation (deviceOf d) at ≡ true → InvReady d (loaded t at)
 loaded-inv d t at w h ok =
     record {
-      persistent = w;
-      ephemeral = record { valid = w .valid; keys = λ r i. w .keys r ∙ i; root = w .root; graphClosed = w .graphClosed };
-      consistent = λ r i. inr (sym (w .keys r) ∙ i);
-      successors = λ r n l m e. never m;
-      not-written = λ r i a k x m. never m;
-      reads-unique = λ i j r e k. never e;
-      ephemeral-overlapping = λ r l e k x m. never m;
-      persistent-overlapping = λ r l e k x m. never m;
-      writes-valid = λ i x m. never m;
-      writes-apart = λ i j x y m k. never m;
-      distinct = h;
-      persistent-distinct = h;
+      persistent = record {
+        wf = w;
+        overlapping = λ r l e k x m. never m;
+        distinct = h;
+      };
+      ephemeral = record {
+        wf = record { valid = w .valid; keys = λ r i. w .keys r ∙ i; root = w .root; graphClosed = w .graphClosed };
+        consistent = λ r i. inr (sym (w .keys r) ∙ i);
+        successors = λ r n l m e. never m;
+        not-written = λ r i a k x m. never m;
+        overlapping = λ r l e k x m. never m;
+        distinct = h;
+      };
       frozen = λ x e. never e;
-      table-write = λ i e. never e;
-      persistent-valid = ok;
-      frozen-loc = λ l e. never e;
+      outstanding = record {
+        reads-unique = λ i j r e k. never e;
+        writes-valid = λ i x m. never m;
+        writes-apart = λ i j x y m k. never m;
+      };
+      places = record {
+        persistent-valid = ok;
+        frozen-loc = λ l e. never e;
+        table-write = λ i e. never e;
+      };
     }
 
 -- Freeze: the frozen table is the ephemeral one
@@ -141,47 +142,37 @@ freeze-kept d s v idle =
     record {
       persistent = v .persistent;
       ephemeral = v .ephemeral;
-      consistent = v .consistent;
-      successors = v .successors;
-      not-written = v .not-written;
-      reads-unique = v .reads-unique;
-      ephemeral-overlapping = v .ephemeral-overlapping;
-      persistent-overlapping = v .persistent-overlapping;
-      writes-valid = v .writes-valid;
-      writes-apart = v .writes-apart;
-      distinct = v .distinct;
-      persistent-distinct = v .persistent-distinct;
       frozen = λ t e. let q : s .ephemeralIndirectionTable ≡ t = cc in
           subst (λ z. InvFrozen d z (s .cache) (s .outstandingBlockWrites)) q
-          (record { wf = v .ephemeral; consistent = v .consistent; overlapping = v .ephemeral-overlapping; distinct = v .distinct });
-      table-write = λ i e. never (sym idle ∙ e);
-      persistent-valid = v .persistent-valid;
-      frozen-loc = λ l e. never e;
+          (record { wf = v .ephemeral .wf; consistent = v .ephemeral .consistent; overlapping = v .ephemeral .overlapping; distinct = v .ephemeral .distinct });
+      outstanding = v .outstanding;
+      places = record {
+        persistent-valid = v .places .persistent-valid;
+        frozen-loc = λ l e. never e;
+        table-write = λ i e. never (sym idle ∙ e);
+      };
     }
 
 -- CleanUp: the persistent table is the frozen one, which has all its locations
 
 pub clean-up-kept : (d : ℕ) (s s' : Ready) → InvReady d s → (u : CleanUp s s') → InvReady d (setLocs (setTables s (u .table) none) (u .loc) none)
 clean-up-kept d s s' v u =
-    let i = v .frozen-loc (u .loc) (u .frozen-loc) in
+    let i = v .places .frozen-loc (u .loc) (u .frozen-loc) in
     let k = v .frozen (u .table) (u .frozen) in
     let one : some (i .table) ≡ some (u .table) = sym (i .is) ∙ u .frozen in
     let q : i .table ≡ u .table = cc in
     record {
-      persistent = subst (λ z. WFCompleteIndirectionTable d z) q (i .wf);
+      persistent = record {
+        wf = subst (λ z. WFCompleteIndirectionTable d z) q (i .wf);
+        overlapping = k .overlapping;
+        distinct = k .distinct;
+      };
       ephemeral = v .ephemeral;
-      consistent = v .consistent;
-      successors = v .successors;
-      not-written = v .not-written;
-      reads-unique = v .reads-unique;
-      ephemeral-overlapping = v .ephemeral-overlapping;
-      persistent-overlapping = k .overlapping;
-      writes-valid = v .writes-valid;
-      writes-apart = v .writes-apart;
-      distinct = v .distinct;
-      persistent-distinct = k .distinct;
       frozen = λ t e. never e;
-      table-write = λ j e. never (sym (u .no-table-write) ∙ e);
-      persistent-valid = i .valid;
-      frozen-loc = λ l e. never e;
+      outstanding = v .outstanding;
+      places = record {
+        persistent-valid = i .valid;
+        frozen-loc = λ l e. never e;
+        table-write = λ j e. never (sym (u .no-table-write) ∙ e);
+      };
     }

@@ -58,14 +58,14 @@ module _ (d : ℕ) (s s' : Ready) (id : ℕ) (loc : Location) (n : Node) (ref : 
       let other : (j ≡ ref → ⊥) = λ q. never (sym absent ∙ ap (s .cache) q ∙ u .cached) in
       ⊎-elim
       (λ x. other (sym same ∙ ap (λ (z : OutstandingWrite). z .ref) (sym (x .1))))
-      (λ x. ⊎-elim (λ y. v .not-written j i absent k w (x .1) l y same a) (λ y. other (y .0)) (assign-some table ref loc j l e))
+      (λ x. ⊎-elim (λ y. v .ephemeral .not-written j i absent k w (x .1) l y same a) (λ y. other (y .0)) (assign-some table ref loc j l e))
       (put-some writes id new k m)
 
   writes-apart-after : AllOutstandingBlockWritesDontOverlap (put writes id new)
   writes-apart-after i j w x m k a =
       ⊎-elim
       (λ p. ⊎-elim (λ q. p .0 ∙ sym (q .0)) (λ q. absurd (u .free .writes j x (q .1) (sym a ∙ ap (λ (z : OutstandingWrite). z .loc .addr) (sym (p .1))))) (put-some writes id new j k))
-      (λ p. ⊎-elim (λ q. absurd (u .free .writes i w (p .1) (a ∙ ap (λ (z : OutstandingWrite). z .loc .addr) (sym (q .1))))) (λ q. v .writes-apart i j w x (p .1) (q .1) a) (put-some writes id new j k))
+      (λ p. ⊎-elim (λ q. absurd (u .free .writes i w (p .1) (a ∙ ap (λ (z : OutstandingWrite). z .loc .addr) (sym (q .1))))) (λ q. v .outstanding .writes-apart i j w x (p .1) (q .1) a) (put-some writes id new j k))
       (put-some writes id new i m)
 
   frozen-kept : (t : IndirectionTable) → s .frozenIndirectionTable ≡ some t → InvFrozen d (assignRefToLocation t ref loc) (s .cache) (put writes id new)
@@ -82,29 +82,37 @@ module _ (d : ℕ) (s s' : Ready) (id : ℕ) (loc : Location) (n : Node) (ref : 
   unfolding assignRefToLocation
   write-kept =
       record {
-        persistent = v .persistent;
-        ephemeral = assign-wf table ref loc d (u .valid) (v .ephemeral);
-        consistent = assign-consistent table ref loc (s .cache) (v .consistent);
-        successors = v .successors;
-        not-written = not-written-after;
-        reads-unique = v .reads-unique;
-        ephemeral-overlapping = assign-overlapping table ref loc writes id (u .free .ephemeral) (u .free .writes) (v .ephemeral-overlapping);
-        persistent-overlapping = overlapping-put (s .persistentIndirectionTable) writes id new (u .free .persistent) (v .persistent-overlapping);
-        writes-valid = λ i w m. ⊎-elim (λ x. rw (ap (λ (z : OutstandingWrite). z .loc) (x .1)) at (u .valid)) (λ x. v .writes-valid i w (x .1)) (put-some writes id new i m);
-        writes-apart = writes-apart-after;
-        distinct = assign-distinct table ref loc (u .free .ephemeral) (v .distinct);
-        persistent-distinct = v .persistent-distinct;
+        persistent = record {
+          wf = v .persistent .wf;
+          overlapping = overlapping-put (s .persistentIndirectionTable) writes id new (u .free .persistent) (v .persistent .overlapping);
+          distinct = v .persistent .distinct;
+        };
+        ephemeral = record {
+          wf = assign-wf table ref loc d (u .valid) (v .ephemeral .wf);
+          consistent = assign-consistent table ref loc (s .cache) (v .ephemeral .consistent);
+          successors = v .ephemeral .successors;
+          not-written = not-written-after;
+          overlapping = assign-overlapping table ref loc writes id (u .free .ephemeral) (u .free .writes) (v .ephemeral .overlapping);
+          distinct = assign-distinct table ref loc (u .free .ephemeral) (v .ephemeral .distinct);
+        };
         frozen = λ t e. let x = map-eq-some-iff (λ t. assignRefToLocation t ref loc) (s .frozenIndirectionTable) .0 e in subst (λ z. InvFrozen d z (s .cache) (put writes id new)) (x .2) (frozen-kept (x .0) (x .1));
-        table-write = v .table-write;
-        persistent-valid = v .persistent-valid;
-        frozen-loc = λ l e. let i = v .frozen-loc l e in
-            record {
-              table = assignRefToLocation (i .table) ref loc;
-              is = ap (Option·map (λ t. assignRefToLocation t ref loc)) (i .is);
-              wf = assign-complete (i .table) ref loc d (u .valid) (i .wf);
-              valid = i .valid;
-              apart = i .apart;
-            };
+        outstanding = record {
+          reads-unique = v .outstanding .reads-unique;
+          writes-valid = λ i w m. ⊎-elim (λ x. rw (ap (λ (z : OutstandingWrite). z .loc) (x .1)) at (u .valid)) (λ x. v .outstanding .writes-valid i w (x .1)) (put-some writes id new i m);
+          writes-apart = writes-apart-after;
+        };
+        places = record {
+          persistent-valid = v .places .persistent-valid;
+          frozen-loc = λ l e. let i = v .places .frozen-loc l e in
+              record {
+                table = assignRefToLocation (i .table) ref loc;
+                is = ap (Option·map (λ t. assignRefToLocation t ref loc)) (i .is);
+                wf = assign-complete (i .table) ref loc d (u .valid) (i .wf);
+                valid = i .valid;
+                apart = i .apart;
+              };
+          table-write = v .places .table-write;
+        };
       }
 
 -- WriteBackNodeResp: there are fewer writes
@@ -122,22 +130,26 @@ pub written-kept : (d : ℕ) (s : Ready) (id : ℕ) → InvReady d s → InvRead
 written-kept d s id v =
     let old : (j : ℕ) (w : OutstandingWrite) → del (s .outstandingBlockWrites) id j ≡ some w → s .outstandingBlockWrites j ≡ some w = λ j w m. del-some (s .outstandingBlockWrites) id j m .1 in
     record {
-      persistent = v .persistent;
-      ephemeral = v .ephemeral;
-      consistent = v .consistent;
-      successors = v .successors;
-      not-written = λ r i a j w m. v .not-written r i a j w (old j w m);
-      reads-unique = v .reads-unique;
-      ephemeral-overlapping = λ r l e j w m. v .ephemeral-overlapping r l e j w (old j w m);
-      persistent-overlapping = λ r l e j w m. v .persistent-overlapping r l e j w (old j w m);
-      writes-valid = λ j w m. v .writes-valid j w (old j w m);
-      writes-apart = λ i j w x m k. v .writes-apart i j w x (old i w m) (old j x k);
-      distinct = v .distinct;
-      persistent-distinct = v .persistent-distinct;
+      persistent = record {
+        wf = v .persistent .wf;
+        overlapping = λ r l e j w m. v .persistent .overlapping r l e j w (old j w m);
+        distinct = v .persistent .distinct;
+      };
+      ephemeral = record {
+        wf = v .ephemeral .wf;
+        consistent = v .ephemeral .consistent;
+        successors = v .ephemeral .successors;
+        not-written = λ r i a j w m. v .ephemeral .not-written r i a j w (old j w m);
+        overlapping = λ r l e j w m. v .ephemeral .overlapping r l e j w (old j w m);
+        distinct = v .ephemeral .distinct;
+      };
       frozen = λ t e. frozen-fewer d t (s .cache) (s .outstandingBlockWrites) id (v .frozen t e);
-      table-write = v .table-write;
-      persistent-valid = v .persistent-valid;
-      frozen-loc = v .frozen-loc;
+      outstanding = record {
+        reads-unique = v .outstanding .reads-unique;
+        writes-valid = λ j w m. v .outstanding .writes-valid j w (old j w m);
+        writes-apart = λ i j w x m k. v .outstanding .writes-apart i j w x (old i w m) (old j x k);
+      };
+      places = v .places;
     }
 
 -- WriteBackIndirectionTableReq: the frozen table has all its locations
@@ -149,32 +161,25 @@ table-write-kept d s s' id loc t v u =
     record {
       persistent = v .persistent;
       ephemeral = v .ephemeral;
-      consistent = v .consistent;
-      successors = v .successors;
-      not-written = v .not-written;
-      reads-unique = v .reads-unique;
-      ephemeral-overlapping = v .ephemeral-overlapping;
-      persistent-overlapping = v .persistent-overlapping;
-      writes-valid = v .writes-valid;
-      writes-apart = v .writes-apart;
-      distinct = v .distinct;
-      persistent-distinct = v .persistent-distinct;
       frozen = v .frozen;
-      table-write = λ i e. refl;
-      persistent-valid = v .persistent-valid;
-      frozen-loc = λ l e. let q : loc ≡ l = cc in
-          record {
-            table = t;
-            is = u .frozen;
-            wf = record {
-              valid = w .valid;
-              keys = λ r. bool-ext (isSome (t .graph r)) (isSome (t .locs r)) (u .complete r) (w .keys r);
-              root = w .root;
-              graphClosed = w .graphClosed;
+      outstanding = v .outstanding;
+      places = record {
+        persistent-valid = v .places .persistent-valid;
+        frozen-loc = λ l e. let q : loc ≡ l = cc in
+            record {
+              table = t;
+              is = u .frozen;
+              wf = record {
+                valid = w .valid;
+                keys = λ r. bool-ext (isSome (t .graph r)) (isSome (t .locs r)) (u .complete r) (w .keys r);
+                root = w .root;
+                graphClosed = w .graphClosed;
+              };
+              valid = rw q at (u .valid);
+              apart = rw q at (u .apart);
             };
-            valid = rw q at (u .valid);
-            apart = rw q at (u .apart);
-          };
+        table-write = λ i e. refl;
+      };
     }
 
 -- WriteBackIndirectionTableResp
@@ -184,18 +189,11 @@ table-written-kept d s v =
     record {
       persistent = v .persistent;
       ephemeral = v .ephemeral;
-      consistent = v .consistent;
-      successors = v .successors;
-      not-written = v .not-written;
-      reads-unique = v .reads-unique;
-      ephemeral-overlapping = v .ephemeral-overlapping;
-      persistent-overlapping = v .persistent-overlapping;
-      writes-valid = v .writes-valid;
-      writes-apart = v .writes-apart;
-      distinct = v .distinct;
-      persistent-distinct = v .persistent-distinct;
       frozen = v .frozen;
-      table-write = λ i e. never e;
-      persistent-valid = v .persistent-valid;
-      frozen-loc = v .frozen-loc;
+      outstanding = v .outstanding;
+      places = record {
+        persistent-valid = v .places .persistent-valid;
+        frozen-loc = v .places .frozen-loc;
+        table-write = λ i e. never e;
+      };
     }

@@ -60,24 +60,41 @@ pub record InvFrozenLoc (d : ℕ) (loc persistent : Location) (frozen : Option I
   pub valid : ValidIndirectionTableLocation (deviceOf d) loc ≡ true
   pub apart : overlap loc persistent ≡ false
 
-pub record InvReady (d : ℕ) (s : Ready) : Type 0 where
-  pub persistent : WFCompleteIndirectionTable d (s .persistentIndirectionTable)
-  pub ephemeral : WFIndirectionTable d (s .ephemeralIndirectionTable)
-  pub consistent : IndirectionTableCacheConsistent (s .ephemeralIndirectionTable) (s .cache)
-  pub successors : CacheConsistentWithSuccessors (s .cache) (s .ephemeralIndirectionTable .graph)
-  pub not-written : EphemeralTableEntriesInCacheOrNotBeingWritten (s .ephemeralIndirectionTable) (s .cache) (s .outstandingBlockWrites)
-  pub reads-unique : OutstandingReadRefsUnique (s .outstandingBlockReads)
-  pub ephemeral-overlapping : OverlappingWritesEqForIndirectionTable (s .outstandingBlockWrites) (s .ephemeralIndirectionTable)
-  pub persistent-overlapping : OverlappingWritesEqForIndirectionTable (s .outstandingBlockWrites) (s .persistentIndirectionTable)
-  pub writes-valid : OutstandingWriteValidNodeLocation d (s .outstandingBlockWrites)
-  pub writes-apart : AllOutstandingBlockWritesDontOverlap (s .outstandingBlockWrites)
-  pub distinct : AllLocationsForDifferentRefsDontOverlap (s .ephemeralIndirectionTable)
+-- of the persistent table
+pub record InvPersistent (d : ℕ) (t : IndirectionTable) (writes : Map OutstandingWrite) : Type 0 where
+  pub wf : WFCompleteIndirectionTable d t
+  pub overlapping : OverlappingWritesEqForIndirectionTable writes t
   -- wider than upstream, as above
-  pub persistent-distinct : AllLocationsForDifferentRefsDontOverlap (s .persistentIndirectionTable)
+  pub distinct : AllLocationsForDifferentRefsDontOverlap t
+
+-- of the ephemeral table and the cached nodes
+pub record InvEphemeral (d : ℕ) (t : IndirectionTable) (cache : Map Node) (writes : Map OutstandingWrite) : Type 0 where
+  pub wf : WFIndirectionTable d t
+  pub consistent : IndirectionTableCacheConsistent t cache
+  pub successors : CacheConsistentWithSuccessors cache (t .graph)
+  pub not-written : EphemeralTableEntriesInCacheOrNotBeingWritten t cache writes
+  pub overlapping : OverlappingWritesEqForIndirectionTable writes t
+  pub distinct : AllLocationsForDifferentRefsDontOverlap t
+
+-- of what is outstanding
+pub record InvOutstanding (d : ℕ) (writes : Map OutstandingWrite) (reading : Map ℕ) : Type 0 where
+  pub reads-unique : OutstandingReadRefsUnique reading
+  pub writes-valid : OutstandingWriteValidNodeLocation d writes
+  pub writes-apart : AllOutstandingBlockWritesDontOverlap writes
+
+-- of the tables' places and the awaited table write
+pub record InvPlaces (d : ℕ) (persistent : Location) (frozenLoc : Option Location) (frozen : Option IndirectionTable) (awaited : Option ℕ) : Type 0 where
+  pub persistent-valid : ValidIndirectionTableLocation (deviceOf d) persistent ≡ true
+  pub frozen-loc : (loc : Location) → frozenLoc ≡ some loc → InvFrozenLoc d loc persistent frozen
+  pub table-write : (id : ℕ) → awaited ≡ some id → isSome frozenLoc ≡ true
+
+-- upstream's conjuncts in groups, each over the parts of the state that it speaks of: a step shows anew only the groups that it touches
+pub record InvReady (d : ℕ) (s : Ready) : Type 0 where
+  pub persistent : InvPersistent d (s .persistentIndirectionTable) (s .outstandingBlockWrites)
+  pub ephemeral : InvEphemeral d (s .ephemeralIndirectionTable) (s .cache) (s .outstandingBlockWrites)
   pub frozen : (t : IndirectionTable) → s .frozenIndirectionTable ≡ some t → InvFrozen d t (s .cache) (s .outstandingBlockWrites)
-  pub table-write : (id : ℕ) → s .outstandingIndirectionTableWrite ≡ some id → isSome (s .frozenIndirectionTableLoc) ≡ true
-  pub persistent-valid : ValidIndirectionTableLocation (deviceOf d) (s .persistentIndirectionTableLoc) ≡ true
-  pub frozen-loc : (loc : Location) → s .frozenIndirectionTableLoc ≡ some loc → InvFrozenLoc d loc (s .persistentIndirectionTableLoc) (s .frozenIndirectionTable)
+  pub outstanding : InvOutstanding d (s .outstandingBlockWrites) (s .outstandingBlockReads)
+  pub places : InvPlaces d (s .persistentIndirectionTableLoc) (s .frozenIndirectionTableLoc) (s .frozenIndirectionTable) (s .outstandingIndirectionTableWrite)
 
 abbrev pub Inv : ℕ → Variables → Type 0
 Inv d (ready s) = InvReady d s
