@@ -1,17 +1,17 @@
 -- The number of a step, and what it is for a call to be accepted: it is within the limits, its number is a step's, and none of the step's
 -- conditions holds. Assumes nothing.
-use Prim.Native.Nat.{_<_, _≤_, suc, zero, ℕ}
+use Prim.Native.Nat.{_+_, _<_, _≤_, suc, zero, ℕ}
 use mathlib.Core.Bool.{and-false, Bool, _&&_, false, not, true}
 use mathlib.Core.List.{List, [], _∷_}
 use mathlib.Core.Logic.{_↔_}
 use mathlib.Core.Option.{Option, none, some}
 use mathlib.Core.Path.{_∙_, _≡_, ap, refl, sym}
 use native.Mathlib.Omega.{arith}
-use borrow.Author.Tests.{le-leb, le-ltb, lt-leb, lt-ltb, ltb-false, ltb-true}
-use lib.Dec.{leb, ltb}
+use borrow.Author.Tests.{eqb-true, le-leb, le-ltb, lt-leb, lt-ltb, ltb-false, ltb-true}
+use lib.Dec.{eqb, leb, ltb}
 use lib.ListN.{length}
 use Rattle.base.proofs.Refusals.{Clear, accepted-iff}
-use Rattle.base.proofs.Tests.{and-both, not-iff, or-iff, some-iff, split}
+use Rattle.base.proofs.Tests.{and-both, and-left, and-right, never, not-iff, or-iff, some-iff, split}
 use Rattle.base.specs.Lists.{nth}
 use Rattle.base.specs.Maps.{isSome}
 use Rattle.base.specs.Refusals.{_when_, answer, ascending}
@@ -41,6 +41,52 @@ step-number (suc k) =
     split (ltb k 18)
     (λ t. let b : k < 18 = ltb-true k 18 t in e ∙ t ∙ sym (and-both (le-leb 1 (suc k) (omega arith)) (le-leb (suc k) 18 (omega arith))))
     (λ t. let b : 18 ≤ k = ltb-false k 18 t in e ∙ t ∙ sym (rw (lt-leb (suc k) 18 (omega arith)) (and-false (leb 1 (suc k)))))
+
+-- the number of a step
+abbrev pub numberOf : Step → ℕ
+numberOf writeBackNodeReqStep = 1
+numberOf writeBackNodeRespStep = 2
+numberOf writeBackIndirectionTableReqStep = 3
+numberOf writeBackIndirectionTableRespStep = 4
+numberOf unallocStep = 5
+numberOf pageInNodeReqStep = 6
+numberOf pageInNodeRespStep = 7
+numberOf pageInIndirectionTableReqStep = 8
+numberOf pageInIndirectionTableRespStep = 9
+numberOf receiveLocStep = 10
+numberOf evictStep = 11
+numberOf freezeStep = 12
+numberOf cleanUpStep = 13
+numberOf noOpStep = 14
+numberOf dirtyStep = 15
+numberOf allocStep = 16
+numberOf readStep = 17
+numberOf crashStep = 18
+
+-- the list gives each step its number
+abbrev numbered : ℕ → List Step → Bool
+numbered k [] = true
+numbered k (step ∷ rest) = eqb (numberOf step) k && numbered (suc k) rest
+
+steps-numbered : numbered 1 steps ≡ true
+unfolding steps
+steps-numbered = refl
+
+nth-number : (l : List Step) (i k : ℕ) (step : Step) → numbered i l ≡ true → nth l k ≡ some step → numberOf step ≡ i + k
+nth-number [] i k step t e = never e
+nth-number (x ∷ xs) i zero step t e =
+    let q : x ≡ step = cc in
+    let h : numberOf x ≡ i = eqb-true (numberOf x) i (and-left (eqb (numberOf x) i) (numbered (suc i) xs) t) in
+    let m : numberOf step ≡ i = ap numberOf (sym q) ∙ h in
+    omega arith
+nth-number (x ∷ xs) i (suc k) step t e =
+    let h : numberOf step ≡ suc i + k = nth-number xs (suc i) k step (and-right (eqb (numberOf x) i) (numbered (suc i) xs) t) e in
+    omega arith
+
+pub step-of-number : (n : ℕ) (step : Step) → stepOf n ≡ some step → n ≡ numberOf step
+unfolding stepOf
+step-of-number zero step e = never e
+step-of-number (suc k) step e = let h : numberOf step ≡ 1 + k = nth-number steps 1 k step steps-numbered e in omega arith
 
 -- A CALL THAT IS ACCEPTED
 

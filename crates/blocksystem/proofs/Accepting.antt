@@ -10,7 +10,8 @@ use Rattle.base.proofs.Refusals.{lowest-zero}
 use Rattle.base.proofs.Tests.{never}
 use Rattle.base.specs.Refusals.{answer, lowest}
 use Rattle.blockcache.proofs.Outcomes.{step-answer, step-taken}
-use Rattle.blockcache.specs.Step.{cacheRows, cacheStep, stepNext}
+use Rattle.blockcache.specs.Step.{cacheNext, cacheRows, cacheStep}
+use Rattle.blockcache.specs.Steps.{isCrash}
 use Rattle.blockcache.specs.declared.CacheState.{CacheState}
 use Rattle.blockcache.specs.declared.Call.{Call}
 use Rattle.blockdisk.proofs.Crashing.{crash-keeps-node, crash-keeps-table}
@@ -29,7 +30,7 @@ use Rattle.blocksystem.specs.Joined.{diskAsked, diskCall, joined, joined
 -- THE DISK'S HALF
 
 module _ (d : ℕ) (n : ℕ) (q : Call) (o : Records) (s : DiskState) where
-  module _ (e : eqb n 18 ≡ false) where
+  module _ (e : isCrash n ≡ false) where
     pub disk-answer : diskAsked d n q o s .answer ≡ answer (diskRows d s (diskCall n q))
     unfolding diskAsked diskStep
     disk-answer = rw e
@@ -38,7 +39,7 @@ module _ (d : ℕ) (n : ℕ) (q : Call) (o : Records) (s : DiskState) where
     unfolding diskAsked diskStep
     disk-next z = rw (e, eq-eqb _ _ z)
 
-  module _ (e : eqb n 18 ≡ true) where
+  module _ (e : isCrash n ≡ true) where
     pub crash-answer : diskAsked d n q o s .answer ≡ answer (crashRows d s o)
     unfolding diskAsked diskCrash
     crash-answer = rw e
@@ -76,7 +77,7 @@ module _ (d : ℕ) (n : ℕ) (q : Call) (o : Records) (c : CacheState) (s : Disk
       )
 
   module _ (e : joinedAnswer d n q o c s ≡ 0) where
-    pub joined-cache : joined d n q o c s .cache ≡ stepNext d c n (q .reference) q
+    pub joined-cache : joined d n q o c s .cache ≡ cacheNext c n q
     unfolding joined
     joined-cache = rw (eq-eqb _ _ e) (step-taken d c n q (joined-zero .0 e .0))
 

@@ -7,15 +7,17 @@ use mathlib.Core.Logic.{Iff·rfl, _↔_, ⊎-elim}
 use mathlib.Core.Option.{Option, none, some}
 use mathlib.Core.Path.{_∙_, _≡_, ap, refl, sym}
 use lib.Dec.{eqb}
-use borrow.Author.Tests.{eqb-false, eqb-true}
+use borrow.Author.Tests.{eq-eqb, eqb-false, eqb-true}
 use Rattle.base.proofs.Refusals.{accepted-iff}
 use Rattle.base.proofs.Tests.{and-false-iff, clash, not-iff, split}
 use Rattle.base.specs.Refusals.{answer}
 use Rattle.blockcache.proofs.Demand2.{cache-accepted, cache-allowed, cache-crash}
-use Rattle.blockcache.proofs.Numbers.{by-number}
+use Rattle.blockcache.proofs.Numbers.{step-of-number}
+use Rattle.blockcache.specs.Abstract.{cacheVars, callOp}
+use Rattle.blockcache.specs.NextStep.{IdleVop, NextStep}
 use Rattle.blockcache.specs.Ops.{vopKind, vopLoc}
-use Rattle.blockcache.specs.Step.{stepNext}
-use Rattle.blockcache.specs.Steps.{IdleVop, NextStep, Step, cacheVars, callOp, crashStep, readStep, stepOf}
+use Rattle.blockcache.specs.Step.{cacheNext}
+use Rattle.blockcache.specs.Steps.{Step, allocStep, cleanUpStep, crashStep, dirtyStep, evictStep, freezeStep, isCrash, isRead, isStart, noOpStep, pageInIndirectionTableReqStep, pageInIndirectionTableRespStep, pageInNodeReqStep, pageInNodeRespStep, readStep, receiveLocStep, stepOf, steps, unallocStep, writeBackIndirectionTableReqStep, writeBackIndirectionTableRespStep, writeBackNodeReqStep, writeBackNodeRespStep}
 use Rattle.blockcache.specs.Upstream.{Variables as MVariables, unready}
 use Rattle.blockcache.specs.declared.CacheState.{CacheState}
 use Rattle.blockcache.specs.declared.Call.{Call}
@@ -43,69 +45,72 @@ differ vop a b p q f = absurd (eqb-false (vopKind a) (vopKind b) f (ap vopKind (
 
 -- THE OPERATIONS OF A STEP
 
-read-is : (r : ℕ) (n : Node) (step : Step) → stepOf 17 r n ≡ some step → step ≡ readStep r
-unfolding stepOf
-read-is r n step e = cc
+read-is : (step : Step) → stepOf 17 ≡ some step → step ≡ readStep
+unfolding stepOf steps
+read-is step e = cc
+
+start-is : (step : Step) → stepOf 10 ≡ some step → step ≡ receiveLocStep
+unfolding stepOf steps
+start-is step e = cc
 
 module _ (d : ℕ) (s s' : MVariables) (q : Call) where
-  -- the step of a number, if it is one
-  abbrev NextOf : Dop → VersionOp → Option Step → Type 0
-  NextOf dop vop none = ⊥
-  NextOf dop vop (some step) = NextStep d s s' dop vop step
-
-  next-of : (dop : Dop) (vop : VersionOp) (o : Option Step) (step : Step) → o ≡ some step → NextStep d s s' dop vop step → NextOf dop vop o
-  next-of dop vop o step e x = rw e x
+  abbrev To : Dop → VersionOp → Step → Type 0
+  To dop vop step = NextStep d s s' dop vop (q .reference) (q .node) step
 
   -- a read takes none, every other step those of the call
-  pub next-joined : (n : ℕ) (step : Step) → stepOf n (q .reference) (q .node) ≡ some step → NextStep d s s' (callOp q) (q .vop) step ↔ NextStep d s s' (joinedOp n q) (joinedVop n q) step
+  pub next-joined : (n : ℕ) (step : Step) → stepOf n ≡ some step → To (callOp q) (q .vop) step ↔ To (joinedOp n q) (joinedVop n q) step
   next-joined n step e =
-      split (eqb n 17)
+      split (isRead n)
       (λ t. let h : n ≡ 17 = eqb-true n 17 t in
-      let z : step ≡ readStep (q .reference) = read-is (q .reference) (q .node) step (rw h at e) in
+      let z : step ≡ readStep = read-is step (rw h at e) in
       rw z Iff·rfl)
       (λ t. rw t Iff·rfl)
 
+  idle-sends : {X : Type 0} (n : ℕ) (l : Location) → IdleVop (joinedVop n q) → joinedVop n q ≡ SendPersistentLocOp l → X
+  idle-sends n l i v =
+      ⊎-elim (λ a. differ (joinedVop n q) StatesInternalOp (SendPersistentLocOp l) a v refl)
+      (⊎-elim (λ a. differ (joinedVop n q) JournalInternalOp (SendPersistentLocOp l) a v refl)
+      (⊎-elim (λ a. differ (joinedVop n q) PushSyncOp (SendPersistentLocOp l) a v refl) (λ a. differ (joinedVop n q) PopSyncOp (SendPersistentLocOp l) a v refl)))
+      i
+
+  read-vop : (n : ℕ) {v : VersionOp} → stepOf n ≡ some readStep → joinedVop n q ≡ v → StatesInternalOp ≡ v
+  read-vop n e x = rw (step-of-number n readStep e) at x
+
   -- only a start sends a persistent place
-  pub sent-by : (n : ℕ) (l : Location) → NextOf (joinedOp n q) (joinedVop n q) (stepOf n (q .reference) (q .node)) → joinedVop n q ≡ SendPersistentLocOp l → eqb n 10 ≡ true
-  unfolding stepOf
-  sent-by n l =
-      by-number (λ n. NextOf (joinedOp n q) (joinedVop n q) (stepOf n (q .reference) (q .node)) → joinedVop n q ≡ SendPersistentLocOp l → eqb n 10 ≡ true)
-      (λ x v. differ (q .vop) StatesInternalOp (SendPersistentLocOp l) (x .0) v refl)
-      (λ x v. differ (q .vop) StatesInternalOp (SendPersistentLocOp l) (x .0) v refl)
-      (λ x v. differ (q .vop) StatesInternalOp (SendPersistentLocOp l) (x .0) v refl)
-      (λ x v. differ (q .vop) (SendFrozenLocOp (x .0)) (SendPersistentLocOp l) (x .1) v refl)
-      (λ x v. differ (q .vop) (AdvanceOp true) (SendPersistentLocOp l) (x .0) v refl)
-      (λ x v. differ (q .vop) StatesInternalOp (SendPersistentLocOp l) (x .0) v refl)
-      (λ x v. differ (q .vop) StatesInternalOp (SendPersistentLocOp l) (x .0) v refl)
-      (λ x v. differ (q .vop) StatesInternalOp (SendPersistentLocOp l) (x .0) v refl)
-      (λ x v. differ (q .vop) StatesInternalOp (SendPersistentLocOp l) (x .0) v refl)
-      (λ x v. refl)
-      (λ x v. differ (q .vop) StatesInternalOp (SendPersistentLocOp l) (x .0) v refl)
-      (λ x v. differ (q .vop) FreezeOp (SendPersistentLocOp l) (x .0) v refl)
-      (λ x v. differ (q .vop) CleanUpOp (SendPersistentLocOp l) (x .0) v refl)
-      (λ x v. idle (x .0) v)
-      (λ x v. differ (q .vop) (AdvanceOp (x .0 .0 .0)) (SendPersistentLocOp l) (x .0 .0 .1) v refl)
-      (λ x v. differ (q .vop) (AdvanceOp (x .0 .0 .0)) (SendPersistentLocOp l) (x .0 .0 .1) v refl)
-      (λ x v. differ StatesInternalOp StatesInternalOp (SendPersistentLocOp l) refl v refl)
-      (λ x v. differ (q .vop) CrashOp (SendPersistentLocOp l) (x .0) v refl)
-      (λ n f1 f2 f3 f4 f5 f6 f7 f8 f9 f10 f11 f12 f13 f14 f15 f16 f17 f18. rw (f1, f2, f3, f4, f5, f6, f7, f8, f9, f10, f11, f12, f13, f14, f15, f16, f17, f18) (λ x v. absurd x))
-      n
-    where
-      idle : IdleVop (q .vop) → q .vop ≡ SendPersistentLocOp l → eqb 14 10 ≡ true
-      idle i v =
-          ⊎-elim (λ a. differ (q .vop) StatesInternalOp (SendPersistentLocOp l) a v refl)
-          (⊎-elim (λ a. differ (q .vop) JournalInternalOp (SendPersistentLocOp l) a v refl)
-          (⊎-elim (λ a. differ (q .vop) PushSyncOp (SendPersistentLocOp l) a v refl) (λ a. differ (q .vop) PopSyncOp (SendPersistentLocOp l) a v refl)))
-          i
+  pub sent-by : (n : ℕ) (l : Location) (step : Step) → stepOf n ≡ some step → To (joinedOp n q) (joinedVop n q) step → joinedVop n q ≡ SendPersistentLocOp l → isStart n ≡ true
+  sent-by n l writeBackNodeReqStep e x v = differ (joinedVop n q) StatesInternalOp (SendPersistentLocOp l) (x .0) v refl
+  sent-by n l writeBackNodeRespStep e x v = differ (joinedVop n q) StatesInternalOp (SendPersistentLocOp l) (x .0) v refl
+  sent-by n l writeBackIndirectionTableReqStep e x v = differ (joinedVop n q) StatesInternalOp (SendPersistentLocOp l) (x .0) v refl
+  sent-by n l writeBackIndirectionTableRespStep e x v = differ (joinedVop n q) (SendFrozenLocOp (x .0)) (SendPersistentLocOp l) (x .1) v refl
+  sent-by n l unallocStep e x v = differ (joinedVop n q) (AdvanceOp true) (SendPersistentLocOp l) (x .0) v refl
+  sent-by n l pageInNodeReqStep e x v = differ (joinedVop n q) StatesInternalOp (SendPersistentLocOp l) (x .0) v refl
+  sent-by n l pageInNodeRespStep e x v = differ (joinedVop n q) StatesInternalOp (SendPersistentLocOp l) (x .0) v refl
+  sent-by n l pageInIndirectionTableReqStep e x v = differ (joinedVop n q) StatesInternalOp (SendPersistentLocOp l) (x .0) v refl
+  sent-by n l pageInIndirectionTableRespStep e x v = differ (joinedVop n q) StatesInternalOp (SendPersistentLocOp l) (x .0) v refl
+  sent-by n l receiveLocStep e x v = eq-eqb n 10 (step-of-number n receiveLocStep e)
+  sent-by n l evictStep e x v = differ (joinedVop n q) StatesInternalOp (SendPersistentLocOp l) (x .0) v refl
+  sent-by n l freezeStep e x v = differ (joinedVop n q) FreezeOp (SendPersistentLocOp l) (x .0) v refl
+  sent-by n l cleanUpStep e x v = differ (joinedVop n q) CleanUpOp (SendPersistentLocOp l) (x .0) v refl
+  sent-by n l noOpStep e x v = idle-sends n l (x .0) v
+  sent-by n l dirtyStep e x v = differ (joinedVop n q) (AdvanceOp (x .0 .0 .0)) (SendPersistentLocOp l) (x .0 .0 .1) v refl
+  sent-by n l allocStep e x v = differ (joinedVop n q) (AdvanceOp (x .0 .0 .0)) (SendPersistentLocOp l) (x .0 .0 .1) v refl
+  sent-by n l readStep e x v = differ StatesInternalOp StatesInternalOp (SendPersistentLocOp l) refl (read-vop n e v) refl
+  sent-by n l crashStep e x v = differ (joinedVop n q) CrashOp (SendPersistentLocOp l) (x .0) v refl
 
   -- and a start sends one
-  pub sends : (n : ℕ) → eqb n 10 ≡ true → NextOf (joinedOp n q) (joinedVop n q) (stepOf n (q .reference) (q .node)) → (l : Location) × (q .vop ≡ SendPersistentLocOp l) × (joinedVop n q ≡ SendPersistentLocOp l)
-  unfolding stepOf
-  sends n t = let h : n ≡ 10 = eqb-true n 10 t in rw h (λ x. (x .1 .0, x .1 .1, x .1 .1))
+  pub sends : (n : ℕ) (step : Step) → stepOf n ≡ some step → isStart n ≡ true → To (joinedOp n q) (joinedVop n q) step →
+      (l : Location) × (q .vop ≡ SendPersistentLocOp l) × (joinedVop n q ≡ SendPersistentLocOp l)
+  sends n step e t x =
+      let h : n ≡ 10 = eqb-true n 10 t in
+      let z : step ≡ receiveLocStep = start-is step (rw h at e) in
+      let y : To (joinedOp n q) (joinedVop n q) receiveLocStep = rw z at x in
+      let l = y .1 .0 in
+      let v : joinedVop n q ≡ SendPersistentLocOp l = y .1 .1 in
+      (l, sym (ap (λ m. joinedVop m q) h) ∙ v, v)
 
 -- THE ROW OF A START
 
-start-iff : (d n : ℕ) (q : Call) (s : DiskState) → (answer (startRows d n q s) ≡ 0) ↔ (eqb n 10 ≡ true → wholeGraph d (s .records) (vopLoc (q .vop)) ≡ true)
+start-iff : (d n : ℕ) (q : Call) (s : DiskState) → (answer (startRows d n q s) ≡ 0) ↔ (isStart n ≡ true → wholeGraph d (s .records) (vopLoc (q .vop)) ≡ true)
 start-iff d n q s = (
   (λ e. let h = simp (and-false-iff, not-iff) at (accepted-iff (startRows d n q s) refl .0 e) in h .0),
   (λ h. accepted-iff (startRows d n q s) refl .1 (simp (and-false-iff, not-iff) (h, tt))),
@@ -114,9 +119,9 @@ start-iff d n q s = (
 -- A STEP OF THE MACHINE
 
 module _ (d n : ℕ) (q : Call) (o : Records) (c : CacheState) (s : DiskState) where
-  module _ (ne : eqb n 18 ≡ false) where
+  module _ (ne : isCrash n ≡ false) where
     abbrev after : Variables
-    after = record { machine = cacheVars (stepNext d c n (q .reference) q); disk = diskVars d (nextDisk d s (diskCall n q .op) (q .node) (q .table)) }
+    after = record { machine = cacheVars (cacheNext c n q); disk = diskVars d (nextDisk d s (diskCall n q .op) (q .node) (q .table)) }
 
     machine-to : joinedAnswer d n q o c s ≡ 0 → MachineTo d n q o c s after
     machine-to e =
@@ -130,8 +135,8 @@ module _ (d n : ℕ) (q : Call) (o : Records) (c : CacheState) (s : DiskState) w
             machine = m;
             disk = disk-allowed d s (diskCall n q) a;
             persistent = λ l v.
-                let t = sent-by d (cacheVars c) (after .machine) q n l (next-of d (cacheVars c) (after .machine) q (joinedOp n q) (joinedVop n q) (stepOf n (q .reference) (q .node)) (x .0) (x .1) m) v in
-                let u = sends d (cacheVars c) (after .machine) q n t (next-of d (cacheVars c) (after .machine) q (joinedOp n q) (joinedVop n q) (stepOf n (q .reference) (q .node)) (x .0) (x .1) m) in
+                let t = sent-by d (cacheVars c) (after .machine) q n l (x .0) (x .1) m v in
+                let u = sends d (cacheVars c) (after .machine) q n (x .0) (x .1) t m in
                 let g : SendPersistentLocOp (u .0) ≡ SendPersistentLocOp l = sym (u .2) ∙ v in
                 let k : vopLoc (q .vop) ≡ l = ap vopLoc (u .1) ∙ ap vopLoc g in
                 wf-succs-iff d s (disk-accepted-iff d s (diskCall n q) .0 a .disk) c l .0 (rw k at (start-iff d n q s .0 (z .2) t));
@@ -142,12 +147,11 @@ module _ (d n : ℕ) (q : Call) (o : Records) (c : CacheState) (s : DiskState) w
     machine-from h s' x =
         let m = x .2 in
         let a = disk-accepted d s (diskCall n q) .1 (h .disk ne, (s' .disk, m .disk)) in
-        let nx = next-of d (cacheVars c) (s' .machine) q (joinedOp n q) (joinedVop n q) (stepOf n (q .reference) (q .node)) (x .0) (x .1) (m .machine) in
         joined-zero d n q o c s .1 (
           cache-accepted d c n q .1 (h .cache, (x .0, x .1, (s' .machine, next-joined d (cacheVars c) (s' .machine) q n (x .0) (x .1) .1 (m .machine)))),
           disk-answer d n q o s ne ∙ a,
           start-iff d n q s .1
-              (λ t. let u = sends d (cacheVars c) (s' .machine) q n t nx in
+              (λ t. let u = sends d (cacheVars c) (s' .machine) q n (x .0) (x .1) t (m .machine) in
               let w = wf-succs-iff d s (disk-accepted-iff d s (diskCall n q) .0 a .disk) c (u .0) .1 (m .persistent (u .0) (u .2)) in
               rw (ap vopLoc (u .1)) w),
         )
@@ -155,18 +159,18 @@ module _ (d n : ℕ) (q : Call) (o : Records) (c : CacheState) (s : DiskState) w
 -- A CRASH
 
 module _ (d : ℕ) (q : Call) (o : Records) (c : CacheState) (s : DiskState) where
-  crash-op : (s' : MVariables) → ((step : Step) × (stepOf 18 (q .reference) (q .node) ≡ some step) × NextStep d (cacheVars c) s' (callOp q) (q .vop) step) → q .vop ≡ CrashOp
-  unfolding stepOf
-  crash-op s' x = next-of d (cacheVars c) s' q (callOp q) (q .vop) (stepOf 18 (q .reference) (q .node)) (x .0) (x .1) (x .2) .0
+  crash-op : (s' : MVariables) → ((step : Step) × (stepOf 18 ≡ some step) × NextStep d (cacheVars c) s' (callOp q) (q .vop) (q .reference) (q .node) step) → q .vop ≡ CrashOp
+  unfolding stepOf steps
+  crash-op s' (step, e, x) = let z : step ≡ crashStep = cc in (rw z at x) .0
 
   crash-to : joinedAnswer d 18 q o c s ≡ 0 → (answer (crashRows d s o) ≡ 0) × Crash (systemVars d c s) (record { machine = unready; disk = diskVars d (crashed o) }) (q .vop)
   crash-to e =
       let z = joined-zero d 18 q o c s .0 e in
       let a : answer (crashRows d s o) ≡ 0 = sym (crash-answer d 18 q o s refl) ∙ z .1 in
-      (a, record { op = crash-op (cacheVars (stepNext d c 18 (q .reference) q)) (cache-allowed d c 18 q (z .0)); machine = refl; disk = crash-accepted d s o .0 a .2 })
+      (a, record { op = crash-op (cacheVars (cacheNext c 18 q)) (cache-allowed d c 18 q (z .0)); machine = refl; disk = crash-accepted d s o .0 a .2 })
 
   crash-from : NoNarrowing d 18 q o c s → (m : MVariables) → Crash (systemVars d c s) (record { machine = m; disk = diskVars d (crashed o) }) (q .vop) → joinedAnswer d 18 q o c s ≡ 0
-  unfolding stepOf
+  unfolding stepOf steps
   crash-from h m x =
       joined-zero d 18 q o c s .1 (
         cache-accepted d c 18 q .1 (h .cache, (crashStep, refl, (m, (x .op, x .machine)))),
@@ -196,7 +200,7 @@ module _ (d n : ℕ) (q : Call) (o : Records) (c : CacheState) (s : DiskState) w
 
       from : NoNarrowing d n q o c s → SystemAllows d n q o c s → joinedAnswer d n q o c s ≡ 0
       from h a =
-          split (eqb n 18)
+          split (isCrash n)
           (λ t. let k : n ≡ 18 = eqb-true n 18 t in
           let x = a .crash t in
           rw k (crash-from d q o c s (rw k at h) (x .0) (x .1)))
@@ -213,6 +217,6 @@ module _ (d n : ℕ) (q : Call) (o : Records) (c : CacheState) (s : DiskState) w
         crash = λ t.
             let y : joined d n q o c s .disk ≡ crashed o = joined-disk d n q o c s e ∙ crash-next d n q o s t (sym (crash-answer d n q o s t) ∙ z .1) in
             let h : n ≡ 18 = eqb-true n 18 t in
-            let k : cacheVars (joined d n q o c s .cache) ≡ unready = ap cacheVars (cs ∙ ap (λ m. stepNext d c m (q .reference) q) h) ∙ cache-crash d c q in
+            let k : cacheVars (joined d n q o c s .cache) ≡ unready = ap cacheVars (cs ∙ ap (λ m. cacheNext c m q) h) ∙ cache-crash c q in
             rw (k, y) (crash-to d q o c s (rw h at e) .1);
       }

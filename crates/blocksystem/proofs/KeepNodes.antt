@@ -68,7 +68,7 @@ keep-page-in d x y v v' t id n w i u a =
         reads-uncached = λ j r q.
             let e = del-some (x .outstandingBlockReads) id j q in
             let h = p .reads-uncached j r (e .1) in
-            (h .0, put-other (x .cache) (u .ref) (u .block) r (λ z. e .0 (w .inv .reads-unique j id r (e .1) (rw z (u .there)))) ∙ h .1);
+            (h .0, put-other (x .cache) (u .ref) (u .block) r (λ z. e .0 (w .inv .outstanding .reads-unique j id r (e .1) (rw z (u .there)))) ∙ h .1);
         working-refs = p .working-refs;
         working-lists = p .working-lists;
         located = p .located;
@@ -257,7 +257,7 @@ keep-alloc d x y v t ref n w i u =
     keep-set d x y v t ref n (u .list) locs w i
     (let e = table-of (u .locs') (u .graph') in search ready-ext)
     (u .succs)
-    (λ k l q. ((λ z. not-both (x .ephemeralIndirectionTable .graph) ref (rw z at (w .inv .ephemeral .keys k (in-of locs k q))) (u .not-allocated)), q))
+    (λ k l q. ((λ z. not-both (x .ephemeralIndirectionTable .graph) ref (rw z at (w .inv .ephemeral .wf .keys k (in-of locs k q))) (u .not-allocated)), q))
     (λ k ne. refl)
     (λ id k q z. not-both (x .ephemeralIndirectionTable .graph) ref (rw z at (w .phase .reads-uncached id k q .0)) (u .not-allocated))
     (λ f q. spared-uncached (v .nodes) f (x .cache) (t .frozen) (w .phase .frozen f q) ref (u .not-cached))

@@ -4,7 +4,8 @@ use mathlib.Core.Option.{some}
 use mathlib.Core.Path.{_∙_, _≡_, sym}
 use Rattle.base.proofs.Tests.{clash}
 use Rattle.base.specs.Maps.{Map, del, put}
-use Rattle.blockcache.specs.Steps.{NextStep, OnBoth, allocStep, cleanUpStep, dirtyStep, evictStep, freezeStep, noOpStep, pageInIndirectionTableReqStep, pageInIndirectionTableRespStep, pageInNodeReqStep, pageInNodeRespStep, readStep, receiveLocStep, unallocStep, writeBackIndirectionTableReqStep, writeBackIndirectionTableRespStep, writeBackNodeReqStep, writeBackNodeRespStep}
+use Rattle.blockcache.specs.NextStep.{NextStep, OnBoth}
+use Rattle.blockcache.specs.Steps.{Step, allocStep, cleanUpStep, dirtyStep, evictStep, freezeStep, noOpStep, pageInIndirectionTableReqStep, pageInIndirectionTableRespStep, pageInNodeReqStep, pageInNodeRespStep, readStep, receiveLocStep, unallocStep, writeBackIndirectionTableReqStep, writeBackIndirectionTableRespStep, writeBackNodeReqStep, writeBackNodeRespStep}
 use Rattle.blockcache.specs.Upstream.{Alloc, CleanUp, Dirty, Evict, Freeze, PageInNodeReq, PageInNodeResp, Ready, Unalloc, Variables, WriteBackIndirectionTableReq, WriteBackIndirectionTableResp, WriteBackNodeReq, WriteBackNodeResp, ready}
 use Rattle.blockcache.specs.UpstreamInv.{Inv}
 use Rattle.blockcache.specs.declared.VersionOp.{VersionOp}
@@ -25,27 +26,31 @@ use Rattle.blocksystem.proofs.KeepWrite.{keep-write-req}
 on-both : {X : Type 0} (s s' : Variables) (P : Ready → Ready → Type 0) → OnBoth s s' P → ((x y : Ready) → s ≡ ready x → s' ≡ ready y → P x y → X) → X
 on-both s s' P h f = f (h .0) (h .2 .0) (h .1) (h .2 .1) (h .2 .2)
 
-module _ (d : ℕ) (s s' : Variables) (v v' : DVariables) (dop : Dop) (vop : VersionOp) (t : PictureMaps) (w : Whole d s v t) (i : Inv d s') (disk : Next v v' dop) (move : v' ≡ nextVars v dop) where
-  pub kept1 : (ref : ℕ) → NextStep d s s' dop vop (writeBackNodeReqStep ref) → Whole d s' v' t
-  kept1 ref g =
+module _ (d : ℕ) (s s' : Variables) (v v' : DVariables) (dop : Dop) (vop : VersionOp) (ref : ℕ) (n : Node) (t : PictureMaps) (w : Whole d s v t) (i : Inv d s')
+    (disk : Next v v' dop) (move : v' ≡ nextVars v dop) where
+  abbrev Taken : Step → Type 0
+  Taken step = NextStep d s s' dop vop ref n step
+
+  pub write-back-node-req-kept : Taken writeBackNodeReqStep → Whole d s' v' t
+  write-back-node-req-kept g =
       let id = g .1 .0 in
       let loc = g .1 .1 in
-      let n = g .1 .2 in
+      let m = g .1 .2 in
       let b = g .1 .3 in
       let h = g .1 .4 in
-      on-both s s' (λ x y. WriteBackNodeReq d x y id loc n ref) h
-      (λ x y ex ey u. rw (ey, move, b) (keep-write-req d x y v t id ref loc n (rw ex at w) u (rw ey at i)))
+      on-both s s' (λ x y. WriteBackNodeReq d x y id loc m ref) h
+      (λ x y ex ey u. rw (ey, move, b) (keep-write-req d x y v t id ref loc m (rw ex at w) u (rw ey at i)))
 
-  pub kept2 : NextStep d s s' dop vop writeBackNodeRespStep → Whole d s' v' t
-  kept2 g =
+  pub write-back-node-resp-kept : Taken writeBackNodeRespStep → Whole d s' v' t
+  write-back-node-resp-kept g =
       let id = g .1 .0 in
       let b = g .1 .1 in
       let h = g .1 .2 in
       on-both s s' (λ x y. WriteBackNodeResp x y id) h
       (λ x y ex ey u. rw (ey, move, b) (keep-write-resp d x y v t id (rw ex at w) (rw ey at i) u))
 
-  pub kept3 : NextStep d s s' dop vop writeBackIndirectionTableReqStep → Whole d s' v' t
-  kept3 g =
+  pub write-back-table-req-kept : Taken writeBackIndirectionTableReqStep → Whole d s' v' t
+  write-back-table-req-kept g =
       let id = g .1 .0 in
       let loc = g .1 .1 in
       let f = g .1 .2 in
@@ -55,10 +60,10 @@ module _ (d : ℕ) (s s' : Variables) (v v' : DVariables) (dop : Dop) (vop : Ver
       (λ x y ex ey u. let k = rw ex at w in
       rw (ey, move, b)
       (keep-table-write d x y v t id loc f k (rw ey at i) u
-      (λ e. clash (table-overlap-iff (deviceOf d) loc (x .persistentIndirectionTableLoc) (u .valid) (k .inv .persistent-valid) .1 e) (u .apart))))
+      (λ e. clash (table-overlap-iff (deviceOf d) loc (x .persistentIndirectionTableLoc) (u .valid) (k .inv .places .persistent-valid) .1 e) (u .apart))))
 
-  pub kept4 : (l : Location) → vop ≡ SendFrozenLocOp l → NextStep d s s' dop vop writeBackIndirectionTableRespStep → Whole d s' v' (namedMaps t l)
-  kept4 l q g =
+  pub write-back-table-resp-kept : (l : Location) → vop ≡ SendFrozenLocOp l → Taken writeBackIndirectionTableRespStep → Whole d s' v' (namedMaps t l)
+  write-back-table-resp-kept l q g =
       let m = g .0 in
       let a = g .1 in
       let id = g .2 .0 in
@@ -69,15 +74,15 @@ module _ (d : ℕ) (s s' : Variables) (v v' : DVariables) (dop : Dop) (vop : Ver
       let e : m ≡ l = cc in
       rw (ey, move, b) (rw e at (keep-table-resp d x y v t id m (rw ex at w) (rw ey at i) u)))
 
-  pub kept5 : (ref : ℕ) → NextStep d s s' dop vop (unallocStep ref) → Whole d s' v' (workingMaps t (del (t .working) ref))
-  kept5 ref g =
+  pub unalloc-kept : Taken unallocStep → Whole d s' v' (workingMaps t (del (t .working) ref))
+  unalloc-kept g =
       let b = g .1 in
       let h = g .2 in
       on-both s s' (λ x y. Unalloc x y ref) h
       (λ x y ex ey u. rw (ey, move, b) (keep-unalloc d x y v t ref (rw ex at w) (rw ey at i) u))
 
-  pub kept6 : (ref : ℕ) → NextStep d s s' dop vop (pageInNodeReqStep ref) → Whole d s' v' t
-  kept6 ref g =
+  pub page-in-node-req-kept : Taken pageInNodeReqStep → Whole d s' v' t
+  page-in-node-req-kept g =
       let id = g .1 .0 in
       let loc = g .1 .1 in
       let b = g .1 .2 in
@@ -85,17 +90,17 @@ module _ (d : ℕ) (s s' : Variables) (v v' : DVariables) (dop : Dop) (vop : Ver
       on-both s s' (λ x y. PageInNodeReq x y id loc ref) h
       (λ x y ex ey u. rw (ey, move, b) (keep-read-req d x y v t id ref loc (rw ex at w) (rw ey at i) u))
 
-  pub kept7 : NextStep d s s' dop vop pageInNodeRespStep → Whole d s' v' t
-  kept7 g =
+  pub page-in-node-resp-kept : Taken pageInNodeRespStep → Whole d s' v' t
+  page-in-node-resp-kept g =
       let id = g .1 .0 in
-      let n = g .1 .1 in
+      let m = g .1 .1 in
       let b = g .1 .2 in
       let h = g .1 .3 in
-      on-both s s' (λ x y. PageInNodeResp x y id n) h
-      (λ x y ex ey u. let k = rw b at disk in rw (ey, move, b) (keep-page-in d x y v v' t id n (rw ex at w) (rw ey at i) u k))
+      on-both s s' (λ x y. PageInNodeResp x y id m) h
+      (λ x y ex ey u. let k = rw b at disk in rw (ey, move, b) (keep-page-in d x y v v' t id m (rw ex at w) (rw ey at i) u k))
 
-  pub kept8 : NextStep d s s' dop vop pageInIndirectionTableReqStep → Whole d s' v' t
-  kept8 g =
+  pub page-in-table-req-kept : Taken pageInIndirectionTableReqStep → Whole d s' v' t
+  page-in-table-req-kept g =
       let id = g .1 .0 in
       let loc = g .1 .1 in
       let b = g .1 .2 in
@@ -105,8 +110,8 @@ module _ (d : ℕ) (s s' : Variables) (v v' : DVariables) (dop : Dop) (vop : Ver
       let u = g .1 .3 .3 in
       rw (move, b) (keep-table-read d at read s' v t id loc (rw ex at w) i u)
 
-  pub kept9 : NextStep d s s' dop vop pageInIndirectionTableRespStep → Whole d s' v' t
-  kept9 g =
+  pub page-in-table-resp-kept : Taken pageInIndirectionTableRespStep → Whole d s' v' t
+  page-in-table-resp-kept g =
       let id = g .1 .0 in
       let f = g .1 .1 in
       let b = g .1 .2 in
@@ -118,8 +123,8 @@ module _ (d : ℕ) (s s' : Variables) (v v' : DVariables) (dop : Dop) (vop : Ver
       let u = g .1 .3 .3 .2 in
       let k = rw b at disk in rw (ey, move, b) (keep-table-page-in d at read y v v' t id f (rw ex at w) (rw ey at i) u k)
 
-  pub kept10 : (l : Location) (t' : PictureMaps) → vop ≡ SendPersistentLocOp l → Started t t' l → NextStep d s s' dop vop receiveLocStep → Whole d s' v' t'
-  kept10 l t' q n g =
+  pub receive-loc-kept : (l : Location) (t' : PictureMaps) → vop ≡ SendPersistentLocOp l → Started t t' l → Taken receiveLocStep → Whole d s' v' t'
+  receive-loc-kept l t' q n g =
       let b = g .0 in
       let m = g .1 .0 in
       let a = g .1 .1 in
@@ -129,23 +134,23 @@ module _ (d : ℕ) (s s' : Variables) (v v' : DVariables) (dop : Dop) (vop : Ver
       let r = rw (u .before, e) at u in
       rw (move, b) (keep-receive d s' v t t' l (rw (u .before) at w) i r n)
 
-  pub kept11 : (ref : ℕ) → NextStep d s s' dop vop (evictStep ref) → Whole d s' v' t
-  kept11 ref g =
+  pub evict-kept : Taken evictStep → Whole d s' v' t
+  evict-kept g =
       let b = g .1 in
       let h = g .2 in
       on-both s s' (λ x y. Evict x y ref) h
       (λ x y ex ey u. rw (ey, move, b) (keep-evict d x y v t ref (rw ex at w) (rw ey at i) u))
 
-  pub kept12 : (blank : Map Node) → NextStep d s s' dop vop freezeStep → Whole d s' v' (frozeMaps t blank)
-  kept12 blank g =
+  pub freeze-kept : (blank : Map Node) → Taken freezeStep → Whole d s' v' (frozeMaps t blank)
+  freeze-kept blank g =
       let b = g .1 in
       let h = g .2 in
       on-both s s' (λ x y. Freeze x y) h
       (λ x y ex ey u. rw (ey, move, b) (keep-freeze d x y v t blank (rw ex at w) (rw ey at i) u))
 
   -- the place that is left named is the one that was named as frozen
-  pub kept13 : (blank : Map Node) → NextStep d s s' dop vop cleanUpStep → (l : Location) × (t .second ≡ some l) × Whole d s' v' (cleanedMaps t l blank)
-  kept13 blank g =
+  pub clean-up-kept : (blank : Map Node) → Taken cleanUpStep → (l : Location) × (t .second ≡ some l) × Whole d s' v' (cleanedMaps t l blank)
+  clean-up-kept blank g =
       let b = g .1 in
       let h = g .2 in
       on-both s s' (λ x y. CleanUp x y) h
@@ -153,25 +158,26 @@ module _ (d : ℕ) (s s' : Variables) (v v' : DVariables) (dop : Dop) (vop : Ver
       let k = rw ex at w in
       (u .loc, frozen-named d x v t (u .loc) k (u .no-table-write) (u .frozen-loc), rw (ey, move, b) (keep-clean-up d x y v t blank k (rw ey at i) u)))
 
-  pub kept14 : NextStep d s s' dop vop noOpStep → Whole d s' v' t
-  kept14 g =
+  pub no-op-kept : Taken noOpStep → Whole d s' v' t
+  no-op-kept g =
       let u = g .1 in
       rw (u .next, move) (keep-idle d s v t w dop (u .op))
 
-  pub kept15 : (ref : ℕ) (n : Node) → NextStep d s s' dop vop (dirtyStep ref n) → Whole d s' v' (workingMaps t (put (t .working) ref n))
-  kept15 ref n g =
+  pub dirty-kept : Taken dirtyStep → Whole d s' v' (workingMaps t (put (t .working) ref n))
+  dirty-kept g =
       let b = g .0 .1 in
       let h = g .1 in
       on-both s s' (λ x y. Dirty x y ref n) h
       (λ x y ex ey u. rw (ey, move, b) (keep-dirty d x y v t ref n (rw ex at w) (rw ey at i) u))
 
-  pub kept16 : (ref : ℕ) (n : Node) → NextStep d s s' dop vop (allocStep ref n) → Whole d s' v' (workingMaps t (put (t .working) ref n))
-  kept16 ref n g =
+  pub alloc-kept : Taken allocStep → Whole d s' v' (workingMaps t (put (t .working) ref n))
+  alloc-kept g =
       let b = g .0 .1 in
       let h = g .1 in
       on-both s s' (λ x y. Alloc x y ref n) h
       (λ x y ex ey u. rw (ey, move, b) (keep-alloc d x y v t ref n (rw ex at w) (rw ey at i) u))
 
 -- a read changes nothing; it takes no disk operation
-pub kept17 : (d : ℕ) (s s' : Variables) (v v' : DVariables) (dop : Dop) (vop : VersionOp) (t : PictureMaps) (ref : ℕ) → Whole d s v t → v' ≡ v → NextStep d s s' dop vop (readStep ref) → Whole d s' v' t
-kept17 d s s' v v' dop vop t ref w e g = rw (g .0, e) w
+pub read-kept : (d : ℕ) (s s' : Variables) (v v' : DVariables) (dop : Dop) (vop : VersionOp) (ref : ℕ) (n : Node) (t : PictureMaps) →
+    Whole d s v t → v' ≡ v → NextStep d s s' dop vop ref n readStep → Whole d s' v' t
+read-kept d s s' v v' dop vop ref n t w e g = rw (g .0, e) w

@@ -35,7 +35,7 @@ frozen-of-ephemeral d x v t w =
       lists = p .working-lists;
       located = p .located;
       cached = λ ref g e.
-          ⊎-elim (λ c. let n = some-of (x .cache) ref c in (n .0, n .1, p .cached ref (n .0) g (n .1))) (λ l. not-both (x .ephemeralIndirectionTable .locs) ref l e) (w .inv .consistent ref g);
+          ⊎-elim (λ c. let n = some-of (x .cache) ref c in (n .0, n .1, p .cached ref (n .0) g (n .1))) (λ l. not-both (x .ephemeralIndirectionTable .locs) ref l e) (w .inv .ephemeral .consistent ref g);
     }
 
 pub keep-freeze : (d : ℕ) (x y : Ready) (v : DVariables) (t : PictureMaps) (blank : Map Node) → Whole d (ready x) v t → Inv d (ready y) → Freeze x y → Whole d (ready y) v (frozeMaps t blank)
@@ -157,9 +157,9 @@ keep-table-resp d x y v t id loc w i u =
       second = λ l q. let e : loc ≡ l = cc in rw (← e) kept;
       apart = λ l q e.
           let h : loc ≡ l = cc in
-          let f = w .inv .frozen-loc loc (sym (u .frozen-loc)) in
+          let f = w .inv .places .frozen-loc loc (sym (u .frozen-loc)) in
           let k : loc .addr ≡ x .persistentIndirectionTableLoc .addr = ap (λ m. m .addr) h ∙ e ∙ ap (λ m. m .addr) (p .persistent-place) in
-          clash (table-overlap-iff (deviceOf d) loc (x .persistentIndirectionTableLoc) (f .valid) (w .inv .persistent-valid) .1 k) (f .apart);
+          clash (table-overlap-iff (deviceOf d) loc (x .persistentIndirectionTableLoc) (f .valid) (w .inv .places .persistent-valid) .1 k) (f .apart);
       phase = record {
         persistent-place = p .persistent-place;
         persistent-stored = p .persistent-stored;
@@ -192,7 +192,7 @@ keep-table-resp d x y v t id loc w i u =
 
     kept : Kept d (v .indirectionTables) (v .nodes) (del (v .reqWriteIndirectionTables) id) (v .reqWriteNodes) loc (t .frozen)
     kept =
-        let f = w .inv .frozen-loc loc (sym (u .frozen-loc)) in
+        let f = w .inv .places .frozen-loc loc (sym (u .frozen-loc)) in
         let o = w .phase .frozen (f .table) (f .is) in
         record {
           table = f .table;

@@ -103,7 +103,7 @@ module _ (d : ℕ) (x y : Ready) (v : DVariables) (t : PictureMaps) (id ref : �
   unmoved : (l : Location) (f : IndirectionTable) → x .frozenIndirectionTableLoc ≡ some l → assignFrozen (x .frozenIndirectionTable) ref loc ≡ some f → x .frozenIndirectionTable ≡ some f
   unmoved l f a q =
       let g = was f q in
-      let c = w .inv .frozen-loc l a in
+      let c = w .inv .places .frozen-loc l a in
       let same : some (c .table) ≡ some (g .0) = sym (c .is) ∙ g .1 in
       let e : c .table ≡ g .0 = cc in
       let full = assign-complete (g .0) ref loc (rw e at (c .wf .keys)) in
@@ -130,7 +130,7 @@ module _ (d : ℕ) (x y : Ready) (v : DVariables) (t : PictureMaps) (id ref : �
   second-free : (l : Location) (q : t .second ≡ some l) → NoAddr (w .second l q .table .locs) (loc .addr)
   second-free l q =
       let a = set-place (x .outstandingIndirectionTableWrite) (x .frozenIndirectionTableLoc) l (sym (p .frozen-place) ∙ q) in
-      let c = w .inv .frozen-loc l a in
+      let c = w .inv .places .frozen-loc l a in
       let e : some (w .second l q .table) ≡ some (c .table) = sym (w .second l q .stored) ∙ p .frozen-stored l (c .table) a (c .is) in
       let same : w .second l q .table ≡ c .table = cc in
       rw same (u .free .frozen (c .table) (c .is))

@@ -1,4 +1,4 @@
--- The pictures that an accepted step tells, as maps, and that each step other than a crash keeps the invariant, by its number. Assumes nothing.
+-- Names and pictures after an accepted step, as maps: each step other than a crash keeps the invariant. Assumes nothing.
 use Prim.Native.Nat.{_<_, ℕ}
 use mathlib.Core.Bool.{_||_, false, true}
 use mathlib.Core.Logic.{inl, inr}
@@ -8,10 +8,12 @@ use lib.Dec.{eqb}
 use Rattle.base.proofs.Maps.{flagged-some}
 use Rattle.base.proofs.Tests.{and-both, and-iff, clash, split}
 use Rattle.base.specs.Maps.{put}
-use Rattle.blockcache.proofs.Numbers.{by-number}
+use Rattle.blockcache.proofs.Numbers.{numberOf}
+use Rattle.blockcache.specs.Abstract.{callOp}
 use Rattle.blockcache.specs.Next.{cachedSlot}
+use Rattle.blockcache.specs.NextStep.{NextStep}
 use Rattle.blockcache.specs.Ops.{vopLoc}
-use Rattle.blockcache.specs.Steps.{NextStep, Step, callOp, stepOf}
+use Rattle.blockcache.specs.Steps.{Step, allocStep, cleanUpStep, crashStep, dirtyStep, evictStep, freezeStep, isCrash, isStart, noOpStep, pageInIndirectionTableReqStep, pageInIndirectionTableRespStep, pageInNodeReqStep, pageInNodeRespStep, readStep, receiveLocStep, unallocStep, writeBackIndirectionTableReqStep, writeBackIndirectionTableRespStep, writeBackNodeReqStep, writeBackNodeRespStep}
 use Rattle.blockcache.specs.Upstream.{Variables}
 use Rattle.blockcache.specs.UpstreamInv.{Inv}
 use Rattle.blockcache.specs.declared.Call.{Call}
@@ -25,11 +27,11 @@ use Rattle.sectortype.specs.Abstract.{nodesMap}
 use Rattle.sectortype.specs.Form.{emptyNodes, nodeForm, nodesForm, slotForm, withSlot, zeroSlot}
 use Rattle.sectortype.specs.Same.{sameLoc}
 use Rattle.sectortype.specs.declared.Nodes.{Nodes}
-use Rattle.blocksystem.proofs.Invariant.{PicturesForm, Whole, pictureMaps}
+use Rattle.blocksystem.proofs.Invariant.{PictureMaps, PicturesForm, Whole, pictureMaps}
 use Rattle.blocksystem.proofs.KeepQueues.{Started}
-use Rattle.blocksystem.proofs.KeepSteps.{kept1, kept10, kept11, kept12, kept13, kept14, kept15, kept16, kept17, kept2, kept3, kept4, kept5, kept6, kept7, kept8, kept9}
+use Rattle.blocksystem.proofs.KeepSteps.{alloc-kept, clean-up-kept, dirty-kept, evict-kept, freeze-kept, no-op-kept, page-in-node-req-kept, page-in-node-resp-kept, page-in-table-req-kept, page-in-table-resp-kept, read-kept, receive-loc-kept, unalloc-kept, write-back-node-req-kept, write-back-node-resp-kept, write-back-table-req-kept, write-back-table-resp-kept}
 use Rattle.blocksystem.specs.Joined.{diskCall}
-use Rattle.blocksystem.specs.Names.{names, pictureOf, startedAt, picturesAfter}
+use Rattle.blocksystem.specs.Names.{names, pictureOf, startedAt, stepPictures}
 use Rattle.blocksystem.specs.declared.Pictures.{Pictures}
 
 -- A START AT A NAMED PLACE
@@ -64,19 +66,16 @@ pub record KeptAfter (d : ℕ) (s : Variables) (v : DVariables) (t : Pictures) :
   pub whole : Whole d s v (pictureMaps t)
 
 module _ (d : ℕ) (q : Call) (s s' : Variables) (v v' : DVariables) (t : Pictures) (w : Whole d s v (pictureMaps t)) (f : PicturesForm t) (named : t .first .present ≡ true) (i : Inv d s') (bound : q .reference < 64) (formed : nodeForm (q .node) ≡ true) where
-  abbrev NextOf : Option Step → Type 0
-  NextOf none = ⊥
-  NextOf (some step) = NextStep d s s' (callOp q) (q .vop) step
-
-  pub record Moves (n : ℕ) : Type 0 where
-    pub cache : NextOf (stepOf n (q .reference) (q .node))
-    pub disk : Next v v' (dopOf (diskCall n q))
-    pub move : v' ≡ nextVars v (dopOf (diskCall n q))
+  -- an accepted step other than a crash
+  pub record Moves (step : Step) : Type 0 where
+    pub cache : NextStep d s s' (callOp q) (q .vop) (q .reference) (q .node) step
+    pub disk : Next v v' (dopOf (diskCall (numberOf step) q))
+    pub move : v' ≡ nextVars v (dopOf (diskCall (numberOf step) q))
     -- an accepted start is given a place then named
-    pub start : eqb n 10 ≡ true → (names (t .first) (vopLoc (q .vop)) || names (t .second) (vopLoc (q .vop))) ≡ true
+    pub start : isStart (numberOf step) ≡ true → (names (t .first) (vopLoc (q .vop)) || names (t .second) (vopLoc (q .vop))) ≡ true
 
-  abbrev dop : Dop
-  dop = callOp q
+  abbrev maps : PictureMaps
+  maps = pictureMaps t
 
   same : Whole d s' v' (pictureMaps t) → KeptAfter d s' v' t
   same h = record { form = f; named = named; whole = h }
@@ -91,63 +90,63 @@ module _ (d : ℕ) (q : Call) (s s' : Variables) (v v' : DVariables) (t : Pictur
   set-form : nodesForm (withSlot (t .working) (q .reference) (cachedSlot (q .node))) ≡ true
   set-form = with-slot-form (t .working) (q .reference) (cachedSlot (q .node)) (f .working) bound (and-both formed refl)
 
-  pub step-kept : (n : ℕ) → eqb n 18 ≡ false → Moves n → KeptAfter d s' v' (picturesAfter n q t)
-  unfolding picturesAfter stepOf
-  step-kept n =
-      by-number (λ n. eqb n 18 ≡ false → Moves n → KeptAfter d s' v' (picturesAfter n q t))
-      (λ e m. same (kept1 d s s' v v' dop (q .vop) (pictureMaps t) w i (m .disk) (m .move) (q .reference) (m .cache)))
-      (λ e m. same (kept2 d s s' v v' dop (q .vop) (pictureMaps t) w i (m .disk) (m .move) (m .cache)))
-      (λ e m. same (kept3 d s s' v v' dop (q .vop) (pictureMaps t) w i (m .disk) (m .move) (m .cache)))
-      (λ e m. record {
+  pub step-kept : (step : Step) → isCrash (numberOf step) ≡ false → Moves step → KeptAfter d s' v' (stepPictures q t step)
+  step-kept writeBackNodeReqStep e m = same (write-back-node-req-kept d s s' v v' (callOp q) (q .vop) (q .reference) (q .node) maps w i (m .disk) (m .move) (m .cache))
+  step-kept writeBackNodeRespStep e m = same (write-back-node-resp-kept d s s' v v' (callOp q) (q .vop) (q .reference) (q .node) maps w i (m .disk) (m .move) (m .cache))
+  step-kept writeBackIndirectionTableReqStep e m = same (write-back-table-req-kept d s s' v v' (callOp q) (q .vop) (q .reference) (q .node) maps w i (m .disk) (m .move) (m .cache))
+  step-kept writeBackIndirectionTableRespStep e m =
+      record {
         form = record { first = f .first; second = f .frozen; working = f .working; frozen = f .frozen };
         named = named;
-        whole = rw (ap vopLoc (m .cache .1)) (kept4 d s s' v v' dop (q .vop) (pictureMaps t) w i (m .disk) (m .move) (m .cache .0) (m .cache .1) (m .cache));
-      })
-      (λ e m. record {
+        whole = rw (ap vopLoc (m .cache .1)) (write-back-table-resp-kept d s s' v v' (callOp q) (q .vop) (q .reference) (q .node) maps w i (m .disk) (m .move) (m .cache .0) (m .cache .1) (m .cache));
+      }
+  step-kept unallocStep e m =
+      record {
         form = with-working-form (withSlot (t .working) (q .reference) zeroSlot) (with-slot-form (t .working) (q .reference) zeroSlot (f .working) bound zero-slot-form);
         named = named;
-        whole = rw (nodes-del (t .working) (q .reference) zeroSlot (f .working) bound refl) (kept5 d s s' v v' dop (q .vop) (pictureMaps t) w i (m .disk) (m .move) (q .reference) (m .cache));
-      })
-      (λ e m. same (kept6 d s s' v v' dop (q .vop) (pictureMaps t) w i (m .disk) (m .move) (q .reference) (m .cache)))
-      (λ e m. same (kept7 d s s' v v' dop (q .vop) (pictureMaps t) w i (m .disk) (m .move) (m .cache)))
-      (λ e m. same (kept8 d s s' v v' dop (q .vop) (pictureMaps t) w i (m .disk) (m .move) (m .cache)))
-      (λ e m. same (kept9 d s s' v v' dop (q .vop) (pictureMaps t) w i (m .disk) (m .move) (m .cache)))
-      (λ e m. record {
+        whole = rw (nodes-del (t .working) (q .reference) zeroSlot (f .working) bound refl) (unalloc-kept d s s' v v' (callOp q) (q .vop) (q .reference) (q .node) maps w i (m .disk) (m .move) (m .cache));
+      }
+  step-kept pageInNodeReqStep e m = same (page-in-node-req-kept d s s' v v' (callOp q) (q .vop) (q .reference) (q .node) maps w i (m .disk) (m .move) (m .cache))
+  step-kept pageInNodeRespStep e m = same (page-in-node-resp-kept d s s' v v' (callOp q) (q .vop) (q .reference) (q .node) maps w i (m .disk) (m .move) (m .cache))
+  step-kept pageInIndirectionTableReqStep e m = same (page-in-table-req-kept d s s' v v' (callOp q) (q .vop) (q .reference) (q .node) maps w i (m .disk) (m .move) (m .cache))
+  step-kept pageInIndirectionTableRespStep e m = same (page-in-table-resp-kept d s s' v v' (callOp q) (q .vop) (q .reference) (q .node) maps w i (m .disk) (m .move) (m .cache))
+  step-kept receiveLocStep e m =
+      let to = startedAt t (vopLoc (q .vop)) in
+      let l = m .cache .1 .0 in
+      let a = ap vopLoc (m .cache .1 .1) in
+      let n = started t (vopLoc (q .vop)) (m .start refl) in
+      record {
         form = record { first = picture-form t (vopLoc (q .vop)) f; second = empty-nodes-form; working = picture-form t (vopLoc (q .vop)) f; frozen = f .frozen };
         named = refl;
-        whole =
-            let l = m .cache .1 .0 in
-            let a = ap vopLoc (m .cache .1 .1) in
-            let n = started t (vopLoc (q .vop)) (m .start refl) in
-            kept10 d s s' v v' dop (q .vop) (pictureMaps t) w i (m .disk) (m .move) l (pictureMaps (startedAt t (vopLoc (q .vop)))) (m .cache .1 .1) (subst (Started (pictureMaps t) (pictureMaps (startedAt t (vopLoc (q .vop))))) a n) (m .cache);
-      })
-      (λ e m. same (kept11 d s s' v v' dop (q .vop) (pictureMaps t) w i (m .disk) (m .move) (q .reference) (m .cache)))
-      (λ e m. record {
+        whole = receive-loc-kept d s s' v v' (callOp q) (q .vop) (q .reference) (q .node) maps w i (m .disk) (m .move) l (pictureMaps to) (m .cache .1 .1) (subst (Started maps (pictureMaps to)) a n) (m .cache);
+      }
+  step-kept evictStep e m = same (evict-kept d s s' v v' (callOp q) (q .vop) (q .reference) (q .node) maps w i (m .disk) (m .move) (m .cache))
+  step-kept freezeStep e m =
+      record {
         form = record { first = f .first; second = empty-nodes-form; working = f .working; frozen = f .working };
         named = named;
-        whole = kept12 d s s' v v' dop (q .vop) (pictureMaps t) w i (m .disk) (m .move) (nodesMap emptyNodes) (m .cache);
-      })
-      (λ e m.
-      let k = kept13 d s s' v v' dop (q .vop) (pictureMaps t) w i (m .disk) (m .move) (nodesMap emptyNodes) (m .cache) in
+        whole = freeze-kept d s s' v v' (callOp q) (q .vop) (q .reference) (q .node) maps w i (m .disk) (m .move) (nodesMap emptyNodes) (m .cache);
+      }
+  step-kept cleanUpStep e m =
+      let k = clean-up-kept d s s' v v' (callOp q) (q .vop) (q .reference) (q .node) maps w i (m .disk) (m .move) (nodesMap emptyNodes) (m .cache) in
       let h = flagged-some (t .second .present) (t .second .place) (k .1) in
       record {
         form = record { first = f .second; second = empty-nodes-form; working = f .working; frozen = f .frozen };
         named = h .0;
         whole = rw (h .1) (k .2);
-      })
-      (λ e m. same (kept14 d s s' v v' dop (q .vop) (pictureMaps t) w i (m .disk) (m .move) (m .cache)))
-      (λ e m. record {
+      }
+  step-kept noOpStep e m = same (no-op-kept d s s' v v' (callOp q) (q .vop) (q .reference) (q .node) maps w i (m .disk) (m .move) (m .cache))
+  step-kept dirtyStep e m =
+      record {
         form = with-working-form (withSlot (t .working) (q .reference) (cachedSlot (q .node))) set-form;
         named = named;
-        whole = rw set-node (kept15 d s s' v v' dop (q .vop) (pictureMaps t) w i (m .disk) (m .move) (q .reference) (q .node) (m .cache));
-      })
-      (λ e m. record {
+        whole = rw set-node (dirty-kept d s s' v v' (callOp q) (q .vop) (q .reference) (q .node) maps w i (m .disk) (m .move) (m .cache));
+      }
+  step-kept allocStep e m =
+      record {
         form = with-working-form (withSlot (t .working) (q .reference) (cachedSlot (q .node))) set-form;
         named = named;
-        whole = rw set-node (kept16 d s s' v v' dop (q .vop) (pictureMaps t) w i (m .disk) (m .move) (q .reference) (q .node) (m .cache));
-      })
-      (λ e m. same (kept17 d s s' v v' dop (q .vop) (pictureMaps t) (q .reference) w (m .move) (m .cache)))
-      (λ e m. clash refl e)
-      (λ n f1 f2 f3 f4 f5 f6 f7 f8 f9 f10 f11 f12 f13 f14 f15 f16 f17 f18 e m.
-      absurd (rw (f1, f2, f3, f4, f5, f6, f7, f8, f9, f10, f11, f12, f13, f14, f15, f16, f17, f18) at (m .cache)))
-      n
+        whole = rw set-node (alloc-kept d s s' v v' (callOp q) (q .vop) (q .reference) (q .node) maps w i (m .disk) (m .move) (m .cache));
+      }
+  step-kept readStep e m = same (read-kept d s s' v v' (callOp q) (q .vop) (q .reference) (q .node) maps w (m .move) (m .cache))
+  step-kept crashStep e m = clash refl e

@@ -8,11 +8,10 @@ use mathlib.Core.Option.{Option, some}
 use mathlib.Core.Path.{_∙_, _≡_, ap, refl, subst, sym}
 use Rattle.base.proofs.Tests.{and-iff, none-iff, or-cases, split}
 use Rattle.base.specs.Maps.{isSome}
-use Rattle.blockcache.proofs.Demand2.{cache-read}
-use Rattle.blockcache.proofs.Numbers.{rows-accepted-iff}
+use Rattle.blockcache.proofs.Demand2.{cache-node, cache-read}
+use Rattle.blockcache.specs.Abstract.{readyVars, varsIn}
 use Rattle.blockcache.specs.Form.{readyPhase}
-use Rattle.blockcache.specs.Step.{cacheStep, stepped, stepNode}
-use Rattle.blockcache.specs.Steps.{readyVars, varsIn}
+use Rattle.blockcache.specs.Step.{nodeOf}
 use Rattle.blockcache.specs.Upstream.{ready}
 use Rattle.blockcache.specs.declared.CacheState.{CacheState}
 use Rattle.blockcache.specs.declared.Call.{Call}
@@ -112,10 +111,8 @@ ready-vars c PhaseReady e = refl
 -- an accepted read hands out the working picture's node
 pub read-pictured : (d : ℕ) (s : State) (q : Call) (o : Records) → Invariant d s → joinedAnswer d 17 q o (s .cache) (s .disk) ≡ 0 →
     nodesMap (s .pictures .working) (q .reference) ≡ some (joined d 17 q o (s .cache) (s .disk) .node)
-unfolding cacheStep stepped
 read-pictured d s q o v e =
     let z = joined-zero d 17 q o (s .cache) (s .disk) .0 e in
     let r = cache-read d (s .cache) q (z .0) in
     let p = subst (λ x. InPhase x (diskVars d (s .disk)) (pictureMaps (s .pictures))) (ready-vars (s .cache) (s .cache .phase) (r .0)) (v .whole .phase) in
-    let w = rows-accepted-iff d (s .cache) 17 q .0 (z .0) .0 in
-    rw (joined-node d 17 q o (s .cache) (s .disk) e, w) (p .cached (q .reference) (stepNode d (s .cache) 17 (q .reference) q) (r .2 .allocated) (r .2 .cached))
+    rw (joined-node d 17 q o (s .cache) (s .disk) e, cache-node d (s .cache) q (z .0)) (p .cached (q .reference) (nodeOf (s .cache) 17 q) (r .2 .allocated) (r .2 .cached))

@@ -4,10 +4,9 @@ use mathlib.Core.Bool.{cond, false, true}
 use mathlib.Core.List.{[], _∷_}
 use mathlib.Core.Option.{some}
 use mathlib.Core.Path.{_≡_}
-use lib.Dec.{eqb}
 use Rattle.base.specs.Refusals.{NoneOf}
 use Rattle.blockcache.specs.Narrowings.{narrowed}
-use Rattle.blockcache.specs.Steps.{Step as MStep, stepOf}
+use Rattle.blockcache.specs.Steps.{Step as MStep, isCrash, isRead, stepOf}
 use Rattle.blockcache.specs.Upstream.{Variables as MVariables}
 use Rattle.blockcache.specs.declared.CacheState.{CacheState}
 use Rattle.blockcache.specs.declared.Call.{Call}
@@ -27,29 +26,29 @@ abbrev pub joinedOp : ℕ → Call → Dop
 joinedOp n q = dopOf (diskCall n q)
 
 abbrev pub joinedVop : ℕ → Call → VersionOp
-joinedVop n q = cond (eqb n 17) StatesInternalOp (q .vop)
+joinedVop n q = cond (isRead n) StatesInternalOp (q .vop)
 
 module _ (d n : ℕ) (q : Call) (o : Records) (c : CacheState) (s : DiskState) where
   -- no narrowing of cache or disk applies
   pub record NoNarrowing : Type 0 where
     pub cache : narrowed d c n q ≡ false
     -- the disk's are 1, 16 and 18; of a crash 1 and the places of the offered records, a part of 19
-    pub disk : eqb n 18 ≡ false → NoneOf (1 ∷ 16 ∷ 18 ∷ []) (diskRows d s (diskCall n q))
-    pub crash : eqb n 18 ≡ true → NoneOf (1 ∷ []) (crashRows d s o) × (recordsChecked d o .placed ≡ true)
+    pub disk : isCrash n ≡ false → NoneOf (1 ∷ 16 ∷ 18 ∷ []) (diskRows d s (diskCall n q))
+    pub crash : isCrash n ≡ true → NoneOf (1 ∷ []) (crashRows d s o) × (recordsChecked d o .placed ≡ true)
 
   -- upstream allows the step of this number to end in s'
   abbrev pub MachineTo : Variables → Type 0
-  MachineTo s' = (step : MStep) × (stepOf n (q .reference) (q .node) ≡ some step) × Machine d (systemVars d c s) s' (joinedOp n q) (joinedVop n q) step
+  MachineTo s' = (step : MStep) × (stepOf n ≡ some step) × Machine d (systemVars d c s) s' (joinedOp n q) (joinedVop n q) (q .reference) (q .node) step
 
   -- some next state; of a crash one with the disk that is offered
   pub record SystemAllows : Type 0 where
-    pub machine : eqb n 18 ≡ false → (s' : Variables) × MachineTo s'
-    pub crash : eqb n 18 ≡ true → (m : MVariables) × Crash (systemVars d c s) (record { machine = m; disk = diskVars d (crashed o) }) (q .vop)
+    pub machine : isCrash n ≡ false → (s' : Variables) × MachineTo s'
+    pub crash : isCrash n ≡ true → (m : MVariables) × Crash (systemVars d c s) (record { machine = m; disk = diskVars d (crashed o) }) (q .vop)
 
   abbrev pub handedBack : Variables
   handedBack = systemVars d (joined d n q o c s .cache) (joined d n q o c s .disk)
 
   -- the state handed back is one that upstream allows
   pub record SystemMoves : Type 0 where
-    pub machine : eqb n 18 ≡ false → MachineTo handedBack
-    pub crash : eqb n 18 ≡ true → Crash (systemVars d c s) handedBack (q .vop)
+    pub machine : isCrash n ≡ false → MachineTo handedBack
+    pub crash : isCrash n ≡ true → Crash (systemVars d c s) handedBack (q .vop)

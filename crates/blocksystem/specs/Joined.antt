@@ -6,6 +6,7 @@ use lib.Dec.{eqb}
 use Rattle.base.specs.Refusals.{Row, _when_, answer, lowest}
 use Rattle.blockcache.specs.Ops.{vopLoc}
 use Rattle.blockcache.specs.Step.{cacheStep}
+use Rattle.blockcache.specs.Steps.{isCrash, isRead, isStart}
 use Rattle.blockcache.specs.declared.CacheState.{CacheState}
 use Rattle.blockcache.specs.declared.Call.{Call}
 use Rattle.blockdisk.specs.Crash.{diskCrash}
@@ -21,14 +22,14 @@ use Rattle.blocksystem.specs.declared.Outcome.{Outcome}
 
 -- what the disk is asked: a read takes no disk operation, a crash is offered records
 abbrev pub diskCall : ℕ → Call → DiskCall
-diskCall n q = record { op = cond (eqb n 17) NoDiskOp (q .dop); node = q .node; table = q .table }
+diskCall n q = record { op = cond (isRead n) NoDiskOp (q .dop); node = q .node; table = q .table }
 
 unfoldable pub diskAsked : ℕ → ℕ → Call → Records → DiskState → DiskOutcome
-diskAsked d n q o s = cond (eqb n 18) (diskCrash d s o) (diskStep d s (diskCall n q))
+diskAsked d n q o s = cond (isCrash n) (diskCrash d s o) (diskStep d s (diskCall n q))
 
 -- a start: 20 where no whole graph is stored at the place given
 abbrev pub startRows : ℕ → ℕ → Call → DiskState → List Row
-startRows d n q s = (20 when (eqb n 10 && not (WFSuccs d (s .records) (vopLoc (q .vop))))) ∷ []
+startRows d n q s = (20 when (isStart n && not (WFSuccs d (s .records) (vopLoc (q .vop))))) ∷ []
 
 unfoldable pub joinedAnswer : ℕ → ℕ → Call → Records → CacheState → DiskState → ℕ
 joinedAnswer d n q o c s = lowest (lowest (cacheStep d c n q .answer) (diskAsked d n q o s .answer)) (answer (startRows d n q s))

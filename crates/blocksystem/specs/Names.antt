@@ -1,10 +1,10 @@
 -- Names and pictures of document 01, settled by accepted calls and their arguments alone. A picture is nodes by reference.
 use Prim.Native.Nat.{ℕ}
+use mathlib.Core.Option.{Option, none, some}
 use mathlib.Core.Bool.{Bool, _&&_, cond, false, true}
-use lib.Dec.{eqb}
 use Rattle.blockcache.specs.Next.{cachedSlot}
 use Rattle.blockcache.specs.Ops.{vopLoc}
-use Rattle.blockcache.specs.Rows.{first}
+use Rattle.blockcache.specs.Steps.{Step, allocStep, cleanUpStep, crashStep, dirtyStep, evictStep, freezeStep, noOpStep, pageInIndirectionTableReqStep, pageInIndirectionTableRespStep, pageInNodeReqStep, pageInNodeRespStep, readStep, receiveLocStep, stepOf, unallocStep, writeBackIndirectionTableReqStep, writeBackIndirectionTableRespStep, writeBackNodeReqStep, writeBackNodeRespStep}
 use Rattle.blockcache.specs.declared.Call.{Call}
 use Rattle.disklayout.specs.Calls.{place, zeroLoc}
 use Rattle.disklayout.specs.declared.Location.{Location}
@@ -58,13 +58,31 @@ abbrev pub cleaned : Pictures → Pictures
 cleaned t = record { first = t .second; second = zeroNamed; working = t .working; frozen = t .frozen }
 
 -- Dirty and Alloc set a reference's node in the working picture; Unalloc removes it; crash and the other steps change nothing
+module _ (q : Call) (t : Pictures) where
+  abbrev pub stepPictures : Step → Pictures
+  stepPictures writeBackNodeReqStep = t
+  stepPictures writeBackNodeRespStep = t
+  stepPictures writeBackIndirectionTableReqStep = t
+  stepPictures writeBackIndirectionTableRespStep = frozenNamed t (vopLoc (q .vop))
+  stepPictures unallocStep = withWorking t (withSlot (t .working) (q .reference) zeroSlot)
+  stepPictures pageInNodeReqStep = t
+  stepPictures pageInNodeRespStep = t
+  stepPictures pageInIndirectionTableReqStep = t
+  stepPictures pageInIndirectionTableRespStep = t
+  stepPictures receiveLocStep = startedAt t (vopLoc (q .vop))
+  stepPictures evictStep = t
+  stepPictures freezeStep = froze t
+  stepPictures cleanUpStep = cleaned t
+  stepPictures noOpStep = t
+  stepPictures dirtyStep = withWorking t (withSlot (t .working) (q .reference) (cachedSlot (q .node)))
+  stepPictures allocStep = withWorking t (withSlot (t .working) (q .reference) (cachedSlot (q .node)))
+  stepPictures readStep = t
+  stepPictures crashStep = t
+
+  abbrev pub picturesOf : Option Step → Pictures
+  picturesOf none = t
+  picturesOf (some step) = stepPictures step
+
+-- by the number of the call
 unfoldable pub picturesAfter : ℕ → Call → Pictures → Pictures
-picturesAfter n q t =
-    cond (eqb n 4) (frozenNamed t (vopLoc (q .vop)))
-    (cond (eqb n 5) (withWorking t (withSlot (t .working) (q .reference) zeroSlot))
-    (cond (eqb n 10) (startedAt t (vopLoc (q .vop)))
-    (cond (eqb n 12) (froze t)
-    (cond (eqb n 13) (cleaned t)
-    (cond (eqb n 15) (withWorking t (withSlot (t .working) (q .reference) (cachedSlot (q .node))))
-    (cond (eqb n 16) (withWorking t (withSlot (t .working) (q .reference) (cachedSlot (q .node))))
-    t))))))
+picturesAfter n q t = picturesOf q t (stepOf n)

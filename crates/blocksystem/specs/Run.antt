@@ -8,6 +8,7 @@ use lib.Dec.{eqb}
 use Rattle.base.specs.Refusals.{Row, holds}
 use Rattle.blockcache.specs.Ops.{vopLoc}
 use Rattle.blockcache.specs.Step.{cacheRows, cacheStep}
+use Rattle.blockcache.specs.Steps.{isCrash, isStart}
 use Rattle.blockcache.specs.declared.CacheState.{CacheState}
 use Rattle.blockcache.specs.declared.Call.{Call}
 use Rattle.blockdisk.specs.Crash.{crashRows}
@@ -22,11 +23,9 @@ use Rattle.blocksystem.specs.Names.{firstPictures, names, picturesAfter}
 use Rattle.blocksystem.specs.declared.Outcome.{Outcome}
 use Rattle.blocksystem.specs.declared.Pictures.{Pictures}
 
--- a joined call: its step number, its arguments, and the records offered, which a crash alone looks at
-pub record JoinedCall : Type 0 where
-  pub number : ℕ
-  pub args : Call
-  pub offered : Records
+-- a call of a list: a step, by its number, with its arguments and the records offered, which a crash alone looks at
+pub data JoinedCall : Type 0 where
+  step : ℕ → Call → Records → JoinedCall
 
 -- cache and disk as the last call handed them back, and the names and pictures
 pub record State : Type 0 where
@@ -38,64 +37,73 @@ module _ (d : ℕ) where
   abbrev pub start : ℕ → State
   start x = record { cache = formatted d x .cache; disk = formatted d x .disk; pictures = firstPictures d x }
 
-  abbrev pub asked : State → JoinedCall → Outcome
-  asked s k = joined d (k .number) (k .args) (k .offered) (s .cache) (s .disk)
+  -- A STEP
 
-  abbrev pub accepts : State → JoinedCall → Bool
-  accepts s k = eqb (asked s k .answer) 0
+  abbrev pub asked : State → ℕ → Call → Records → Outcome
+  asked s n q o = joined d n q o (s .cache) (s .disk)
+
+  abbrev pub acceptsStep : State → ℕ → Call → Records → Bool
+  acceptsStep s n q o = eqb (asked s n q o .answer) 0
+
+  -- cache and disk as the call hands them back; names and pictures move where it is accepted
+  abbrev pub afterStep : State → ℕ → Call → Records → State
+  afterStep s n q o =
+      record {
+        cache = asked s n q o .cache;
+        disk = asked s n q o .disk;
+        pictures = cond (acceptsStep s n q o) (picturesAfter n q (s .pictures)) (s .pictures);
+      }
+
+  -- what the disk refuses: a crash has rows of its own
+  abbrev pub diskSide : State → ℕ → Call → Records → List Row
+  diskSide s n q o = cond (isCrash n) (crashRows d (s .disk) o) (diskRows d (s .disk) (diskCall n q))
+
+  -- the condition of number k holds: in the rows of the cache, of the disk or of a start
+  unfoldable pub conditions : State → ℕ → Call → Records → ℕ → Bool
+  conditions s n q o k = holds k (cacheRows d (s .cache) n q) || holds k (diskSide s n q o) || holds k (startRows d n q (s .disk))
+
+  -- it is answered as document 01 fixes
+  pub record StepAnswered (s : State) (n : ℕ) (q : Call) (o : Records) : Type 0 where
+    -- 0 exactly where no condition of any number holds
+    pub accepted : (asked s n q o .answer ≡ 0) ↔ ((k : ℕ) → conditions s n q o k ≡ false)
+    -- else the answer's own condition holds, and no lower number's does
+    pub refused : (asked s n q o .answer ≡ 0 → ⊥) → conditions s n q o (asked s n q o .answer) ≡ true
+    pub lowest : (k : ℕ) → k < asked s n q o .answer → conditions s n q o k ≡ false
+    -- a refused call hands back cache and disk unchanged and a node of zeros
+    pub cache-unchanged : (asked s n q o .answer ≡ 0 → ⊥) → asked s n q o .cache ≡ s .cache
+    pub disk-unchanged : (asked s n q o .answer ≡ 0 → ⊥) → asked s n q o .disk ≡ s .disk
+    pub no-node : (asked s n q o .answer ≡ 0 → ⊥) → asked s n q o .node ≡ zeroNode
+    -- an accepted one the next cache and disk, and the node of a read
+    pub cache-next : asked s n q o .answer ≡ 0 → asked s n q o .cache ≡ cacheStep d (s .cache) n q .cache
+    pub disk-next : asked s n q o .answer ≡ 0 → asked s n q o .disk ≡ diskAsked d n q o (s .disk) .disk
+    pub node-read : asked s n q o .answer ≡ 0 → asked s n q o .node ≡ cacheStep d (s .cache) n q .node
+
+  -- an accepted start is given a place then named
+  abbrev pub stepNamed : State → ℕ → Call → Records → Bool
+  stepNamed s n q o =
+      not (acceptsStep s n q o && isStart n) || names (s .pictures .first) (vopLoc (q .vop)) || names (s .pictures .second) (vopLoc (q .vop))
+
+  -- ANY CALL OF A LIST
 
   -- each call gets the cache and disk that the last one handed back
   abbrev pub moved : State → JoinedCall → State
-  moved s k =
-      record {
-        cache = asked s k .cache;
-        disk = asked s k .disk;
-        pictures = cond (accepts s k) (picturesAfter (k .number) (k .args) (s .pictures)) (s .pictures);
-      }
+  moved s (step n q o) = afterStep s n q o
 
-  unfoldable pub outcomes : State → List JoinedCall → List Outcome
-  outcomes s [] = []
-  outcomes s (k ∷ ks) = asked s k ∷ outcomes (moved s k) ks
+  abbrev pub AnsweredAs : State → JoinedCall → Type 0
+  AnsweredAs s (step n q o) = StepAnswered s n q o
+
+  abbrev pub startNamed : State → JoinedCall → Bool
+  startNamed s (step n q o) = stepNamed s n q o
+
+  -- ALONG A LIST
 
   unfoldable pub after : State → List JoinedCall → State
   after s [] = s
   after s (k ∷ ks) = after (moved s k) ks
 
-  -- EACH CALL IS ANSWERED AS DOCUMENT 01 FIXES
-
-  -- what the disk refuses: a crash has rows of its own
-  abbrev pub diskSide : State → JoinedCall → List Row
-  diskSide s k = cond (eqb (k .number) 18) (crashRows d (s .disk) (k .offered)) (diskRows d (s .disk) (diskCall (k .number) (k .args)))
-
-  -- the condition of number n holds: in the rows of the cache, of the disk or of a start
-  unfoldable pub conditions : State → JoinedCall → ℕ → Bool
-  conditions s k n =
-      holds n (cacheRows d (s .cache) (k .number) (k .args)) || holds n (diskSide s k) || holds n (startRows d (k .number) (k .args) (s .disk))
-
-  pub record AnsweredAs (s : State) (k : JoinedCall) : Type 0 where
-    -- 0 exactly where no condition of any number holds
-    pub accepted : (asked s k .answer ≡ 0) ↔ ((n : ℕ) → conditions s k n ≡ false)
-    -- else the answer's own condition holds, and no lower number's does
-    pub refused : (asked s k .answer ≡ 0 → ⊥) → conditions s k (asked s k .answer) ≡ true
-    pub lowest : (n : ℕ) → n < asked s k .answer → conditions s k n ≡ false
-    -- a refused call hands back cache and disk unchanged and a node of zeros
-    pub cache-unchanged : (asked s k .answer ≡ 0 → ⊥) → asked s k .cache ≡ s .cache
-    pub disk-unchanged : (asked s k .answer ≡ 0 → ⊥) → asked s k .disk ≡ s .disk
-    pub no-node : (asked s k .answer ≡ 0 → ⊥) → asked s k .node ≡ zeroNode
-    -- an accepted one the next cache and disk, and the node of a read
-    pub cache-next : asked s k .answer ≡ 0 → asked s k .cache ≡ cacheStep d (s .cache) (k .number) (k .args) .cache
-    pub disk-next : asked s k .answer ≡ 0 → asked s k .disk ≡ diskAsked d (k .number) (k .args) (k .offered) (s .disk) .disk
-    pub node-read : asked s k .answer ≡ 0 → asked s k .node ≡ cacheStep d (s .cache) (k .number) (k .args) .node
-
-  -- each call along the list
   abbrev pub Answered : State → List JoinedCall → Type 0
   Answered s [] = Unit {0}
   Answered s (k ∷ ks) = AnsweredAs s k × Answered (moved s k) ks
-
-  -- each accepted start is given a place then named
-  abbrev pub startNamed : State → JoinedCall → Bool
-  startNamed s k =
-      not (accepts s k && eqb (k .number) 10) || names (s .pictures .first) (vopLoc (k .args .vop)) || names (s .pictures .second) (vopLoc (k .args .vop))
 
   unfoldable pub startsNamed : State → List JoinedCall → Bool
   startsNamed s [] = true

@@ -6,7 +6,9 @@ use mathlib.Core.Logic.{_⊎_}
 use mathlib.Core.Option.{Option, none, some}
 use mathlib.Core.Path.{_≡_}
 use Rattle.base.specs.Maps.{Map, empty, isSome}
-use Rattle.blockcache.specs.Steps.{NextStep as MNextStep, Step as MStep, cacheVars}
+use Rattle.blockcache.specs.Abstract.{cacheVars}
+use Rattle.blockcache.specs.NextStep.{NextStep as MNextStep}
+use Rattle.blockcache.specs.Steps.{Step as MStep}
 use Rattle.blockcache.specs.Upstream.{In, Init as MInit, OutstandingWrite, Ready, SameSuccs, Variables as MVariables, WFCompleteIndirectionTable, loadingIndirectionTable, ready, unready}
 use Rattle.blockcache.specs.declared.CacheState.{CacheState}
 use Rattle.blockcache.specs.declared.VersionOp.{VersionOp}
@@ -199,11 +201,12 @@ pub record Init (d : ℕ) (s : Variables) (loc : Location) : Type 0 where
 -- NEXT
 
 pub data Step : Type 0 where
-  machineStep : Dop → MStep → Step
+  -- the machine's step with its reference and its node
+  machineStep : Dop → ℕ → Node → MStep → Step
   crashStep : Step
 
-pub record Machine (d : ℕ) (s s' : Variables) (dop : Dop) (vop : VersionOp) (step : MStep) : Type 0 where
-  pub machine : MNextStep d (s .machine) (s' .machine) dop vop step
+pub record Machine (d : ℕ) (s s' : Variables) (dop : Dop) (vop : VersionOp) (ref : ℕ) (n : Node) (step : MStep) : Type 0 where
+  pub machine : MNextStep d (s .machine) (s' .machine) dop vop ref n step
   pub disk : DNext (s .disk) (s' .disk) dop
   -- vop.SendPersistentLocOp? ==> vop.loc in DiskGraphMap(s)
   pub persistent : (loc : Location) → vop ≡ SendPersistentLocOp loc → WFSuccs d s loc
@@ -214,7 +217,7 @@ pub record Crash (s s' : Variables) (vop : VersionOp) : Type 0 where
   pub disk : DCrash (s .disk) (s' .disk)
 
 abbrev pub NextStep : ℕ → Variables → Variables → VersionOp → Step → Type 0
-NextStep d s s' vop (machineStep dop step) = Machine d s s' dop vop step
+NextStep d s s' vop (machineStep dop ref n step) = Machine d s s' dop vop ref n step
 NextStep d s s' vop crashStep = Crash s s' vop
 
 abbrev pub Next : ℕ → Variables → Variables → VersionOp → Type 0
