@@ -5,6 +5,7 @@ pub mod Demand2
 pub mod FormKept
 pub mod Forms
 pub mod Frames
+pub mod Gate
 pub mod GraphSteps
 pub mod IdleOps
 pub mod InvGraph

@@ -7,18 +7,18 @@ use mathlib.Core.Logic.{_↔_}
 use mathlib.Core.Option.{Option, none, some}
 use mathlib.Core.Path.{_∙_, _≡_, ap, refl, sym}
 use native.Mathlib.Omega.{arith}
-use borrow.Author.Tests.{eqb-true, le-leb, le-ltb, lt-leb, lt-ltb, ltb-false, ltb-true}
+use borrow.Author.Tests.{leb-true, eqb-true, le-leb, le-ltb, lt-leb, lt-ltb, ltb-false, ltb-true}
 use lib.Dec.{eqb, leb, ltb}
 use lib.ListN.{length}
 use Rattle.base.proofs.Refusals.{Clear, accepted-iff}
-use Rattle.base.proofs.Tests.{and-both, and-left, and-right, never, not-iff, or-iff, some-iff, split}
+use Rattle.base.proofs.Tests.{and-both, and-iff, and-left, and-right, never, none-iff, not-iff, or-iff, some-iff, split}
 use Rattle.base.specs.Lists.{nth}
 use Rattle.base.specs.Maps.{isSome}
 use Rattle.base.specs.Refusals.{_when_, answer, ascending}
 use Rattle.blockcache.proofs.Forms.{WellFormed, well-formed-iff}
 use Rattle.blockcache.specs.Rows.{stepRows}
 use Rattle.blockcache.specs.Step.{cacheRows, outsideLimits, rowsOf, wellFormed}
-use Rattle.blockcache.specs.Steps.{Step, allocStep, cleanUpStep, crashStep, dirtyStep, evictStep, freezeStep, noOpStep, pageInIndirectionTableReqStep, pageInIndirectionTableRespStep, pageInNodeReqStep, pageInNodeRespStep, readStep, receiveLocStep, stepOf, steps, unallocStep, writeBackIndirectionTableReqStep, writeBackIndirectionTableRespStep, writeBackNodeReqStep, writeBackNodeRespStep}
+use Rattle.blockcache.specs.Steps.{Step, allocStep, cleanUpStep, crashStep, dirtyStep, evictStep, freezeStep, noOpStep, numberOf, pageInIndirectionTableReqStep, pageInIndirectionTableRespStep, pageInNodeReqStep, pageInNodeRespStep, readStep, receiveLocStep, stepOf, steps, unallocStep, writeBackIndirectionTableReqStep, writeBackIndirectionTableRespStep, writeBackNodeReqStep, writeBackNodeRespStep}
 use Rattle.blockcache.specs.declared.CacheState.{CacheState}
 use Rattle.blockcache.specs.declared.Call.{Call}
 
@@ -42,26 +42,21 @@ step-number (suc k) =
     (λ t. let b : k < 18 = ltb-true k 18 t in e ∙ t ∙ sym (and-both (le-leb 1 (suc k) (omega arith)) (le-leb (suc k) 18 (omega arith))))
     (λ t. let b : 18 ≤ k = ltb-false k 18 t in e ∙ t ∙ sym (rw (lt-leb (suc k) 18 (omega arith)) (and-false (leb 1 (suc k)))))
 
--- the number of a step
-abbrev pub numberOf : Step → ℕ
-numberOf writeBackNodeReqStep = 1
-numberOf writeBackNodeRespStep = 2
-numberOf writeBackIndirectionTableReqStep = 3
-numberOf writeBackIndirectionTableRespStep = 4
-numberOf unallocStep = 5
-numberOf pageInNodeReqStep = 6
-numberOf pageInNodeRespStep = 7
-numberOf pageInIndirectionTableReqStep = 8
-numberOf pageInIndirectionTableRespStep = 9
-numberOf receiveLocStep = 10
-numberOf evictStep = 11
-numberOf freezeStep = 12
-numberOf cleanUpStep = 13
-numberOf noOpStep = 14
-numberOf dirtyStep = 15
-numberOf allocStep = 16
-numberOf readStep = 17
-numberOf crashStep = 18
+-- n is none of 1 to k: what a match with an arm for each of these leaves for the rest
+abbrev pub NoneTo : ℕ → ℕ → Type 0
+NoneTo n zero = Unit {0}
+NoneTo n (suc k) = NoneTo n k × (n ≡ suc k → ⊥)
+
+none-to : (n k : ℕ) → NoneTo n k → 1 ≤ n → n ≤ k → ⊥
+none-to n zero h a b = omega arith
+none-to n (suc k) h a b = none-to n k (h .0) a (let ne = h .1 in omega arith)
+
+pub no-step : (n : ℕ) → NoneTo n 18 → stepOf n ≡ none
+no-step n h =
+    none-iff (stepOf n) .0
+    (split (isSome (stepOf n))
+    (λ t. let b = and-iff (leb 1 n) (leb n 18) .0 (sym (step-number n) ∙ t) in absurd (none-to n 18 h (leb-true 1 n (b .0)) (leb-true n 18 (b .1))))
+    (λ t. t))
 
 -- the list gives each step its number
 abbrev numbered : ℕ → List Step → Bool

@@ -9,7 +9,7 @@ use Rattle.base.specs.Refusals.{Row, _when_, answer}
 use Rattle.blockcache.specs.Form.{cacheForm, callForm}
 use Rattle.blockcache.specs.Next.{stepNext}
 use Rattle.blockcache.specs.Rows.{gate, ownRows, stepRows, takes}
-use Rattle.blockcache.specs.Steps.{Step, isRead, readStep, stepOf}
+use Rattle.blockcache.specs.Steps.{Step, isRead, numberOf, stepOf}
 use Rattle.blockcache.specs.declared.CacheOutcome.{CacheOutcome}
 use Rattle.blockcache.specs.declared.CacheState.{CacheState}
 use Rattle.blockcache.specs.declared.Call.{Call}
@@ -68,8 +68,8 @@ gated p v o none = 1
 gated p v o (some step) = answer (gate (takes p v o step) [])
 
 unfoldable pub pastGate : ℕ → CacheState → Call → Step → CacheOutcome
-pastGate d c q step = settled (answer (ownRows d c q step)) zeroNode (stepNext c q step) c
+pastGate d c q step = settled (answer (ownRows d c q step)) (nodeOf c (numberOf step) q) (stepNext c q step) c
 
--- a read's
-unfoldable pub readOutcome : ℕ → CacheState → Call → CacheOutcome
-readOutcome d c q = settled (answer (ownRows d c q readStep)) (slotAt (c .nodes) (q .reference) .node) c c
+abbrev pub dispatched : ℕ → CacheState → Call → Option Step → CacheOutcome
+dispatched d c q none = answered 1 c
+dispatched d c q (some step) = pastGate d c q step

@@ -57,12 +57,33 @@ unfoldable pub stepOf : ℕ → Option Step
 stepOf zero = none
 stepOf (suc k) = nth steps k
 
+-- the number of a step
+abbrev pub numberOf : Step → ℕ
+numberOf writeBackNodeReqStep = 1
+numberOf writeBackNodeRespStep = 2
+numberOf writeBackIndirectionTableReqStep = 3
+numberOf writeBackIndirectionTableRespStep = 4
+numberOf unallocStep = 5
+numberOf pageInNodeReqStep = 6
+numberOf pageInNodeRespStep = 7
+numberOf pageInIndirectionTableReqStep = 8
+numberOf pageInIndirectionTableRespStep = 9
+numberOf receiveLocStep = 10
+numberOf evictStep = 11
+numberOf freezeStep = 12
+numberOf cleanUpStep = 13
+numberOf noOpStep = 14
+numberOf dirtyStep = 15
+numberOf allocStep = 16
+numberOf readStep = 17
+numberOf crashStep = 18
+
 -- the three that a joined call asks for by themselves: a start, a read, a crash
 abbrev pub isStart : ℕ → Bool
-isStart n = eqb n 10
+isStart n = eqb n (numberOf receiveLocStep)
 
 abbrev pub isRead : ℕ → Bool
-isRead n = eqb n 17
+isRead n = eqb n (numberOf readStep)
 
 abbrev pub isCrash : ℕ → Bool
-isCrash n = eqb n 18
+isCrash n = eqb n (numberOf crashStep)

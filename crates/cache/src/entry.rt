@@ -2,69 +2,63 @@
 ghost use mathlib.Core.Path.{_≡_};
 ghost use Prim.Native.Nat.{_<_};
 ghost use Rattle.blockcache.specs.Rows.{readRef};
-ghost use Rattle.blockcache.specs.Step.{stepped, cacheStep};
+ghost use Rattle.blockcache.specs.Step.{cacheStep, dispatched};
+ghost use Rattle.blockcache.specs.Steps.{stepOf};
+use crate::Cache;
+use crate::answers::answered;
 use crate::form::cache_form;
 use crate::form::call_form;
-use crate::load::crash;
-use crate::load::page_in_indirection_table_req;
-use crate::load::page_in_indirection_table_resp;
-use crate::load::receive_loc;
-use crate::page::page_in_node_req;
-use crate::page::page_in_node_resp;
-use crate::work::alloc;
-use crate::work::clean_up;
-use crate::work::dirty;
-use crate::work::evict;
-use crate::work::freeze;
-use crate::work::no_op;
-use crate::work::read_step;
-use crate::work::unalloc;
-use crate::write::answered;
-use crate::write::write_back_indirection_table_req;
-use crate::write::write_back_indirection_table_resp;
-use crate::write::write_back_node_req;
-use crate::write::write_back_node_resp;
+use crate::gate::gate;
 use blockcache::CacheOutcome;
-use blockcache::CacheState;
 use blockcache::Call;
 
-// The step alone, on a cache and a call in their written form.
-fn dispatch(c: CacheState, device: u64, number: u64, r: usize, q: Call) -> CacheOutcome
-    requires { ⌜ (r < 64) × (readRef device c r q < 64) ⌝ }
-    ensures { λ o. ⌜ o ≡ stepped device c number r q ⌝ }
-{
-    match number {
-        1 => write_back_node_req(c, device, r, q),
-        2 => write_back_node_resp(c, device, r, q),
-        3 => write_back_indirection_table_req(c, device, r, q),
-        4 => write_back_indirection_table_resp(c, device, r, q),
-        5 => unalloc(c, device, r, q),
-        6 => page_in_node_req(c, device, r, q),
-        7 => page_in_node_resp(c, device, r, q),
-        8 => page_in_indirection_table_req(c, device, r, q),
-        9 => page_in_indirection_table_resp(c, device, r, q),
-        10 => receive_loc(c, device, r, q),
-        11 => evict(c, device, r, q),
-        12 => freeze(c, device, r, q),
-        13 => clean_up(c, device, r, q),
-        14 => no_op(c, device, r, q),
-        15 => dirty(c, device, r, q),
-        16 => alloc(c, device, r, q),
-        17 => read_step(c, device, r, q),
-        18 => crash(c, device, r, q),
-        _ => answered(c, 1),
+impl Cache {
+    pub fn step(self, number: u64, q: Call) -> CacheOutcome
+        ensures { λ o. ⌜ o ≡ cacheStep (self .device) (self .state) number q ⌝ }
+    {
+        let c = self.state;
+        let form = cache_form(c);
+        let call = call_form(q);
+        let known = self.device <= 2;
+        let good = known & form & call;
+        if !good {
+            return answered(c, 1);
+        }
+        let phase = c.phase;
+        let v = q.vop;
+        let d = q.dop;
+        let n = gate(number, phase, v, d);
+        if n != 0 {
+            return answered(c, n);
+        }
+        self.dispatch(number, q)
     }
-}
 
-pub fn step(c: CacheState, device: u64, number: u64, q: Call) -> CacheOutcome
-    ensures { λ o. ⌜ o ≡ cacheStep device c number q ⌝ }
-{
-    let form = cache_form(c);
-    let call = call_form(q);
-    let known = device <= 2;
-    let good = known & form & call;
-    if good {
-        return dispatch(c, device, number, q.reference as usize, q);
+    // The step's own conditions and what it does, on a cache and a call in their written form, past V, D and phase.
+    fn dispatch(self, number: u64, q: Call) -> CacheOutcome
+        requires { ⌜ (q .reference < 64) × (readRef (self .device) (self .state) q < 64) ⌝ }
+        ensures { λ o. ⌜ o ≡ dispatched (self .device) (self .state) q (stepOf number) ⌝ }
+    {
+        match number {
+            1 => self.write_back_node_req(q),
+            2 => self.write_back_node_resp(q),
+            3 => self.write_back_indirection_table_req(q),
+            4 => self.write_back_indirection_table_resp(q),
+            5 => self.unalloc(q),
+            6 => self.page_in_node_req(q),
+            7 => self.page_in_node_resp(q),
+            8 => self.page_in_indirection_table_req(q),
+            9 => self.page_in_indirection_table_resp(q),
+            10 => self.receive_loc(q),
+            11 => self.evict(q),
+            12 => self.freeze(q),
+            13 => self.clean_up(q),
+            14 => self.no_op(q),
+            15 => self.dirty(q),
+            16 => self.alloc(q),
+            17 => self.read_step(q),
+            18 => self.crash(q),
+            _ => answered(self.state, 1),
+        }
     }
-    answered(c, 1)
 }

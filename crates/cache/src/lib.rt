@@ -1,14 +1,23 @@
 // The cache: the step is proved to answer and to leave what `blockcache` defines. One function for each question of document 01.
+mod answers;
 mod entry;
 mod form;
+mod gate;
 mod load;
 mod ops;
 mod page;
-mod refusal;
 mod scan;
 mod work;
 mod write;
 
-pub use entry::step;
+use blockcache::CacheState;
+
+// A cache on its device: the state that `blockcache` defines, and what every call names beside it. Its methods are the steps.
+pub struct Cache {
+    pub device: u64,
+    pub state: CacheState,
+}
+
+pub use answers::is_ready;
 pub use form::unready;
 pub use ops::vop_loc;

@@ -1,4 +1,4 @@
-// What the steps ask of a version operation and of a disk operation: its kind as a number, and what it carries.
+// What the steps ask of a version operation and of a disk operation: its kind, by name, and what it carries.
 ghost use mathlib.Core.Path.{_≡_};
 ghost use Rattle.blockcache.specs.Ops.{vopKind, vopLoc, vopNoOp, dopKind, dopId, dopLoc, dopBrought};
 use blockcache::VersionOp;
@@ -6,20 +6,60 @@ use blockdisk::Brought;
 use blockdisk::DiskOp;
 use disklayout::Location;
 
+// The kinds of version operation.
+pub(crate) const INTERNAL: u64 = 1;
+
+pub(crate) const JOURNAL_INTERNAL: u64 = 2;
+
+pub(crate) const SEND_PERSISTENT_LOC: u64 = 3;
+
+pub(crate) const SEND_FROZEN_LOC: u64 = 4;
+
+pub(crate) const ADVANCE: u64 = 5;
+
+pub(crate) const FREEZE: u64 = 6;
+
+pub(crate) const CLEAN_UP: u64 = 7;
+
+pub(crate) const PUSH_SYNC: u64 = 8;
+
+pub(crate) const POP_SYNC: u64 = 9;
+
+pub(crate) const CRASH: u64 = 10;
+
+// The kinds of disk operation.
+pub(crate) const NO_DOP: u64 = 0;
+
+pub(crate) const TABLE_READ_REQ: u64 = 1;
+
+pub(crate) const NODE_READ_REQ: u64 = 2;
+
+pub(crate) const TABLE_WRITE_REQ: u64 = 3;
+
+pub(crate) const NODE_WRITE_REQ: u64 = 4;
+
+pub(crate) const TABLE_READ_RESP: u64 = 5;
+
+pub(crate) const NODE_READ_RESP: u64 = 6;
+
+pub(crate) const TABLE_WRITE_RESP: u64 = 7;
+
+pub(crate) const NODE_WRITE_RESP: u64 = 8;
+
 pub(crate) fn vop_kind(v: VersionOp) -> u64
     ensures { λ r. ⌜ r ≡ vopKind v ⌝ }
 {
     match v {
-        VersionOp::StatesInternalOp => 1,
-        VersionOp::JournalInternalOp => 2,
-        VersionOp::SendPersistentLocOp(_) => 3,
-        VersionOp::SendFrozenLocOp(_) => 4,
-        VersionOp::AdvanceOp(_) => 5,
-        VersionOp::FreezeOp => 6,
-        VersionOp::CleanUpOp => 7,
-        VersionOp::PushSyncOp => 8,
-        VersionOp::PopSyncOp => 9,
-        VersionOp::CrashOp => 10,
+        VersionOp::StatesInternalOp => INTERNAL,
+        VersionOp::JournalInternalOp => JOURNAL_INTERNAL,
+        VersionOp::SendPersistentLocOp(_) => SEND_PERSISTENT_LOC,
+        VersionOp::SendFrozenLocOp(_) => SEND_FROZEN_LOC,
+        VersionOp::AdvanceOp(_) => ADVANCE,
+        VersionOp::FreezeOp => FREEZE,
+        VersionOp::CleanUpOp => CLEAN_UP,
+        VersionOp::PushSyncOp => PUSH_SYNC,
+        VersionOp::PopSyncOp => POP_SYNC,
+        VersionOp::CrashOp => CRASH,
     }
 }
 
@@ -64,15 +104,15 @@ pub(crate) fn dop_kind(op: DiskOp) -> u64
     ensures { λ r. ⌜ r ≡ dopKind op ⌝ }
 {
     match op {
-        DiskOp::ReqReadIndirectionTableOp(_, _) => 1,
-        DiskOp::ReqReadNodeOp(_, _) => 2,
-        DiskOp::ReqWriteIndirectionTableOp(_, _) => 3,
-        DiskOp::ReqWriteNodeOp(_, _) => 4,
-        DiskOp::RespReadIndirectionTableOp(_, _) => 5,
-        DiskOp::RespReadNodeOp(_, _) => 6,
-        DiskOp::RespWriteIndirectionTableOp(_) => 7,
-        DiskOp::RespWriteNodeOp(_) => 8,
-        DiskOp::NoDiskOp => 0,
+        DiskOp::ReqReadIndirectionTableOp(_, _) => TABLE_READ_REQ,
+        DiskOp::ReqReadNodeOp(_, _) => NODE_READ_REQ,
+        DiskOp::ReqWriteIndirectionTableOp(_, _) => TABLE_WRITE_REQ,
+        DiskOp::ReqWriteNodeOp(_, _) => NODE_WRITE_REQ,
+        DiskOp::RespReadIndirectionTableOp(_, _) => TABLE_READ_RESP,
+        DiskOp::RespReadNodeOp(_, _) => NODE_READ_RESP,
+        DiskOp::RespWriteIndirectionTableOp(_) => TABLE_WRITE_RESP,
+        DiskOp::RespWriteNodeOp(_) => NODE_WRITE_RESP,
+        DiskOp::NoDiskOp => NO_DOP,
     }
 }
 

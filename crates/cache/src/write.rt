@@ -1,25 +1,22 @@
-// Steps 1 to 4: write-back of nodes and of the frozen table.
+// Steps 1 to 4: write-back of nodes and of the frozen table. Each past V, D and phase.
 ghost use mathlib.Core.Path.{_≡_};
 ghost use Prim.Native.Nat.{_<_};
 ghost use Rattle.base.specs.Refusals.{answer};
-ghost use Rattle.blockcache.specs.Form.{isReady};
-ghost use Rattle.blockcache.specs.Rows.{rows1, rows2, rows3, rows4};
-ghost use Rattle.blockcache.specs.Next.{assigned, next1, next2, next3, next4};
-ghost use Rattle.blockcache.specs.Step.{answered, outcome};
+ghost use Rattle.blockcache.specs.Next.{assigned};
+ghost use Rattle.blockcache.specs.Rows.{ownRows};
+ghost use Rattle.blockcache.specs.Step.{pastGate};
+ghost use Rattle.blockcache.specs.Steps.{writeBackIndirectionTableReqStep, writeBackIndirectionTableRespStep, writeBackNodeReqStep, writeBackNodeRespStep};
+use crate::Cache;
+use crate::answers::answered;
+use crate::answers::first_of;
 use crate::ops::dop_id;
-use crate::ops::dop_kind;
 use crate::ops::dop_loc;
-use crate::ops::vop_kind;
 use crate::ops::vop_loc;
-use crate::refusal::first_of;
-use crate::refusal::first_three;
 use crate::scan::held;
 use crate::scan::lacks_location;
 use blockcache::Awaited;
 use blockcache::CacheOutcome;
-use blockcache::CacheState;
 use blockcache::Call;
-use blockcache::Phase;
 use disklayout::Location;
 use queue::Request;
 use sectortype::Entry;
@@ -45,219 +42,160 @@ fn assign_ref_to_location(t: Table, r: usize, loc: Location) -> Table
     t
 }
 
-pub(crate) fn is_ready(c: CacheState) -> bool
-    ensures { λ b. ⌜ b ≡ isReady c ⌝ }
-{
-    let phase = c.phase;
-    match phase {
-        Phase::Unready => false,
-        Phase::Loading => false,
-        Phase::Ready => true,
+impl Cache {
+    fn write_back_node_req_refusal(self, q: Call) -> u64
+        requires { ⌜ q .reference < 64 ⌝ }
+        ensures { λ n. ⌜ n ≡ answer (ownRows (self .device) (self .state) q writeBackNodeReqStep) ⌝ }
+    {
+        let c = self.state;
+        let r = q.reference as usize;
+        let d = q.dop;
+        let id = dop_id(d);
+        let loc = dop_loc(d);
+        let ts = c.tables;
+        let a = c.awaited;
+        let o = c.outstanding;
+        let w = o.writes;
+        let m = c.nodes;
+        let slot = m.slots[r];
+        let kept = slot.node;
+        let given = q.node;
+        let known = queue::has(w, id);
+        let valid = layout::valid_node_location(self.device, loc);
+        let taken = held(ts, w, loc.addr);
+        let same = sector::same_node(kept, given);
+        let n14 = first_of(16 <= w.count, 14, 0);
+        let n10 = first_of(a.waiting, 10, n14);
+        let n9 = first_of(slot.present & !same, 9, n10);
+        let n8 = first_of(!slot.present, 8, n9);
+        let n7 = first_of(taken, 7, n8);
+        let n6 = first_of(!valid.yes | (loc.len == 0), 6, n7);
+        first_of(known, 5, n6)
     }
-}
 
-pub(crate) fn answered(c: CacheState, n: u64) -> CacheOutcome
-    ensures { λ o. ⌜ o ≡ answered n c ⌝ }
-{
-    let node = sector::zero_node();
-    CacheOutcome {
-        answer: n,
-        node,
-        cache: c,
+    pub(crate) fn write_back_node_req(self, q: Call) -> CacheOutcome
+        requires { ⌜ q .reference < 64 ⌝ }
+        ensures { λ o. ⌜ o ≡ pastGate (self .device) (self .state) q writeBackNodeReqStep ⌝ }
+    {
+        let n = self.write_back_node_req_refusal(q);
+        let mut c = self.state;
+        if n != 0 {
+            return answered(c, n);
+        }
+        let r = q.reference as usize;
+        let d = q.dop;
+        let id = dop_id(d);
+        let loc = dop_loc(d);
+        let mut ts = c.tables;
+        let e = ts.ephemeral;
+        let f = ts.frozen;
+        let e2 = assign_ref_to_location(e, r, loc);
+        let f2 = assign_ref_to_location(f, r, loc);
+        ts.ephemeral = e2;
+        ts.frozen = f2;
+        let mut o = c.outstanding;
+        let w = o.writes;
+        let w2 = queue::insert(
+            w,
+            Request {
+                id,
+                reference: (r % 64) as u8,
+                loc,
+            },
+        );
+        o.writes = w2;
+        c.tables = ts;
+        c.outstanding = o;
+        answered(c, 0)
     }
-}
 
-fn write_back_node_req_refusal(c: CacheState, device: u64, r: usize, q: Call) -> u64
-    requires { ⌜ r < 64 ⌝ }
-    ensures { λ n. ⌜ n ≡ answer (rows1 device c r q) ⌝ }
-{
-    let v = q.vop;
-    let d = q.dop;
-    let vk = vop_kind(v);
-    let dk = dop_kind(d);
-    let ready = is_ready(c);
-    let id = dop_id(d);
-    let loc = dop_loc(d);
-    let ts = c.tables;
-    let a = c.awaited;
-    let o = c.outstanding;
-    let w = o.writes;
-    let m = c.nodes;
-    let slot = m.slots[r];
-    let kept = slot.node;
-    let given = q.node;
-    let known = queue::has(w, id);
-    let valid = layout::valid_node_location(device, loc);
-    let taken = held(ts, w, loc.addr);
-    let same = sector::same_node(kept, given);
-    let n14 = first_of(16 <= w.count, 14, 0);
-    let n10 = first_of(a.waiting, 10, n14);
-    let n9 = first_of(slot.present & !same, 9, n10);
-    let n8 = first_of(!slot.present, 8, n9);
-    let n7 = first_of(taken, 7, n8);
-    let n6 = first_of(!valid.yes | (loc.len == 0), 6, n7);
-    let n5 = first_of(known, 5, n6);
-    first_three(vk != 1, dk != 4, !ready, n5)
-}
-
-pub(crate) fn write_back_node_req(mut c: CacheState, device: u64, r: usize, q: Call) -> CacheOutcome
-    requires { ⌜ r < 64 ⌝ }
-    ensures { λ o. ⌜ o ≡ outcome (rows1 device c r q) (next1 c r q) c ⌝ }
-{
-    let n = write_back_node_req_refusal(c, device, r, q);
-    if n != 0 {
-        return answered(c, n);
+    pub(crate) fn write_back_node_resp(self, q: Call) -> CacheOutcome
+        ensures { λ o. ⌜ o ≡ pastGate (self .device) (self .state) q writeBackNodeRespStep ⌝ }
+    {
+        let mut c = self.state;
+        let d = q.dop;
+        let id = dop_id(d);
+        let mut o = c.outstanding;
+        let w = o.writes;
+        let known = queue::has(w, id);
+        if !known {
+            return answered(c, 5);
+        }
+        let w2 = queue::remove(w, id);
+        o.writes = w2;
+        c.outstanding = o;
+        answered(c, 0)
     }
-    let d = q.dop;
-    let id = dop_id(d);
-    let loc = dop_loc(d);
-    let mut ts = c.tables;
-    let e = ts.ephemeral;
-    let f = ts.frozen;
-    let e2 = assign_ref_to_location(e, r, loc);
-    let f2 = assign_ref_to_location(f, r, loc);
-    ts.ephemeral = e2;
-    ts.frozen = f2;
-    let mut o = c.outstanding;
-    let w = o.writes;
-    let w2 = queue::insert(
-        w,
-        Request {
-            id,
-            reference: (r % 64) as u8,
-            loc,
-        },
-    );
-    o.writes = w2;
-    c.tables = ts;
-    c.outstanding = o;
-    answered(c, 0)
-}
 
-fn write_back_node_resp_refusal(c: CacheState, device: u64, r: usize, q: Call) -> u64
-    ensures { λ n. ⌜ n ≡ answer (rows2 device c r q) ⌝ }
-{
-    let v = q.vop;
-    let d = q.dop;
-    let vk = vop_kind(v);
-    let dk = dop_kind(d);
-    let ready = is_ready(c);
-    let id = dop_id(d);
-    let o = c.outstanding;
-    let w = o.writes;
-    let known = queue::has(w, id);
-    let n5 = first_of(!known, 5, 0);
-    first_three(vk != 1, dk != 8, !ready, n5)
-}
-
-pub(crate) fn write_back_node_resp(
-    mut c: CacheState,
-    device: u64,
-    r: usize,
-    q: Call,
-) -> CacheOutcome
-    ensures { λ o. ⌜ o ≡ outcome (rows2 device c r q) (next2 c r q) c ⌝ }
-{
-    let n = write_back_node_resp_refusal(c, device, r, q);
-    if n != 0 {
-        return answered(c, n);
+    fn write_back_indirection_table_req_refusal(self, q: Call) -> u64
+        ensures { λ n. ⌜ n ≡ answer (ownRows (self .device) (self .state) q writeBackIndirectionTableReqStep) ⌝ }
+    {
+        let c = self.state;
+        let device = self.device;
+        let d = q.dop;
+        let loc = dop_loc(d);
+        let ts = c.tables;
+        let ps = c.places;
+        let o = c.outstanding;
+        let w = o.writes;
+        let f = ts.frozen;
+        let given = q.table;
+        let p = ps.persistent;
+        let valid = layout::valid_indirection_table_location(device, loc);
+        let over = layout::overlap(device, loc, p);
+        let same = sector::same_table(f, given);
+        let lacks = lacks_location(f);
+        let n11 = first_of(!ts.isfrozen | lacks | ps.isfrozen, 11, 0);
+        let n10 = first_of(!(w.count == 0), 10, n11);
+        let n9 = first_of(ts.isfrozen & !same, 9, n10);
+        first_of(!valid.yes | over.yes, 6, n9)
     }
-    let d = q.dop;
-    let id = dop_id(d);
-    let mut o = c.outstanding;
-    let w = o.writes;
-    let w2 = queue::remove(w, id);
-    o.writes = w2;
-    c.outstanding = o;
-    answered(c, 0)
-}
 
-fn write_back_indirection_table_req_refusal(c: CacheState, device: u64, r: usize, q: Call) -> u64
-    ensures { λ n. ⌜ n ≡ answer (rows3 device c r q) ⌝ }
-{
-    let v = q.vop;
-    let d = q.dop;
-    let vk = vop_kind(v);
-    let dk = dop_kind(d);
-    let ready = is_ready(c);
-    let loc = dop_loc(d);
-    let ts = c.tables;
-    let ps = c.places;
-    let o = c.outstanding;
-    let w = o.writes;
-    let f = ts.frozen;
-    let given = q.table;
-    let p = ps.persistent;
-    let valid = layout::valid_indirection_table_location(device, loc);
-    let over = layout::overlap(device, loc, p);
-    let same = sector::same_table(f, given);
-    let lacks = lacks_location(f);
-    let n11 = first_of(!ts.isfrozen | lacks | ps.isfrozen, 11, 0);
-    let n10 = first_of(!(w.count == 0), 10, n11);
-    let n9 = first_of(ts.isfrozen & !same, 9, n10);
-    let n6 = first_of(!valid.yes | over.yes, 6, n9);
-    first_three(vk != 1, dk != 3, !ready, n6)
-}
-
-pub(crate) fn write_back_indirection_table_req(
-    mut c: CacheState,
-    device: u64,
-    r: usize,
-    q: Call,
-) -> CacheOutcome
-    ensures { λ o. ⌜ o ≡ outcome (rows3 device c r q) (next3 c r q) c ⌝ }
-{
-    let n = write_back_indirection_table_req_refusal(c, device, r, q);
-    if n != 0 {
-        return answered(c, n);
+    pub(crate) fn write_back_indirection_table_req(self, q: Call) -> CacheOutcome
+        ensures { λ o. ⌜ o ≡ pastGate (self .device) (self .state) q writeBackIndirectionTableReqStep ⌝ }
+    {
+        let n = self.write_back_indirection_table_req_refusal(q);
+        let mut c = self.state;
+        if n != 0 {
+            return answered(c, n);
+        }
+        let d = q.dop;
+        let id = dop_id(d);
+        let loc = dop_loc(d);
+        let mut ps = c.places;
+        ps.isfrozen = true;
+        ps.frozen = loc;
+        c.places = ps;
+        let a = Awaited { waiting: true, id };
+        c.awaited = a;
+        answered(c, 0)
     }
-    let d = q.dop;
-    let id = dop_id(d);
-    let loc = dop_loc(d);
-    let mut ps = c.places;
-    ps.isfrozen = true;
-    ps.frozen = loc;
-    c.places = ps;
-    let a = Awaited { waiting: true, id };
-    c.awaited = a;
-    answered(c, 0)
-}
 
-fn write_back_indirection_table_resp_refusal(c: CacheState, device: u64, r: usize, q: Call) -> u64
-    ensures { λ n. ⌜ n ≡ answer (rows4 device c r q) ⌝ }
-{
-    let v = q.vop;
-    let d = q.dop;
-    let vk = vop_kind(v);
-    let dk = dop_kind(d);
-    let ready = is_ready(c);
-    let id = dop_id(d);
-    let vloc = vop_loc(v);
-    let a = c.awaited;
-    let ps = c.places;
-    let f = ps.frozen;
-    let same = sector::same_loc(f, vloc);
-    let n6 = first_of(!(ps.isfrozen & same), 6, 0);
-    let n5 = first_of(!(a.waiting & (a.id == id)), 5, n6);
-    first_three(vk != 4, dk != 7, !ready, n5)
-}
-
-pub(crate) fn write_back_indirection_table_resp(
-    mut c: CacheState,
-    device: u64,
-    r: usize,
-    q: Call,
-) -> CacheOutcome
-    ensures { λ o. ⌜ o ≡ outcome (rows4 device c r q) (next4 c r q) c ⌝ }
-{
-    let n = write_back_indirection_table_resp_refusal(c, device, r, q);
-    if n != 0 {
-        return answered(c, n);
+    pub(crate) fn write_back_indirection_table_resp(self, q: Call) -> CacheOutcome
+        ensures { λ o. ⌜ o ≡ pastGate (self .device) (self .state) q writeBackIndirectionTableRespStep ⌝ }
+    {
+        let mut c = self.state;
+        let v = q.vop;
+        let d = q.dop;
+        let id = dop_id(d);
+        let vloc = vop_loc(v);
+        let a = c.awaited;
+        let ps = c.places;
+        let f = ps.frozen;
+        let same = sector::same_loc(f, vloc);
+        let awaits = a.waiting & (a.id == id);
+        if !awaits {
+            return answered(c, 5);
+        }
+        let there = ps.isfrozen & same;
+        if !there {
+            return answered(c, 6);
+        }
+        let none = Awaited {
+            waiting: false,
+            id: 0,
+        };
+        c.awaited = none;
+        answered(c, 0)
     }
-    let a = Awaited {
-        waiting: false,
-        id: 0,
-    };
-    c.awaited = a;
-    answered(c, 0)
 }

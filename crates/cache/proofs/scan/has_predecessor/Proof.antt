@@ -59,11 +59,11 @@ search-again : tie.Need-search-again Inv-loop μ-loop Inv-search μ-search
 search-again c = (search needs, c .before .loop .inv .1, some-turn _ _ (c .before .before .before .before .before .search .inv .2) (some-end _ (c .before .loop .inv .2) (c .before .loop .inv .0) (c .loop-test .left)))
 
 returns : tie.Need-returns Inv-loop μ-loop Inv-search μ-search
-unfolding named
+unfolding hasPredecessor
 returns c = c .before .search .inv .1 ∙ some-end _ (c .before .search .inv .2) (c .before .search .inv .0) (c .search-test .left)
 
 returns-2 : tie.Need-returns-2 Inv-loop μ-loop Inv-search μ-search
-unfolding named
+unfolding hasPredecessor
 returns-2 c = sym (some-at _ 64 (c .before .before .before .before .before .before .before .before .search .i) (c .before .before .before .before .before .before .before .search-test .taken) (some-at _ 8 (c .before .before .before .before .loop .j) (c .before .before .before .loop-test .taken) (rw (c .before .names-at .ensures) at (c .if1 .taken))))
 
 pub has-predecessor-spec : {M : Type 1} → statement M

@@ -1,0 +1,61 @@
+-- A step in the two halves that the code makes of it: what V, D and the phase refuse, and then what the step itself does. Assumes nothing.
+use Prim.Native.Nat.{ℕ}
+use mathlib.Core.Bool.{_||_, cond, false, not, true}
+use mathlib.Core.List.{List, [], _∷_}
+use mathlib.Core.Option.{Option, none, some}
+use mathlib.Core.Path.{_∙_, _≡_, ap, refl, sym}
+use native.Mathlib.Omega.{arith}
+use borrow.Author.Tests.{eq-eqb, ne-eqb}
+use lib.Dec.{eqb}
+use Rattle.base.proofs.Tests.{split}
+use Rattle.base.specs.Maps.{isSome}
+use Rattle.base.specs.Refusals.{Row, _when_, answer}
+use Rattle.blockcache.proofs.Numbers.{step-of-number}
+use Rattle.blockcache.specs.Rows.{Takes, gate, ownRows, stepRows, takes}
+use Rattle.blockcache.specs.Step.{answered, cacheRows, cacheStep, dispatched, gated, nextOf, nodeOf, pastGate, rowsOf, settled, wellFormed}
+use Rattle.blockcache.specs.Steps.{Step, stepOf}
+use Rattle.blockcache.specs.declared.CacheState.{CacheState}
+use Rattle.blockcache.specs.declared.Call.{Call}
+
+-- the answer is that of the gate where it is shut, that of the rows behind it where it is open
+pub gate-answer : (t : Takes) (rest : List Row) → answer (gate t rest) ≡ cond (eqb (answer (gate t [])) 0) (answer rest) (answer (gate t []))
+unfolding answer
+gate-answer t rest =
+    split (t .version) (λ a. split (t .disk) (λ b. split (t .phase) (λ e. rw (a, b, e)) (λ e. rw (a, b, e))) (λ b. rw (a, b))) (λ a. rw a)
+
+module _ (d : ℕ) (c : CacheState) (q : Call) where
+  abbrev gateOf : Option Step → ℕ
+  gateOf o = gated (c .phase) (q .vop) (q .dop) o
+
+  -- the rows of a call within the limits
+  rows-shut : (o : Option Step) → (gateOf o ≡ 0 → ⊥) → answer ((1 when not (isSome o)) ∷ rowsOf d c q o) ≡ gateOf o
+  unfolding gated answer
+  rows-shut none ne = refl
+  rows-shut (some step) ne = gate-answer (takes (c .phase) (q .vop) (q .dop) step) (ownRows d c q step) ∙ rw (ne-eqb (gateOf (some step)) 0 ne)
+
+  rows-open : (n : ℕ) (o : Option Step) → stepOf n ≡ o → gateOf o ≡ 0 →
+      settled (answer ((1 when not (isSome o)) ∷ rowsOf d c q o)) (nodeOf c n q) (nextOf c q o) c ≡ dispatched d c q o
+  unfolding gated answer pastGate
+  rows-open n none e z = absurd (omega arith)
+  rows-open n (some step) e z =
+      let a : answer (stepRows d c q step) ≡ answer (ownRows d c q step) =
+      gate-answer (takes (c .phase) (q .vop) (q .dop) step) (ownRows d c q step) ∙ rw (eq-eqb (gateOf (some step)) 0 z) in
+      rw (a, step-of-number n step e)
+
+module _ (d : ℕ) (c : CacheState) (n : ℕ) (q : Call) where
+  -- not in its written form, or on no such device
+  pub step-unformed : wellFormed d c q ≡ false → cacheStep d c n q ≡ answered 1 c
+  unfolding cacheStep answer
+  step-unformed w = rw w
+
+  module _ (w : wellFormed d c q ≡ true) where
+    -- refused by V, D or phase, or for want of such a step
+    pub step-shut : (gateOf d c q (stepOf n) ≡ 0 → ⊥) → cacheStep d c n q ≡ answered (gateOf d c q (stepOf n)) c
+    unfolding cacheStep
+    step-shut ne =
+        let e : answer (cacheRows d c n q) ≡ gateOf d c q (stepOf n) = rw w (rows-shut d c q (stepOf n) ne) in
+        rw (e, ne-eqb (gateOf d c q (stepOf n)) 0 ne)
+
+    pub step-open : gateOf d c q (stepOf n) ≡ 0 → cacheStep d c n q ≡ dispatched d c q (stepOf n)
+    unfolding cacheStep
+    step-open z = rw w (rows-open d c q n (stepOf n) refl z)

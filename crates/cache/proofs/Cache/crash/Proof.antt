@@ -1,0 +1,20 @@
+use Rattle.blockcache.specs.Step.{pastGate}
+use Rattle.base.specs.Refusals.{answer}
+use borrow.Author.Needs.{needs}
+use Rattle.cache.proofs.Cache.crash.Statement.{statement}
+use Rattle.cache.proofs.Cache.crash.Tie as tie
+
+unready-requires : tie.Need-unready-requires
+unready-requires c κs = search needs
+
+answered-requires : tie.Need-answered-requires
+answered-requires c κs = search needs
+
+returns : tie.Need-returns
+unfolding pastGate answer
+returns c =
+    let c1 = c .before in
+    simp (c .answered .ensures, c1 .unready .ensures)
+
+pub crash-spec : {M : Type 1} → statement M
+crash-spec = tie.close (tie.spec unready-requires answered-requires returns)

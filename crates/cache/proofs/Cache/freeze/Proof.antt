@@ -1,0 +1,31 @@
+use Rattle.blockcache.specs.Step.{pastGate}
+use Rattle.base.specs.Refusals.{answer}
+use borrow.Author.Needs.{needs}
+use Rattle.cache.proofs.Cache.freeze.Statement.{statement}
+use Rattle.cache.proofs.Cache.freeze.Tie as tie
+
+answered-requires : tie.Need-answered-requires
+answered-requires c κs = search needs
+
+returns : tie.Need-returns
+unfolding pastGate answer
+returns c =
+    let c1 = c .before in
+    simp (c1 .if1 .taken, c .answered .ensures)
+
+zero-loc-requires : tie.Need-zero-loc-requires
+zero-loc-requires c κs = search needs
+
+answered-requires-2 : tie.Need-answered-requires-2
+answered-requires-2 c κs = search needs
+
+returns-2 : tie.Need-returns-2
+unfolding pastGate answer
+returns-2 c =
+    let c1 = c .before in
+    let c2 = c1 .before .before .before .before in
+    simp (c2 .if1 .left, c .answered2 .ensures, c1 .zero-loc .ensures)
+
+pub freeze-spec : {M : Type 1} → statement M
+freeze-spec =
+    tie.close (tie.spec answered-requires returns zero-loc-requires answered-requires-2 returns-2)

@@ -1,0 +1,58 @@
+use Rattle.blockcache.specs.Step.{pastGate}
+use Rattle.base.specs.Refusals.{answer}
+use borrow.Author.Needs.{needs}
+use Rattle.cache.proofs.Cache.no_op.Statement.{statement}
+use Rattle.cache.proofs.Cache.no_op.Tie as tie
+
+dop-kind-requires : tie.Need-dop-kind-requires
+dop-kind-requires c κs = search needs
+
+dop-id-requires : tie.Need-dop-id-requires
+dop-id-requires c κs = search needs
+
+is-ready-requires : tie.Need-is-ready-requires
+is-ready-requires c κs = search needs
+
+has-requires : tie.Need-has-requires
+has-requires c κs = search needs
+
+answered-requires : tie.Need-answered-requires
+answered-requires c κs = search needs
+
+returns : tie.Need-returns
+unfolding pastGate answer
+returns c =
+    let c1 = c .before in
+    let c2 = c1 .before .before .before in
+    let c3 = c2 .before .before .before .before in
+    let c4 = c3 .before in
+    let c5 = c4 .before in
+    let awaited = rw (c2 .has .ensures, c3 .is-ready .ensures, c4 .dop-id .ensures, c5 .dop-kind .ensures) at (c1 .if1 .taken) in
+    simp (awaited, c .answered .ensures, c2 .has .ensures, c3 .is-ready .ensures, c4 .dop-id .ensures, c5 .dop-kind .ensures)
+
+answered-requires-2 : tie.Need-answered-requires-2
+answered-requires-2 c κs = search needs
+
+returns-2 : tie.Need-returns-2
+unfolding pastGate answer
+returns-2 c =
+    let c1 = c .before in
+    let c2 = c1 .before .before .before in
+    let c3 = c2 .before .before .before .before in
+    let c4 = c3 .before in
+    let c5 = c4 .before in
+    let awaited = rw (c2 .has .ensures, c3 .is-ready .ensures, c4 .dop-id .ensures, c5 .dop-kind .ensures) at (c1 .if1 .left) in
+    simp (awaited, c .answered2 .ensures, c2 .has .ensures, c3 .is-ready .ensures, c4 .dop-id .ensures, c5 .dop-kind .ensures)
+
+pub no-op-spec : {M : Type 1} → statement M
+no-op-spec =
+    tie.close
+    (tie.spec
+    dop-kind-requires
+    dop-id-requires
+    is-ready-requires
+    has-requires
+    answered-requires
+    returns
+    answered-requires-2
+    returns-2)

@@ -1,0 +1,51 @@
+use Rattle.blockcache.specs.Step.{pastGate}
+use Rattle.base.specs.Refusals.{answer}
+use borrow.Author.Needs.{needs}
+use Rattle.cache.proofs.Cache.receive_loc.Statement.{statement}
+use Rattle.cache.proofs.Cache.receive_loc.Tie as tie
+
+vop-loc-requires : tie.Need-vop-loc-requires
+vop-loc-requires c κs = search needs
+
+valid-indirection-table-location-requires : tie.Need-valid-indirection-table-location-requires
+valid-indirection-table-location-requires c κs = search needs
+
+answered-requires : tie.Need-answered-requires
+answered-requires c κs = search needs
+
+returns : tie.Need-returns
+unfolding pastGate answer
+returns c =
+    let c1 = c .before in
+    let c2 = c1 .before in
+    let c3 = c2 .before in
+    let invalid = rw (c2 .valid-indirection-table-location .ensures, c3 .vop-loc .ensures) at (c1 .if1 .taken) in
+    simp (invalid, c .answered .ensures, c2 .valid-indirection-table-location .ensures, c3 .vop-loc .ensures)
+
+loading-requires : tie.Need-loading-requires
+loading-requires c κs = search needs
+
+answered-requires-2 : tie.Need-answered-requires-2
+answered-requires-2 c κs = search needs
+
+returns-2 : tie.Need-returns-2
+unfolding pastGate answer
+returns-2 c =
+    let c1 = c .before in
+    let c2 = c1 .before in
+    let c3 = c2 .before in
+    let c4 = c3 .before in
+    let valid = rw (c3 .valid-indirection-table-location .ensures, c4 .vop-loc .ensures) at (c2 .if1 .left) in
+    simp (valid, c .answered2 .ensures, c1 .loading .ensures, c3 .valid-indirection-table-location .ensures, c4 .vop-loc .ensures)
+
+pub receive-loc-spec : {M : Type 1} → statement M
+receive-loc-spec =
+    tie.close
+    (tie.spec
+    vop-loc-requires
+    valid-indirection-table-location-requires
+    answered-requires
+    returns
+    loading-requires
+    answered-requires-2
+    returns-2)

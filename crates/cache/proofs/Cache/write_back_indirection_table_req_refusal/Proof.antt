@@ -1,0 +1,63 @@
+use Rattle.base.specs.Refusals.{answer}
+use borrow.Author.Needs.{needs}
+use Rattle.cache.proofs.Cache.write_back_indirection_table_req_refusal.Statement.{
+  statement,
+}
+use Rattle.cache.proofs.Cache.write_back_indirection_table_req_refusal.Tie as tie
+
+dop-loc-requires : tie.Need-dop-loc-requires
+dop-loc-requires c κs = search needs
+
+valid-indirection-table-location-requires : tie.Need-valid-indirection-table-location-requires
+valid-indirection-table-location-requires c κs = search needs
+
+overlap-requires : tie.Need-overlap-requires
+overlap-requires c κs = search needs
+
+same-table-requires : tie.Need-same-table-requires
+same-table-requires c κs = search needs
+
+lacks-location-requires : tie.Need-lacks-location-requires
+lacks-location-requires c κs = search needs
+
+first-of-requires : tie.Need-first-of-requires
+first-of-requires c κs = search needs
+
+first-of-requires-2 : tie.Need-first-of-requires-2
+first-of-requires-2 c κs = search needs
+
+first-of-requires-3 : tie.Need-first-of-requires-3
+first-of-requires-3 c κs = search needs
+
+first-of-requires-4 : tie.Need-first-of-requires-4
+first-of-requires-4 c κs = search needs
+
+returns : tie.Need-returns
+unfolding answer
+returns c =
+    let c1 = c .before .before .before in
+    let c2 = c1 .before .before in
+    let c3 = c2 .before .before in
+    let c4 = c3 .before .before .before in
+    let c5 = c4 .before in
+    let c6 = c5 .before in
+    let c7 = c6 .before in
+    let c8 = c7 .before .before .before .before .before .before .before .before in
+    let over = rw (c8 .dop-loc .ensures) at (c6 .overlap .ensures) in
+    let valid = rw (c8 .dop-loc .ensures) at (c7 .valid-indirection-table-location .ensures) in
+    simp (c .first-of4 .ensures, c1 .first-of3 .ensures, c2 .first-of2 .ensures, c3 .first-of .ensures, c4 .lacks-location .ensures, c5 .same-table .ensures, over, valid, c8 .dop-loc .ensures)
+
+pub write-back-indirection-table-req-refusal-spec : {M : Type 1} → statement M
+write-back-indirection-table-req-refusal-spec =
+    tie.close
+    (tie.spec
+    dop-loc-requires
+    valid-indirection-table-location-requires
+    overlap-requires
+    same-table-requires
+    lacks-location-requires
+    first-of-requires
+    first-of-requires-2
+    first-of-requires-3
+    first-of-requires-4
+    returns)

@@ -1,0 +1,305 @@
+use Rattle.blockcache.proofs.Numbers.{no-step}
+use Rattle.blockcache.specs.Step.{gated}
+use Rattle.blockcache.specs.Steps.{stepOf, steps}
+use borrow.Author.Needs.{needs}
+use Rattle.cache.proofs.gate.gate.Statement.{statement}
+use Rattle.cache.proofs.gate.gate.Tie as tie
+
+vop-kind-requires : tie.Need-vop-kind-requires
+vop-kind-requires c κs = search needs
+
+dop-kind-requires : tie.Need-dop-kind-requires
+dop-kind-requires c κs = search needs
+
+vop-no-op-requires : tie.Need-vop-no-op-requires
+vop-no-op-requires c κs = search needs
+
+is-ready-requires : tie.Need-is-ready-requires
+is-ready-requires c κs = search needs
+
+is-loading-requires : tie.Need-is-loading-requires
+is-loading-requires c κs = search needs
+
+is-unready-requires : tie.Need-is-unready-requires
+is-unready-requires c κs = search needs
+
+taken-requires : tie.Need-taken-requires
+taken-requires c κs = search needs
+
+taken-requires-2 : tie.Need-taken-requires-2
+taken-requires-2 c κs = search needs
+
+taken-requires-3 : tie.Need-taken-requires-3
+taken-requires-3 c κs = search needs
+
+taken-requires-4 : tie.Need-taken-requires-4
+taken-requires-4 c κs = search needs
+
+taken-requires-5 : tie.Need-taken-requires-5
+taken-requires-5 c κs = search needs
+
+taken-requires-6 : tie.Need-taken-requires-6
+taken-requires-6 c κs = search needs
+
+taken-requires-7 : tie.Need-taken-requires-7
+taken-requires-7 c κs = search needs
+
+taken-requires-8 : tie.Need-taken-requires-8
+taken-requires-8 c κs = search needs
+
+taken-requires-9 : tie.Need-taken-requires-9
+taken-requires-9 c κs = search needs
+
+taken-requires-10 : tie.Need-taken-requires-10
+taken-requires-10 c κs = search needs
+
+taken-requires-11 : tie.Need-taken-requires-11
+taken-requires-11 c κs = search needs
+
+taken-requires-12 : tie.Need-taken-requires-12
+taken-requires-12 c κs = search needs
+
+taken-requires-13 : tie.Need-taken-requires-13
+taken-requires-13 c κs = search needs
+
+taken-requires-14 : tie.Need-taken-requires-14
+taken-requires-14 c κs = search needs
+
+taken-requires-15 : tie.Need-taken-requires-15
+taken-requires-15 c κs = search needs
+
+taken-requires-16 : tie.Need-taken-requires-16
+taken-requires-16 c κs = search needs
+
+taken-requires-17 : tie.Need-taken-requires-17
+taken-requires-17 c κs = search needs
+
+taken-requires-18 : tie.Need-taken-requires-18
+taken-requires-18 c κs = search needs
+
+returns : tie.Need-returns
+unfolding gated stepOf steps
+returns c = simp (
+  c .before .match .keys1,
+  c .taken .ensures,
+  c .before .before .before .before .is-ready .ensures,
+  c .before .before .before .before .before .before .dop-kind .ensures,
+  c .before .before .before .before .before .before .before .vop-kind .ensures,
+)
+
+returns-2 : tie.Need-returns-2
+unfolding gated stepOf steps
+returns-2 c = simp (
+  c .before .match .keys2,
+  c .taken2 .ensures,
+  c .before .before .before .before .is-ready .ensures,
+  c .before .before .before .before .before .before .dop-kind .ensures,
+  c .before .before .before .before .before .before .before .vop-kind .ensures,
+)
+
+returns-3 : tie.Need-returns-3
+unfolding gated stepOf steps
+returns-3 c = simp (
+  c .before .match .keys3,
+  c .taken3 .ensures,
+  c .before .before .before .before .is-ready .ensures,
+  c .before .before .before .before .before .before .dop-kind .ensures,
+  c .before .before .before .before .before .before .before .vop-kind .ensures,
+)
+
+returns-4 : tie.Need-returns-4
+unfolding gated stepOf steps
+returns-4 c = simp (
+  c .before .match .keys4,
+  c .taken4 .ensures,
+  c .before .before .before .before .is-ready .ensures,
+  c .before .before .before .before .before .before .dop-kind .ensures,
+  c .before .before .before .before .before .before .before .vop-kind .ensures,
+)
+
+returns-5 : tie.Need-returns-5
+unfolding gated stepOf steps
+returns-5 c = simp (
+  c .before .match .keys5,
+  c .taken5 .ensures,
+  c .before .before .before .before .is-ready .ensures,
+  c .before .before .before .before .before .vop-no-op .ensures,
+  c .before .before .before .before .before .before .dop-kind .ensures,
+)
+
+returns-6 : tie.Need-returns-6
+unfolding gated stepOf steps
+returns-6 c = simp (
+  c .before .match .keys6,
+  c .taken6 .ensures,
+  c .before .before .before .before .is-ready .ensures,
+  c .before .before .before .before .before .before .dop-kind .ensures,
+  c .before .before .before .before .before .before .before .vop-kind .ensures,
+)
+
+returns-7 : tie.Need-returns-7
+unfolding gated stepOf steps
+returns-7 c = simp (
+  c .before .match .keys7,
+  c .taken7 .ensures,
+  c .before .before .before .before .is-ready .ensures,
+  c .before .before .before .before .before .before .dop-kind .ensures,
+  c .before .before .before .before .before .before .before .vop-kind .ensures,
+)
+
+returns-8 : tie.Need-returns-8
+unfolding gated stepOf steps
+returns-8 c = simp (
+  c .before .match .keys8,
+  c .taken8 .ensures,
+  c .before .before .before .is-loading .ensures,
+  c .before .before .before .before .before .before .dop-kind .ensures,
+  c .before .before .before .before .before .before .before .vop-kind .ensures,
+)
+
+returns-9 : tie.Need-returns-9
+unfolding gated stepOf steps
+returns-9 c = simp (
+  c .before .match .keys9,
+  c .taken9 .ensures,
+  c .before .before .before .is-loading .ensures,
+  c .before .before .before .before .before .before .dop-kind .ensures,
+  c .before .before .before .before .before .before .before .vop-kind .ensures,
+)
+
+returns-10 : tie.Need-returns-10
+unfolding gated stepOf steps
+returns-10 c = simp (
+  c .before .match .keys10,
+  c .taken10 .ensures,
+  c .before .before .is-unready .ensures,
+  c .before .before .before .before .before .before .dop-kind .ensures,
+  c .before .before .before .before .before .before .before .vop-kind .ensures,
+)
+
+returns-11 : tie.Need-returns-11
+unfolding gated stepOf steps
+returns-11 c = simp (
+  c .before .match .keys11,
+  c .taken11 .ensures,
+  c .before .before .before .before .is-ready .ensures,
+  c .before .before .before .before .before .before .dop-kind .ensures,
+  c .before .before .before .before .before .before .before .vop-kind .ensures,
+)
+
+returns-12 : tie.Need-returns-12
+unfolding gated stepOf steps
+returns-12 c = simp (
+  c .before .match .keys12,
+  c .taken12 .ensures,
+  c .before .before .before .before .is-ready .ensures,
+  c .before .before .before .before .before .before .dop-kind .ensures,
+  c .before .before .before .before .before .before .before .vop-kind .ensures,
+)
+
+returns-13 : tie.Need-returns-13
+unfolding gated stepOf steps
+returns-13 c = simp (
+  c .before .match .keys13,
+  c .taken13 .ensures,
+  c .before .before .before .before .is-ready .ensures,
+  c .before .before .before .before .before .before .dop-kind .ensures,
+  c .before .before .before .before .before .before .before .vop-kind .ensures,
+)
+
+returns-14 : tie.Need-returns-14
+unfolding gated stepOf steps
+returns-14 c = simp (
+  c .before .match .keys14,
+  c .taken14 .ensures,
+  c .before .before .before .before .before .before .dop-kind .ensures,
+  c .before .before .before .before .before .before .before .vop-kind .ensures,
+)
+
+returns-15 : tie.Need-returns-15
+unfolding gated stepOf steps
+returns-15 c = simp (
+  c .before .match .keys15,
+  c .taken15 .ensures,
+  c .before .before .before .before .is-ready .ensures,
+  c .before .before .before .before .before .before .dop-kind .ensures,
+  c .before .before .before .before .before .before .before .vop-kind .ensures,
+)
+
+returns-16 : tie.Need-returns-16
+unfolding gated stepOf steps
+returns-16 c = simp (
+  c .before .match .keys16,
+  c .taken16 .ensures,
+  c .before .before .before .before .is-ready .ensures,
+  c .before .before .before .before .before .before .dop-kind .ensures,
+  c .before .before .before .before .before .before .before .vop-kind .ensures,
+)
+
+returns-17 : tie.Need-returns-17
+unfolding gated stepOf steps
+returns-17 c = simp (
+  c .before .match .keys17,
+  c .taken17 .ensures,
+  c .before .before .before .before .is-ready .ensures,
+)
+
+returns-18 : tie.Need-returns-18
+unfolding gated stepOf steps
+returns-18 c = simp (
+  c .before .match .keys18,
+  c .taken18 .ensures,
+  c .before .before .before .before .before .before .before .vop-kind .ensures,
+)
+
+returns-19 : tie.Need-returns-19
+unfolding gated
+returns-19 c = simp (no-step _ (c .match .rest))
+
+pub gate-spec : {M : Type 1} → statement M
+gate-spec =
+    tie.close
+    (tie.spec
+    vop-kind-requires
+    dop-kind-requires
+    vop-no-op-requires
+    is-ready-requires
+    is-loading-requires
+    is-unready-requires
+    taken-requires
+    taken-requires-2
+    taken-requires-3
+    taken-requires-4
+    taken-requires-5
+    taken-requires-6
+    taken-requires-7
+    taken-requires-8
+    taken-requires-9
+    taken-requires-10
+    taken-requires-11
+    taken-requires-12
+    taken-requires-13
+    taken-requires-14
+    taken-requires-15
+    taken-requires-16
+    taken-requires-17
+    taken-requires-18
+    returns
+    returns-2
+    returns-3
+    returns-4
+    returns-5
+    returns-6
+    returns-7
+    returns-8
+    returns-9
+    returns-10
+    returns-11
+    returns-12
+    returns-13
+    returns-14
+    returns-15
+    returns-16
+    returns-17
+    returns-18
+    returns-19)

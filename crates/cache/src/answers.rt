@@ -1,0 +1,57 @@
+// What every step asks and hands back: the phase, the number of the first condition that holds, the outcome.
+ghost use mathlib.Core.Path.{_≡_};
+ghost use Rattle.blockcache.specs.Form.{loadingPhase, readyPhase, unreadyPhase};
+ghost use Rattle.blockcache.specs.Rows.{first};
+ghost use Rattle.blockcache.specs.Step.{answered};
+use blockcache::CacheOutcome;
+use blockcache::CacheState;
+use blockcache::Phase;
+
+pub fn is_ready(phase: Phase) -> bool
+    ensures { λ b. ⌜ b ≡ readyPhase phase ⌝ }
+{
+    match phase {
+        Phase::Unready => false,
+        Phase::Loading => false,
+        Phase::Ready => true,
+    }
+}
+
+pub(crate) fn is_loading(phase: Phase) -> bool
+    ensures { λ b. ⌜ b ≡ loadingPhase phase ⌝ }
+{
+    match phase {
+        Phase::Unready => false,
+        Phase::Loading => true,
+        Phase::Ready => false,
+    }
+}
+
+pub(crate) fn is_unready(phase: Phase) -> bool
+    ensures { λ b. ⌜ b ≡ unreadyPhase phase ⌝ }
+{
+    match phase {
+        Phase::Unready => true,
+        Phase::Loading => false,
+        Phase::Ready => false,
+    }
+}
+
+// The number where the condition holds, else what the later conditions give.
+pub(crate) fn first_of(c: bool, n: u64, rest: u64) -> u64
+    ensures { λ r. ⌜ r ≡ first c n rest ⌝ }
+{
+    if c { n } else { rest }
+}
+
+// The cache as it is now, with the answer; no node.
+pub(crate) fn answered(c: CacheState, n: u64) -> CacheOutcome
+    ensures { λ o. ⌜ o ≡ answered n c ⌝ }
+{
+    let node = sector::zero_node();
+    CacheOutcome {
+        answer: n,
+        node,
+        cache: c,
+    }
+}
