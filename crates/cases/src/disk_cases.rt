@@ -1,8 +1,8 @@
 // The disk's numbers 15, 16, 17 and 18. A kind is 1 table read, 2 node read, 3 table write, 4 node write.
 use blockdisk::Brought;
-use blockdisk::DiskState;
 use blockdisk::DiskCall;
 use blockdisk::DiskOp;
+use blockdisk::DiskState;
 use blockdisk::Queues;
 use disklayout::Location;
 use fixtures::AREA1;
