@@ -37,22 +37,12 @@ module _ (d : ℕ) (v : DVariables) (t : PictureMaps) (tr nr tw nw : Map Locatio
   phase-less : (s : Variables) → InPhase s v t → InPhase s (withQueues v tr nr tw nw) t
   phase-less (ready x) p =
       record {
-        persistent-place = p .persistent-place;
-        persistent-stored = p .persistent-stored;
-        frozen-place = p .frozen-place;
-        frozen-stored = p .frozen-stored;
-        table-reads = none-fewer tr (v .reqReadIndirectionTables) a (p .table-reads);
-        table-writes = λ id k q. p .table-writes id k (c id k q);
-        node-writes = λ id k q. p .node-writes id k (e id k q);
-        node-reads = λ id k q. p .node-reads id k (b id k q);
-        reads-uncached = p .reads-uncached;
-        working-refs = p .working-refs;
-        working-lists = p .working-lists;
-        located = p .located;
-        cached = p .cached;
+        persistent = let o = p .persistent in record { place-is = o .place-is; stored = o .stored; no-reads = none-fewer tr (v .reqReadIndirectionTables) a (o .no-reads) };
+        frozen-place = let o = p .frozen-place in record { place-is = o .place-is; stored = o .stored; writes = λ id k q. o .writes id k (c id k q) };
+        writes = let o = p .writes in record { awaited = λ id k q. o .awaited id k (e id k q); persistent-apart = o .persistent-apart; frozen-apart = o .frozen-apart };
+        reads = record { awaited = λ id k q. p .reads .awaited id k (b id k q); uncached = p .reads .uncached };
+        working = p .working;
         frozen = p .frozen;
-        persistent-apart = p .persistent-apart;
-        frozen-apart = p .frozen-apart;
       }
   phase-less (loadingIndirectionTable at read) p =
       record {
@@ -180,25 +170,19 @@ keep-write-resp d x y v t id w i u =
       second = λ l q. less l (t .secondPicture) (w .second l q);
       apart = w .apart;
       phase = record {
-        persistent-place = p .persistent-place;
-        persistent-stored = p .persistent-stored;
+        persistent = p .persistent;
         frozen-place = p .frozen-place;
-        frozen-stored = p .frozen-stored;
-        table-reads = p .table-reads;
-        table-writes = p .table-writes;
-        node-writes = λ j k q.
-            let e = del-some (v .reqWriteNodes) id j q in
-            let h = p .node-writes j k (e .1) in
-            (h .0, del-other (x .outstandingBlockWrites) id j (e .0) ∙ h .1, h .2);
-        node-reads = p .node-reads;
-        reads-uncached = p .reads-uncached;
-        working-refs = p .working-refs;
-        working-lists = p .working-lists;
-        located = p .located;
-        cached = p .cached;
+        writes = record {
+          awaited = λ j k q.
+              let e = del-some (v .reqWriteNodes) id j q in
+              let h = p .writes .awaited j k (e .1) in
+              (h .0, del-other (x .outstandingBlockWrites) id j (e .0) ∙ h .1, h .2);
+          persistent-apart = λ j z q. p .writes .persistent-apart j z (del-some (x .outstandingBlockWrites) id j q .1);
+          frozen-apart = λ l f a b j z q. p .writes .frozen-apart l f a b j z (del-some (x .outstandingBlockWrites) id j q .1);
+        };
+        reads = p .reads;
+        working = p .working;
         frozen = p .frozen;
-        persistent-apart = λ j z q. p .persistent-apart j z (del-some (x .outstandingBlockWrites) id j q .1);
-        frozen-apart = λ l f a b j z q. p .frozen-apart l f a b j z (del-some (x .outstandingBlockWrites) id j q .1);
       };
     })
   where
@@ -220,26 +204,19 @@ keep-read-req d x y v t id ref loc w i u =
       second = w .second;
       apart = w .apart;
       phase = record {
-        persistent-place = p .persistent-place;
-        persistent-stored = p .persistent-stored;
+        persistent = p .persistent;
         frozen-place = p .frozen-place;
-        frozen-stored = p .frozen-stored;
-        table-reads = p .table-reads;
-        table-writes = p .table-writes;
-        node-writes = p .node-writes;
-        node-reads = λ j k q.
-            ⊎-elim
-            (λ (z : (j ≡ id) × (loc ≡ k)). (ref, rw (z .0) (put-same (x .outstandingBlockReads) id ref), u .located ∙ ap some (z .1)))
-            (λ z. let h = p .node-reads j k (z .1) in (h .0, put-other (x .outstandingBlockReads) id ref j (z .0) ∙ h .1, h .2))
-            (put-some (v .reqReadNodes) id loc j q);
-        reads-uncached = λ j r q.
-            ⊎-elim (λ (z : (j ≡ id) × (ref ≡ r)). rw (← (z .1)) (u .allocated, u .not-cached)) (λ z. p .reads-uncached j r (z .1)) (put-some (x .outstandingBlockReads) id ref j q);
-        working-refs = p .working-refs;
-        working-lists = p .working-lists;
-        located = p .located;
-        cached = p .cached;
+        writes = p .writes;
+        reads = record {
+          awaited = λ j k q.
+              ⊎-elim
+              (λ (z : (j ≡ id) × (loc ≡ k)). (ref, rw (z .0) (put-same (x .outstandingBlockReads) id ref), u .located ∙ ap some (z .1)))
+              (λ z. let h = p .reads .awaited j k (z .1) in (h .0, put-other (x .outstandingBlockReads) id ref j (z .0) ∙ h .1, h .2))
+              (put-some (v .reqReadNodes) id loc j q);
+          uncached = λ j r q.
+              ⊎-elim (λ (z : (j ≡ id) × (ref ≡ r)). rw (← (z .1)) (u .allocated, u .not-cached)) (λ z. p .reads .uncached j r (z .1)) (put-some (x .outstandingBlockReads) id ref j q);
+        };
+        working = p .working;
         frozen = p .frozen;
-        persistent-apart = p .persistent-apart;
-        frozen-apart = p .frozen-apart;
       };
     })

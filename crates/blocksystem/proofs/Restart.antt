@@ -118,4 +118,4 @@ read-pictured d s q o v e =
     let r = cache-read d (s .cache) q (z .0) in
     let p = subst (λ x. InPhase x (diskVars d (s .disk)) (pictureMaps (s .pictures))) (ready-vars (s .cache) (s .cache .phase) (r .0)) (v .whole .phase) in
     let w = rows-accepted-iff d (s .cache) 17 q .0 (z .0) .0 in
-    rw (joined-node d 17 q o (s .cache) (s .disk) e, w) (p .cached (q .reference) (stepNode d (s .cache) 17 (q .reference) q) (r .2 .allocated) (r .2 .cached))
+    rw (joined-node d 17 q o (s .cache) (s .disk) e, w) (p .working .cached (q .reference) (stepNode d (s .cache) 17 (q .reference) q) (r .2 .allocated) (r .2 .cached))
