@@ -1,5 +1,5 @@
--- THE invariant: what holds of cache, disk and pictures after any list of joined calls. It is stated over what they stand for: the cache's and the
--- disk's upstream variables, and the pictures as maps. Assumes nothing.
+-- THE invariant: what holds of cache, disk and pictures after any list of joined calls. It is stated over the upstream variables of cache and disk, and
+-- over the pictures as maps. Assumes nothing.
 use Prim.Native.Nat.{ℕ}
 use mathlib.Core.Bool.{true}
 use mathlib.Core.Option.{Option, none, some}
@@ -7,7 +7,8 @@ use mathlib.Core.Path.{_≡_}
 use Rattle.base.specs.Maps.{Map, flagged, isSome}
 use Rattle.blockcache.specs.Form.{cacheForm}
 use Rattle.blockcache.specs.Steps.{cacheVars}
-use Rattle.blockcache.specs.Upstream.{AllLocationsForDifferentRefsDontOverlap, In, NoAddr, OutstandingWrite, Ready, SameSuccs, Variables, WFCompleteIndirectionTable, loadingIndirectionTable, ready, unready}
+use Rattle.blockcache.specs.Upstream.{AllLocationsForDifferentRefsDontOverlap, In, NoAddr, OutstandingWrite, SameSuccs, WFCompleteIndirectionTable}
+use Rattle.blockcache.specs.Upstream.{Ready, Variables, loadingIndirectionTable, ready, unready}
 use Rattle.blockcache.specs.UpstreamInv.{Inv}
 use Rattle.blockdisk.specs.Form.{diskForm}
 use Rattle.blockdisk.specs.Upstream.{Imap, Variables as DVariables, diskVars}
@@ -20,7 +21,7 @@ use Rattle.sectortype.specs.declared.Succs.{Succs}
 use Rattle.blocksystem.specs.Run.{State}
 use Rattle.blocksystem.specs.declared.Pictures.{Pictures}
 
--- THE STORY AS MAPS
+-- THE PICTURES AS MAPS
 
 pub record PictureMaps : Type 0 where
   -- the place that formatting, a start or a clean-up left named, and its picture
@@ -86,7 +87,8 @@ pub record Kept (d : ℕ) (tables : Imap IndirectionTable) (nodes : Imap Node) (
 abbrev pub KeptOn : ℕ → DVariables → Location → Map Node → Type 0
 KeptOn d v l pic = Kept d (v .indirectionTables) (v .nodes) (v .reqWriteIndirectionTables) (v .reqWriteNodes) l pic
 
--- THE PARTS OF A READY STATE, each over just those variables of cache, disk and pictures that it speaks of
+-- THE PARTS OF A READY STATE. Each is over those variables of cache, disk and pictures alone that it names, so that a step keeps those parts at once
+-- whose variables it leaves alone.
 
 -- two maps have the same keys
 abbrev pub SameKeys : {A B : Type 0} → Map A → Map B → Type 0
@@ -114,11 +116,11 @@ abbrev pub TableWritesAwaited : Map Location → Option ℕ → Option Location 
 TableWritesAwaited queue awaited loc = (id : ℕ) (k : Location) → queue id ≡ some k → (awaited ≡ some id) × (loc ≡ some k)
 
 -- the frozen place
-pub record FrozenPlaceOk (tables : Imap IndirectionTable) (tableWrites : Map Location) (second : Option Location) (awaited : Option ℕ) (loc : Option Location) (frozen : Option IndirectionTable) : Type 0 where
+pub record FrozenPlaceOk (tables : Imap IndirectionTable) (queue : Map Location) (second : Option Location) (awaited : Option ℕ) (loc : Option Location) (t : Option IndirectionTable) : Type 0 where
   -- the second named place is the frozen one, while no write of it is outstanding
   pub place-is : second ≡ frozenNow awaited loc
-  pub stored : FrozenStored tables loc frozen
-  pub writes : TableWritesAwaited tableWrites awaited loc
+  pub stored : FrozenStored tables loc t
+  pub writes : TableWritesAwaited queue awaited loc
 
 -- a queued node write is one that the cache awaits, at the same place
 abbrev pub NodeWritesAwaited : Map Location → Map OutstandingWrite → Type 0
@@ -131,7 +133,7 @@ WritesApart writes locs = (id : ℕ) (w : OutstandingWrite) → writes id ≡ so
 -- the node writes
 pub record NodeWritesOk (queue : Map Location) (writes : Map OutstandingWrite) (t : IndirectionTable) (loc : Option Location) (frozen : Option IndirectionTable) : Type 0 where
   pub awaited : NodeWritesAwaited queue writes
-  -- none is outstanding under the persistent table t, nor under a frozen one whose place is set
+  -- none is outstanding at an address of the persistent table t, nor of a frozen one whose place is set
   pub persistent-apart : WritesApart writes (t .locs)
   pub frozen-apart : (l : Location) (f : IndirectionTable) → loc ≡ some l → frozen ≡ some f → WritesApart writes (f .locs)
 

@@ -18,27 +18,30 @@ use Rattle.sectortype.specs.declared.Succs.{Succs}
 use Rattle.blocksystem.proofs.Invariant.{FrozenOk, PictureMaps, Whole}
 use Rattle.blocksystem.proofs.Laws.{del-in, in-del, in-of, in-put, none-del, not-both, put-in, same-del, same-put, some-of}
 
--- the working picture drawn anew
+-- the same pictures but for the working one
 abbrev pub workingMaps : PictureMaps → Map Node → PictureMaps
 workingMaps t w = record { place = t .place; picture = t .picture; second = t .second; secondPicture = t .secondPicture; working = w; frozen = t .frozen }
 
--- the frozen table needs a cached node only of a reference that it doesn't locate
-module _ (nodes : Imap Node) (f : IndirectionTable) (cache pic : Map Node) (o : FrozenOk nodes f cache pic) (ref : ℕ) where
+-- the frozen table needs no cached node of the reference: it needs one only of a reference that it doesn't locate
+abbrev pub Unneeded : IndirectionTable → ℕ → Type 0
+Unneeded f ref = (k : ℕ) → In k (f .graph) → f .locs k ≡ none → k ≡ ref → ⊥
+
+-- FZ: the frozen table has the reference with its location, or not at all
+pub unneeded-located : (f : IndirectionTable) (ref : ℕ) → (In ref (f .graph) → In ref (f .locs)) → Unneeded f ref
+unneeded-located f ref h k g e q = not-both (f .locs) ref (h (rw q at g)) (rw q at e)
+
+module _ {nodes : Imap Node} {f : IndirectionTable} {cache pic : Map Node} (o : FrozenOk nodes f cache pic) (ref : ℕ) where
+  pub unneeded-uncached : cache ref ≡ none → Unneeded f ref
+  unneeded-uncached h k g e q = let c = o .cached k g e in never (sym (rw (← q) at h) ∙ c .1)
+
   -- what is cached of another reference is as it was
-  pub frozen-cache : (cache' : Map Node) → ((k : ℕ) → In k (f .graph) → f .locs k ≡ none → k ≡ ref → ⊥) → ((k : ℕ) → (k ≡ ref → ⊥) → cache' k ≡ cache k) → FrozenOk nodes f cache' pic
-  frozen-cache cache' spared same = record { pictured = o .pictured; cached = λ k g e. let c = o .cached k g e in (c .0, same k (spared k g e) ∙ c .1, c .2) }
-
-  -- FZ: the frozen table has the reference with its location, or not at all
-  pub spared-located : (In ref (f .graph) → In ref (f .locs)) → (k : ℕ) → In k (f .graph) → f .locs k ≡ none → k ≡ ref → ⊥
-  spared-located h k g e q = not-both (f .locs) ref (h (rw q at g)) (rw q at e)
-
-  pub spared-uncached : cache ref ≡ none → (k : ℕ) → In k (f .graph) → f .locs k ≡ none → k ≡ ref → ⊥
-  spared-uncached h k g e q = let c = o .cached k g e in never (sym (rw (← q) at h) ∙ c .1)
+  pub frozen-cache : {cache' : Map Node} → Unneeded f ref → ((k : ℕ) → (k ≡ ref → ⊥) → cache' k ≡ cache k) → FrozenOk nodes f cache' pic
+  frozen-cache unneeded same = record { pictured = o .pictured; cached = λ k g e. let c = o .cached k g e in (c .0, same k (unneeded k g e) ∙ c .1, c .2) }
 
 -- A NODE PAGED IN
 
-pub keep-page-in : (d : ℕ) (x y : Ready) (v v' : DVariables) (t : PictureMaps) (id : ℕ) (n : Option Node) → Whole d (ready x) v t → Inv d (ready y) → PageInNodeResp x y id n → AckReadNode v v' id n →
-    Whole d (ready y) (nextVars v (respReadNode id n)) t
+pub keep-page-in : (d : ℕ) (x y : Ready) (v v' : DVariables) (t : PictureMaps) (id : ℕ) (n : Option Node) →
+    Whole d (ready x) v t → Inv d (ready y) → PageInNodeResp x y id n → AckReadNode v v' id n → Whole d (ready y) (nextVars v (respReadNode id n)) t
 keep-page-in d x y v v' t id n w i u a =
     let p = w .phase in
     rw (u .next)
@@ -68,8 +71,7 @@ keep-page-in d x y v v' t id n w i u a =
         };
         frozen = λ f q.
             let o = p .frozen f q in
-            frozen-cache (v .nodes) f (x .cache) (t .frozen) o (u .ref) (put (x .cache) (u .ref) (u .block)) (spared-uncached (v .nodes) f (x .cache) (t .frozen) o (u .ref) (u .not-cached))
-            (λ k ne. put-other (x .cache) (u .ref) (u .block) k ne);
+            frozen-cache o (u .ref) (unneeded-uncached o (u .ref) (u .not-cached)) (λ k ne. put-other (x .cache) (u .ref) (u .block) k ne);
       };
     })
   where
@@ -84,9 +86,10 @@ keep-page-in d x y v v' t id n w i u a =
         let s = w .phase .working .pictured .located (h .0) (l .0) (h .2) in
         rw r (s .pictured ∙ sym (s .stored) ∙ sym e ∙ u .brought)
 
--- A NODE LET GO
+-- A NODE EVICTED
 
-pub keep-evict : (d : ℕ) (x y : Ready) (v : DVariables) (t : PictureMaps) (ref : ℕ) → Whole d (ready x) v t → Inv d (ready y) → Evict x y ref → Whole d (ready y) v t
+pub keep-evict : (d : ℕ) (x y : Ready) (v : DVariables) (t : PictureMaps) (ref : ℕ) →
+    Whole d (ready x) v t → Inv d (ready y) → Evict x y ref → Whole d (ready y) v t
 keep-evict d x y v t ref w i u =
     let p = w .phase in
     rw (u .next)
@@ -101,13 +104,11 @@ keep-evict d x y v t ref w i u =
         writes = p .writes;
         reads = record { awaited = p .reads .awaited; uncached = λ j r q. let h = p .reads .uncached j r q in (h .0, none-del (x .cache) ref r (h .1)) };
         working = record { pictured = p .working .pictured; cached = λ r m g q. p .working .cached r m g (del-some (x .cache) ref r q .1) };
-        frozen = λ f q.
-            let o = p .frozen f q in
-            frozen-cache (v .nodes) f (x .cache) (t .frozen) o ref (del (x .cache) ref) (spared-located (v .nodes) f (x .cache) (t .frozen) o ref (u .frozen-located f q)) (λ k ne. del-other (x .cache) ref k ne);
+        frozen = λ f q. frozen-cache (p .frozen f q) ref (unneeded-located f ref (u .frozen-located f q)) (λ k ne. del-other (x .cache) ref k ne);
       };
     })
 
--- THE WORKING PICTURE DRAWN
+-- THE WORKING PICTURE CHANGED
 
 -- the ephemeral table and the cached nodes set, all else as it was
 abbrev working : Ready → Map Location → Map Succs → Map Node → Ready
@@ -127,7 +128,8 @@ working x locs graph cache =
 table-of : {t : IndirectionTable} {l : Map Location} {g : Map Succs} → t .locs ≡ l → t .graph ≡ g → t ≡ record { locs = l; graph = g }
 table-of a b = λ i. record { locs = a i; graph = b i }
 
-pub keep-unalloc : (d : ℕ) (x y : Ready) (v : DVariables) (t : PictureMaps) (ref : ℕ) → Whole d (ready x) v t → Inv d (ready y) → Unalloc x y ref → Whole d (ready y) v (workingMaps t (del (t .working) ref))
+pub keep-unalloc : (d : ℕ) (x y : Ready) (v : DVariables) (t : PictureMaps) (ref : ℕ) →
+    Whole d (ready x) v t → Inv d (ready y) → Unalloc x y ref → Whole d (ready y) v (workingMaps t (del (t .working) ref))
 keep-unalloc d x y v t ref w i u =
     let p = w .phase in
     let o = p .working .pictured in
@@ -164,9 +166,7 @@ keep-unalloc d x y v t ref w i u =
               let e = del-in (x .ephemeralIndirectionTable .graph) ref r g in
               del-other (t .working) ref r (e .0) ∙ p .working .cached r m (e .1) (del-some (x .cache) ref r q .1);
         };
-        frozen = λ f q.
-            let o = p .frozen f q in
-            frozen-cache (v .nodes) f (x .cache) (t .frozen) o ref (del (x .cache) ref) (spared-located (v .nodes) f (x .cache) (t .frozen) o ref (u .frozen-located f q)) (λ k ne. del-other (x .cache) ref k ne);
+        frozen = λ f q. frozen-cache (p .frozen f q) ref (unneeded-located f ref (u .frozen-located f q)) (λ k ne. del-other (x .cache) ref k ne);
       };
     })
 
@@ -179,9 +179,9 @@ module _ (d : ℕ) (x y : Ready) (v : DVariables) (t : PictureMaps) (ref : ℕ) 
       ((k : ℕ) (l : Location) → locs k ≡ some l → (k ≡ ref → ⊥) × (x .ephemeralIndirectionTable .locs k ≡ some l)) →
       ((k : ℕ) → (k ≡ ref → ⊥) → locs k ≡ x .ephemeralIndirectionTable .locs k) →
       ((id k : ℕ) → x .outstandingBlockReads id ≡ some k → k ≡ ref → ⊥) →
-      ((f : IndirectionTable) → x .frozenIndirectionTable ≡ some f → (k : ℕ) → In k (f .graph) → f .locs k ≡ none → k ≡ ref → ⊥) →
+      ((f : IndirectionTable) → x .frozenIndirectionTable ≡ some f → Unneeded f ref) →
       Whole d (ready y) v (workingMaps t (put (t .working) ref n))
-  keep-set is succs back there unread spared =
+  keep-set is succs back there unread unneeded =
       let p = w .phase in
       let o = p .working .pictured in
       rw is
@@ -218,11 +218,12 @@ module _ (d : ℕ) (x y : Ready) (v : DVariables) (t : PictureMaps) (ref : ℕ) 
                 ⊎-elim (λ (z : (r ≡ ref) × (n ≡ m)). rw (z .0) (put-same (t .working) ref n ∙ ap some (z .1)))
                 (λ z. put-other (t .working) ref n r (z .0) ∙ p .working .cached r m (put-in (x .ephemeralIndirectionTable .graph) ref list r g (z .0)) (z .1)) (put-some (x .cache) ref n r q);
           };
-          frozen = λ f q. frozen-cache (v .nodes) f (x .cache) (t .frozen) (p .frozen f q) ref (put (x .cache) ref n) (spared f q) (λ k ne. put-other (x .cache) ref n k ne);
+          frozen = λ f q. frozen-cache (p .frozen f q) ref (unneeded f q) (λ k ne. put-other (x .cache) ref n k ne);
         };
       })
 
-pub keep-dirty : (d : ℕ) (x y : Ready) (v : DVariables) (t : PictureMaps) (ref : ℕ) (n : Node) → Whole d (ready x) v t → Inv d (ready y) → Dirty x y ref n → Whole d (ready y) v (workingMaps t (put (t .working) ref n))
+pub keep-dirty : (d : ℕ) (x y : Ready) (v : DVariables) (t : PictureMaps) (ref : ℕ) (n : Node) →
+    Whole d (ready x) v t → Inv d (ready y) → Dirty x y ref n → Whole d (ready y) v (workingMaps t (put (t .working) ref n))
 keep-dirty d x y v t ref n w i u =
     let locs = x .ephemeralIndirectionTable .locs in
     keep-set d x y v t ref n (u .list) (del locs ref) w i
@@ -231,9 +232,10 @@ keep-dirty d x y v t ref n w i u =
     (λ k l q. del-some locs ref k q)
     (λ k ne. del-other locs ref k ne)
     (λ id k q z. not-both (x .cache) ref (u .cached) (rw z at (w .phase .reads .uncached id k q .1)))
-    (λ f q. spared-located (v .nodes) f (x .cache) (t .frozen) (w .phase .frozen f q) ref (u .frozen-located f q))
+    (λ f q. unneeded-located f ref (u .frozen-located f q))
 
-pub keep-alloc : (d : ℕ) (x y : Ready) (v : DVariables) (t : PictureMaps) (ref : ℕ) (n : Node) → Whole d (ready x) v t → Inv d (ready y) → Alloc x y ref n → Whole d (ready y) v (workingMaps t (put (t .working) ref n))
+pub keep-alloc : (d : ℕ) (x y : Ready) (v : DVariables) (t : PictureMaps) (ref : ℕ) (n : Node) →
+    Whole d (ready x) v t → Inv d (ready y) → Alloc x y ref n → Whole d (ready y) v (workingMaps t (put (t .working) ref n))
 keep-alloc d x y v t ref n w i u =
     let locs = x .ephemeralIndirectionTable .locs in
     keep-set d x y v t ref n (u .list) locs w i
@@ -242,4 +244,4 @@ keep-alloc d x y v t ref n w i u =
     (λ k l q. ((λ z. not-both (x .ephemeralIndirectionTable .graph) ref (rw z at (w .inv .ephemeral .keys k (in-of locs k q))) (u .not-allocated)), q))
     (λ k ne. refl)
     (λ id k q z. not-both (x .ephemeralIndirectionTable .graph) ref (rw z at (w .phase .reads .uncached id k q .0)) (u .not-allocated))
-    (λ f q. spared-uncached (v .nodes) f (x .cache) (t .frozen) (w .phase .frozen f q) ref (u .not-cached))
+    (λ f q. unneeded-uncached (w .phase .frozen f q) ref (u .not-cached))

@@ -9,7 +9,8 @@ use Rattle.base.specs.Maps.{Map, del}
 use Rattle.blockcache.specs.Upstream.{IdleOp, PageInIndirectionTableReq, PageInNodeReq, Ready, ReceiveLoc, Variables, WriteBackNodeResp, loadingIndirectionTable, ready, unready}
 use Rattle.blockcache.specs.UpstreamInv.{Inv}
 use Rattle.blockdisk.proofs.Moves.{nextVars}
-use Rattle.blockdisk.specs.Upstream.{Dop, Variables as DVariables, noDiskOp, reqReadIndirectionTable, reqReadNode, reqWriteIndirectionTable, reqWriteNode, respReadIndirectionTable, respReadNode, respWriteIndirectionTable, respWriteNode, setWriteNodes}
+use Rattle.blockdisk.specs.Upstream.{Dop, Variables as DVariables, noDiskOp, reqReadIndirectionTable, reqReadNode, reqWriteIndirectionTable, reqWriteNode}
+use Rattle.blockdisk.specs.Upstream.{respReadIndirectionTable, respReadNode, respWriteIndirectionTable, respWriteNode, setWriteNodes}
 use Rattle.disklayout.specs.declared.Location.{Location}
 use Rattle.sectortype.specs.Abstract.{IndirectionTable}
 use Rattle.sectortype.specs.declared.Node.{Node}
@@ -30,9 +31,10 @@ withQueues v tr nr tw nw =
       nodes = v .nodes;
     }
 
-module _ (d : ℕ) (v : DVariables) (t : PictureMaps) (tr nr tw nw : Map Location) (a : Fewer tr (v .reqReadIndirectionTables)) (b : Fewer nr (v .reqReadNodes)) (c : Fewer tw (v .reqWriteIndirectionTables)) (e : Fewer nw (v .reqWriteNodes)) where
-  kept-less : (l : Location) (pic : Map Node) → KeptOn d v l pic → KeptOn d (withQueues v tr nr tw nw) l pic
-  kept-less l pic k = kept-fewer d (v .indirectionTables) (v .nodes) (v .reqWriteIndirectionTables) (v .reqWriteNodes) l pic k tw nw c e
+module _ (d : ℕ) (v : DVariables) (t : PictureMaps) (tr nr tw nw : Map Location)
+    (a : Fewer tr (v .reqReadIndirectionTables)) (b : Fewer nr (v .reqReadNodes)) (c : Fewer tw (v .reqWriteIndirectionTables)) (e : Fewer nw (v .reqWriteNodes)) where
+  kept-less : {l : Location} {pic : Map Node} → KeptOn d v l pic → KeptOn d (withQueues v tr nr tw nw) l pic
+  kept-less k = kept-fewer k c e
 
   phase-less : (s : Variables) → InPhase s v t → InPhase s (withQueues v tr nr tw nw) t
   phase-less (ready x) p =
@@ -66,8 +68,8 @@ module _ (d : ℕ) (v : DVariables) (t : PictureMaps) (tr nr tw nw : Map Locatio
   whole-less s w =
       record {
         inv = w .inv;
-        first = kept-less (t .place) (t .picture) (w .first);
-        second = λ l q. kept-less l (t .secondPicture) (w .second l q);
+        first = kept-less (w .first);
+        second = λ l q. kept-less (w .second l q);
         apart = w .apart;
         phase = phase-less s (w .phase);
       }
@@ -100,12 +102,17 @@ pub record Survives (v v' : DVariables) : Type 0 where
   pub nodes : (k : Location) (n : Node) → v .nodes k ≡ some n → NoneAt (v .reqWriteNodes) (k .addr) → v' .nodes k ≡ some n
 
 pub keep-crash : (d : ℕ) (s : Variables) (v v' : DVariables) (t : PictureMaps) → Whole d s v t → Survives v v' → Whole d unready v' t
-keep-crash d s v v' t w c = record { inv = tt; first = still (t .place) (t .picture) (w .first); second = λ l q. still l (t .secondPicture) (w .second l q); apart = w .apart; phase = c .idle }
+keep-crash d s v v' t w c =
+    record {
+      inv = tt;
+      first = still (w .first);
+      second = λ l q. still (w .second l q);
+      apart = w .apart;
+      phase = c .idle;
+    }
   where
-    still : (l : Location) (pic : Map Node) → KeptOn d v l pic → KeptOn d v' l pic
-    still l pic k =
-        kept-crash d (v .indirectionTables) (v .nodes) (v .reqWriteIndirectionTables) (v .reqWriteNodes) l pic k (v' .indirectionTables) (v' .nodes) (v' .reqWriteIndirectionTables) (v' .reqWriteNodes)
-        (c .idle .no-table-writes) (c .idle .no-node-writes) (c .tables) (c .nodes)
+    still : {l : Location} {pic : Map Node} → KeptOn d v l pic → KeptOn d v' l pic
+    still k = kept-crash k (c .idle .no-table-writes) (c .idle .no-node-writes) (c .tables) (c .nodes)
 
 -- BEFORE READY
 
@@ -117,7 +124,8 @@ pub record Started (t t' : PictureMaps) (l : Location) : Type 0 where
   -- the picture of a place then named
   pub named : ((t .place ≡ l) × (t' .picture ≡ t .picture)) ⊎ ((t .second ≡ some l) × (t' .picture ≡ t .secondPicture))
 
-pub keep-receive : (d : ℕ) (s' : Variables) (v : DVariables) (t t' : PictureMaps) (l : Location) → Whole d unready v t → Inv d s' → ReceiveLoc d unready s' l → Started t t' l → Whole d s' v t'
+pub keep-receive : (d : ℕ) (s' : Variables) (v : DVariables) (t t' : PictureMaps) (l : Location) →
+    Whole d unready v t → Inv d s' → ReceiveLoc d unready s' l → Started t t' l → Whole d s' v t'
 keep-receive d s' v t t' l w i u n =
     rw (u .next)
     (record {
@@ -160,14 +168,15 @@ keep-table-read d at read s' v t id loc w i u =
 
 -- A NODE WRITE ANSWERED
 
-pub keep-write-resp : (d : ℕ) (x y : Ready) (v : DVariables) (t : PictureMaps) (id : ℕ) → Whole d (ready x) v t → Inv d (ready y) → WriteBackNodeResp x y id → Whole d (ready y) (nextVars v (respWriteNode id)) t
+pub keep-write-resp : (d : ℕ) (x y : Ready) (v : DVariables) (t : PictureMaps) (id : ℕ) →
+    Whole d (ready x) v t → Inv d (ready y) → WriteBackNodeResp x y id → Whole d (ready y) (nextVars v (respWriteNode id)) t
 keep-write-resp d x y v t id w i u =
     let p = w .phase in
     rw (u .next)
     (record {
       inv = rw (u .next) at i;
-      first = less (t .place) (t .picture) (w .first);
-      second = λ l q. less l (t .secondPicture) (w .second l q);
+      first = less (w .first);
+      second = λ l q. less (w .second l q);
       apart = w .apart;
       phase = record {
         persistent = p .persistent;
@@ -186,15 +195,13 @@ keep-write-resp d x y v t id w i u =
       };
     })
   where
-    less : (l : Location) (pic : Map Node) → KeptOn d v l pic → KeptOn d (setWriteNodes v (del (v .reqWriteNodes) id)) l pic
-    less l pic k =
-        kept-fewer d (v .indirectionTables) (v .nodes) (v .reqWriteIndirectionTables) (v .reqWriteNodes) l pic k (v .reqWriteIndirectionTables) (del (v .reqWriteNodes) id)
-        (λ j k q. q) (fewer-del (v .reqWriteNodes) id)
+    less : {l : Location} {pic : Map Node} → KeptOn d v l pic → KeptOn d (setWriteNodes v (del (v .reqWriteNodes) id)) l pic
+    less k = kept-fewer k (λ j k q. q) (fewer-del (v .reqWriteNodes) id)
 
 -- A NODE READ ASKED FOR
 
-pub keep-read-req : (d : ℕ) (x y : Ready) (v : DVariables) (t : PictureMaps) (id ref : ℕ) (loc : Location) → Whole d (ready x) v t → Inv d (ready y) → PageInNodeReq x y id loc ref →
-    Whole d (ready y) (nextVars v (reqReadNode id loc)) t
+pub keep-read-req : (d : ℕ) (x y : Ready) (v : DVariables) (t : PictureMaps) (id ref : ℕ) (loc : Location) →
+    Whole d (ready x) v t → Inv d (ready y) → PageInNodeReq x y id loc ref → Whole d (ready y) (nextVars v (reqReadNode id loc)) t
 keep-read-req d x y v t id ref loc w i u =
     let p = w .phase in
     rw (u .next)

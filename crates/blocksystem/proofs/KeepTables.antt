@@ -1,4 +1,4 @@
--- The steps that move tables keep the invariant: 12 Freeze, 13 CleanUp, 3 and 4 the frozen table's write and its answer, 9 the table's page-in. Assumes nothing.
+-- The steps that change tables and their places keep the invariant: 12 Freeze, 13 CleanUp, 3 and 4 the frozen table's write and its answer, 9 the table's page-in. Assumes nothing.
 use Prim.Native.Nat.{ℕ}
 use mathlib.Core.Logic.{⊎-elim}
 use mathlib.Core.Option.{Option, none, some}
@@ -24,17 +24,18 @@ use Rattle.blocksystem.proofs.Laws.{fewer-del, frozen-none, kept-fewer,
 -- NO FROZEN PLACE
 
 -- while none is set and no write of it is outstanding, none is named
-no-place : {tables : Imap IndirectionTable} {queue : Map Location} (loc : Option Location) (awaited : Option ℕ) (f : Option IndirectionTable) → awaited ≡ none → TableWritesAwaited queue awaited loc →
-    FrozenPlaceOk tables queue none awaited none f
-no-place loc awaited f e h = record { place-is = sym (frozen-none awaited); stored = λ l g q. never q; writes = λ j k q. never (sym e ∙ h j k q .0) }
+no-place : {tables : Imap IndirectionTable} {queue : Map Location} {awaited : Option ℕ} {f : Option IndirectionTable} (loc : Option Location) →
+    awaited ≡ none → TableWritesAwaited queue awaited loc → FrozenPlaceOk tables queue none awaited none f
+no-place {awaited = awaited} loc e h = record { place-is = sym (frozen-none awaited); stored = λ l g q. never q; writes = λ j k q. never (sym e ∙ h j k q .0) }
 
 -- FREEZE
 
 abbrev pub frozeMaps : PictureMaps → Map Node → PictureMaps
 frozeMaps t p = record { place = t .place; picture = t .picture; second = none; secondPicture = p; working = t .working; frozen = t .working }
 
--- the ephemeral table with the working picture is what a frozen one is to be
-frozen-of-ephemeral : (d : ℕ) (x : Ready) (v : DVariables) (t : PictureMaps) → Whole d (ready x) v t → FrozenOk (v .nodes) (x .ephemeralIndirectionTable) (x .cache) (t .working)
+-- the ephemeral table with the working picture meets what is asked of a frozen one
+frozen-of-ephemeral : (d : ℕ) (x : Ready) (v : DVariables) (t : PictureMaps) → Whole d (ready x) v t →
+    FrozenOk (v .nodes) (x .ephemeralIndirectionTable) (x .cache) (t .working)
 frozen-of-ephemeral d x v t w =
     let p = w .phase .working in
     record {
@@ -43,7 +44,8 @@ frozen-of-ephemeral d x v t w =
           ⊎-elim (λ c. let n = some-of (x .cache) ref c in (n .0, n .1, p .cached ref (n .0) g (n .1))) (λ l. not-both (x .ephemeralIndirectionTable .locs) ref l e) (w .inv .consistent ref g);
     }
 
-pub keep-freeze : (d : ℕ) (x y : Ready) (v : DVariables) (t : PictureMaps) (blank : Map Node) → Whole d (ready x) v t → Inv d (ready y) → Freeze x y → Whole d (ready y) v (frozeMaps t blank)
+pub keep-freeze : (d : ℕ) (x y : Ready) (v : DVariables) (t : PictureMaps) (blank : Map Node) →
+    Whole d (ready x) v t → Inv d (ready y) → Freeze x y → Whole d (ready y) v (frozeMaps t blank)
 keep-freeze d x y v t blank w i u =
     let p = w .phase in
     rw (u .next)
@@ -54,7 +56,7 @@ keep-freeze d x y v t blank w i u =
       apart = λ l q. never q;
       phase = record {
         persistent = p .persistent;
-        frozen-place = no-place (x .frozenIndirectionTableLoc) (x .outstandingIndirectionTableWrite) (some (x .ephemeralIndirectionTable)) (u .no-table-write) (p .frozen-place .writes);
+        frozen-place = no-place (x .frozenIndirectionTableLoc) (u .no-table-write) (p .frozen-place .writes);
         writes = record { awaited = p .writes .awaited; persistent-apart = p .writes .persistent-apart; frozen-apart = λ l f q. never q };
         reads = p .reads;
         working = p .working;
@@ -68,10 +70,12 @@ abbrev pub cleanedMaps : PictureMaps → Location → Map Node → PictureMaps
 cleanedMaps t l p = record { place = l; picture = t .secondPicture; second = none; secondPicture = p; working = t .working; frozen = t .frozen }
 
 -- with no write of it outstanding, a frozen place that is set is named
-pub frozen-named : (d : ℕ) (x : Ready) (v : DVariables) (t : PictureMaps) (l : Location) → Whole d (ready x) v t → x .outstandingIndirectionTableWrite ≡ none → x .frozenIndirectionTableLoc ≡ some l → t .second ≡ some l
+pub frozen-named : (d : ℕ) (x : Ready) (v : DVariables) (t : PictureMaps) (l : Location) → Whole d (ready x) v t →
+    x .outstandingIndirectionTableWrite ≡ none → x .frozenIndirectionTableLoc ≡ some l → t .second ≡ some l
 frozen-named d x v t l w a b = w .phase .frozen-place .place-is ∙ rw (a, b)
 
-pub keep-clean-up : (d : ℕ) (x y : Ready) (v : DVariables) (t : PictureMaps) (blank : Map Node) → Whole d (ready x) v t → Inv d (ready y) → (u : CleanUp x y) → Whole d (ready y) v (cleanedMaps t (u .loc) blank)
+pub keep-clean-up : (d : ℕ) (x y : Ready) (v : DVariables) (t : PictureMaps) (blank : Map Node) →
+    Whole d (ready x) v t → Inv d (ready y) → (u : CleanUp x y) → Whole d (ready y) v (cleanedMaps t (u .loc) blank)
 keep-clean-up d x y v t blank w i u =
     let p = w .phase in
     rw (u .next)
@@ -82,7 +86,7 @@ keep-clean-up d x y v t blank w i u =
       apart = λ l q. never q;
       phase = record {
         persistent = record { place-is = refl; stored = p .frozen-place .stored (u .loc) (u .table) (u .frozen-loc) (u .frozen); no-reads = p .persistent .no-reads };
-        frozen-place = no-place (x .frozenIndirectionTableLoc) (x .outstandingIndirectionTableWrite) none (u .no-table-write) (p .frozen-place .writes);
+        frozen-place = no-place (x .frozenIndirectionTableLoc) (u .no-table-write) (p .frozen-place .writes);
         writes = record {
           awaited = p .writes .awaited;
           persistent-apart = p .writes .frozen-apart (u .loc) (u .table) (u .frozen-loc) (u .frozen);
@@ -96,15 +100,16 @@ keep-clean-up d x y v t blank w i u =
 
 -- THE FROZEN TABLE WRITTEN
 
-pub keep-table-write : (d : ℕ) (x y : Ready) (v : DVariables) (t : PictureMaps) (id : ℕ) (loc : Location) (f : IndirectionTable) → Whole d (ready x) v t → Inv d (ready y) →
-    WriteBackIndirectionTableReq d x y id loc f → (loc .addr ≡ x .persistentIndirectionTableLoc .addr → ⊥) → Whole d (ready y) (nextVars v (reqWriteIndirectionTable id loc f)) t
+pub keep-table-write : (d : ℕ) (x y : Ready) (v : DVariables) (t : PictureMaps) (id : ℕ) (loc : Location) (f : IndirectionTable) →
+    Whole d (ready x) v t → Inv d (ready y) → WriteBackIndirectionTableReq d x y id loc f → (loc .addr ≡ x .persistentIndirectionTableLoc .addr → ⊥) →
+    Whole d (ready y) (nextVars v (reqWriteIndirectionTable id loc f)) t
 keep-table-write d x y v t id loc f w i u apart =
     let p = w .phase in
     let none-second : t .second ≡ none = p .frozen-place .place-is ∙ rw (u .no-loc) (frozen-none (x .outstandingIndirectionTableWrite)) in
     rw (u .next)
     (record {
       inv = rw (u .next) at i;
-      first = kept-table-write d (v .indirectionTables) (v .nodes) (v .reqWriteIndirectionTables) (v .reqWriteNodes) (t .place) (t .picture) (w .first) id loc f (λ e. apart (e ∙ ap (λ l. l .addr) (p .persistent .place-is)));
+      first = kept-table-write (w .first) id loc f (λ e. apart (e ∙ ap (λ l. l .addr) (p .persistent .place-is)));
       second = λ l q. never (sym none-second ∙ q);
       apart = λ l q. never (sym none-second ∙ q);
       phase = record {
@@ -137,14 +142,13 @@ keep-table-write d x y v t id loc f w i u apart =
 abbrev pub namedMaps : PictureMaps → Location → PictureMaps
 namedMaps t l = record { place = t .place; picture = t .picture; second = some l; secondPicture = t .frozen; working = t .working; frozen = t .frozen }
 
-pub keep-table-resp : (d : ℕ) (x y : Ready) (v : DVariables) (t : PictureMaps) (id : ℕ) (loc : Location) → Whole d (ready x) v t → Inv d (ready y) →
-    WriteBackIndirectionTableResp x y id loc → Whole d (ready y) (nextVars v (respWriteIndirectionTable id)) (namedMaps t loc)
+pub keep-table-resp : (d : ℕ) (x y : Ready) (v : DVariables) (t : PictureMaps) (id : ℕ) (loc : Location) →
+    Whole d (ready x) v t → Inv d (ready y) → WriteBackIndirectionTableResp x y id loc → Whole d (ready y) (nextVars v (respWriteIndirectionTable id)) (namedMaps t loc)
 keep-table-resp d x y v t id loc w i u =
     rw (u .next)
     (record {
       inv = rw (u .next) at i;
-      first = kept-fewer d (v .indirectionTables) (v .nodes) (v .reqWriteIndirectionTables) (v .reqWriteNodes) (t .place) (t .picture) (w .first) (del (v .reqWriteIndirectionTables) id) (v .reqWriteNodes)
-          (fewer-del (v .reqWriteIndirectionTables) id) (λ j k q. q);
+      first = kept-fewer (w .first) (fewer-del (v .reqWriteIndirectionTables) id) (λ j k q. q);
       second = λ l q. let e : loc ≡ l = cc in rw (← e) kept;
       apart = λ l q e.
           let h : loc ≡ l = cc in
@@ -218,7 +222,7 @@ keep-table-page-in d at read y v v' t id brought w i u a =
         working = record {
           pictured = rw (p .working)
               (record {
-                refs = λ ref. kept-keys d (v .indirectionTables) (v .nodes) (v .reqWriteIndirectionTables) (v .reqWriteNodes) (t .place) (t .picture) k ref ∙ ap (λ (z : IndirectionTable). isSome (z .locs ref)) same ∙ sym (u .wf .keys ref);
+                refs = λ ref. kept-keys k ref ∙ ap (λ (z : IndirectionTable). isSome (z .locs ref)) same ∙ sym (u .wf .keys ref);
                 lists = rw same at (k .lists);
                 located = rw same at (k .located);
               });

@@ -96,8 +96,9 @@ module _ (d : ℕ) (x y : Ready) (v : DVariables) (t : PictureMaps) (id ref : �
   is : y ≡ written x id ref loc
   is = let e : y .frozenIndirectionTable ≡ assignFrozen (x .frozenIndirectionTable) ref loc = frozen-is (x .frozenIndirectionTable) refl in search ready-ext
 
-  -- the frozen table that was, of a frozen table that is
-  was : (f : IndirectionTable) → assignFrozen (x .frozenIndirectionTable) ref loc ≡ some f → (g : IndirectionTable) × (x .frozenIndirectionTable ≡ some g) × (assignRefToLocation g ref loc ≡ f)
+  -- a frozen table after the step is the one before it, with the location where it lacked one
+  was : (f : IndirectionTable) → assignFrozen (x .frozenIndirectionTable) ref loc ≡ some f →
+      (g : IndirectionTable) × (x .frozenIndirectionTable ≡ some g) × (assignRefToLocation g ref loc ≡ f)
   was f q = map-eq-some-iff (λ t. assignRefToLocation t ref loc) (x .frozenIndirectionTable) .0 q
 
   -- a frozen table whose place is set has all its locations
@@ -111,16 +112,17 @@ module _ (d : ℕ) (x y : Ready) (v : DVariables) (t : PictureMaps) (id ref : �
       g .1 ∙ ap some (sym full ∙ g .2)
 
   -- a table that may get the new location, and its picture
-  grown : (pic : Map Node) (f : IndirectionTable) → NoAddr (f .locs) (loc .addr) → (In ref (f .graph) → f .locs ref ≡ none → pic ref ≡ some n) → Pictured (v .nodes) f pic →
+  assign-pictured : (pic : Map Node) (f : IndirectionTable) → NoAddr (f .locs) (loc .addr) → (In ref (f .graph) → f .locs ref ≡ none → pic ref ≡ some n) → Pictured (v .nodes) f pic →
       Pictured (replacing (v .nodes) loc n) (assignRefToLocation f ref loc) pic
-  grown pic f free here old =
+  assign-pictured pic f free here old =
       record {
         refs = rw (assign-graph f ref loc) (old .refs);
         lists = rw (assign-graph f ref loc) (old .lists);
         located = λ j k q.
             ⊎-elim
-            (λ (z : (j ≡ ref) × (loc ≡ k) × In ref (f .graph) × (f .locs ref ≡ none)). rw (← (z .1), z .0) (record { node = n; stored = replacing-same (v .nodes) loc n; pictured = here (z .2) (z .3) }))
-            (λ z. stored-elsewhere (v .nodes) loc n k (old .located j k z) (free j k z))
+            (λ (z : (j ≡ ref) × (loc ≡ k) × In ref (f .graph) × (f .locs ref ≡ none)).
+            rw (← (z .1), z .0) (record { node = n; stored = replacing-same (v .nodes) loc n; pictured = here (z .2) (z .3) }))
+            (λ z. stored-elsewhere loc n (old .located j k z) (free j k z))
             (assign-some f ref loc j q);
       }
 
@@ -150,8 +152,8 @@ module _ (d : ℕ) (x y : Ready) (v : DVariables) (t : PictureMaps) (id ref : �
       rw is
       (record {
         inv = rw is at i;
-        first = kept-node-write d (v .indirectionTables) (v .nodes) (v .reqWriteIndirectionTables) (v .reqWriteNodes) (t .place) (t .picture) (w .first) id loc n (rw first-table (u .free .persistent));
-        second = λ l q. kept-node-write d (v .indirectionTables) (v .nodes) (v .reqWriteIndirectionTables) (v .reqWriteNodes) l (t .secondPicture) (w .second l q) id loc n (second-free l q);
+        first = kept-node-write (w .first) id loc n (rw first-table (u .free .persistent));
+        second = λ l q. kept-node-write (w .second l q) id loc n (second-free l q);
         apart = w .apart;
         phase = record {
           persistent = p .persistent;
@@ -170,7 +172,7 @@ module _ (d : ℕ) (x y : Ready) (v : DVariables) (t : PictureMaps) (id ref : �
             uncached = rw (assign-graph (x .ephemeralIndirectionTable) ref loc) (p .reads .uncached);
           };
           working = record {
-            pictured = grown (t .working) (x .ephemeralIndirectionTable) (u .free .ephemeral) (λ g e. p .working .cached ref n g (u .cached)) (p .working .pictured);
+            pictured = assign-pictured (t .working) (x .ephemeralIndirectionTable) (u .free .ephemeral) (λ g e. p .working .cached ref n g (u .cached)) (p .working .pictured);
             cached = rw (assign-graph (x .ephemeralIndirectionTable) ref loc) (p .working .cached);
           };
           frozen = λ f q.
@@ -178,7 +180,7 @@ module _ (d : ℕ) (x y : Ready) (v : DVariables) (t : PictureMaps) (id ref : �
               let o = p .frozen (g .0) (g .1) in
               rw (← (g .2))
               (record {
-                pictured = grown (t .frozen) (g .0) (u .free .frozen (g .0) (g .1)) (λ a e. let c = o .cached ref a e in c .2 ∙ sym (c .1) ∙ u .cached) (o .pictured);
+                pictured = assign-pictured (t .frozen) (g .0) (u .free .frozen (g .0) (g .1)) (λ a e. let c = o .cached ref a e in c .2 ∙ sym (c .1) ∙ u .cached) (o .pictured);
                 cached = λ k a e. o .cached k (rw (assign-graph (g .0) ref loc) at a) (assign-none (g .0) ref loc k e);
               });
         };
