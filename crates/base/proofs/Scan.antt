@@ -197,6 +197,22 @@ unfolding countBelow
 count-zero g zero e = refl
 count-zero g (suc n) e = rw (count-zero g n (λ k b. e k (omega arith)), e n (omega arith))
 
+pub count-zero-at : (g : ℕ → Bool) (n k : ℕ) → countBelow g n ≡ 0 → k < n → g k ≡ false
+unfolding countBelow
+count-zero-at g zero k e b = absurd (not-suc-le-zero b)
+count-zero-at g (suc n) k e b =
+    below-or-last k n b
+    (λ c. let z : countBelow g n ≡ 0 = omega arith in count-zero-at g n k z c)
+    (λ c. rw c (bit-zero (g n) (omega arith)))
+  where
+    bit-zero : (t : Bool) → bit t ≡ 0 → t ≡ false
+    bit-zero true q = absurd (omega arith)
+    bit-zero false q = refl
+
+-- a count is 0 exactly where the test fails at each number below n
+pub count-zero-iff : (g : ℕ → Bool) (n : ℕ) → (countBelow g n ≡ 0) ↔ ((k : ℕ) → k < n → g k ≡ false)
+count-zero-iff g n = ((λ e k b. count-zero-at g n k e b), count-zero g n)
+
 -- two tests that differ at one place at the most
 pub count-change : (g h : ℕ → Bool) (n i : ℕ) → i < n → ((k : ℕ) → k < n → (k ≡ i → ⊥) → g k ≡ h k) → countBelow h n + bit (g i) ≡ countBelow g n + bit (h i)
 unfolding countBelow

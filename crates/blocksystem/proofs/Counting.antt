@@ -1,86 +1,159 @@
--- A kept place has lost, added and altered nothing: the three counts are 0. Assumes nothing.
-use Prim.Native.Nat.{ℕ}
-use mathlib.Core.Bool.{Bool, _&&_, false, false≢true, not, true}
-use mathlib.Core.Option.{none}
+-- Reading and counting: what is read through a place is what is stored there; nothing is lost, added or altered exactly where reading and picture agree
+-- about each of the 64 references; and about a kept place they agree. Assumes nothing.
+use Prim.Native.Nat.{_<_, _≤_, ℕ}
+use mathlib.Core.Bool.{Bool, _&&_, _||_, false, false≢true, not, true}
+use mathlib.Core.Logic.{_↔_}
+use mathlib.Core.Option.{none, some}
 use mathlib.Core.Path.{_∙_, _≡_, ap, refl, sym}
-use Rattle.base.proofs.Scan.{count-zero}
-use Rattle.base.proofs.Tests.{none-iff, split}
+use Rattle.base.proofs.Scan.{count-le, count-zero-iff}
+use Rattle.base.proofs.Tests.{and-iff, clash, none-iff, split}
 use Rattle.base.specs.Maps.{isSome}
+use Rattle.base.specs.Scan.{countBelow}
 use Rattle.blockdisk.proofs.Reading.{node-read-iff, table-read-iff, upstream-some}
-use Rattle.blockdisk.specs.Records.{readNode, readTable, zeroNodeRecord}
-use Rattle.blockdisk.specs.Upstream.{diskVars}
+use Rattle.blockdisk.specs.Records.{readTable}
+use Rattle.blockdisk.specs.Upstream.{diskVars, nodesStored, tablesStored}
 use Rattle.blockdisk.specs.declared.DiskState.{DiskState}
 use Rattle.blockdisk.specs.declared.NodeRecord.{NodeRecord}
+use Rattle.blockdisk.specs.declared.Records.{Records}
+use Rattle.blockdisk.specs.declared.TableRecord.{TableRecord}
+use Rattle.disklayout.specs.declared.Location.{Location}
 use Rattle.sectortype.proofs.Equal.{same-node-iff}
-use Rattle.sectortype.proofs.Maps.{in-locs, in-nodes, locs-at, nodes-form-at, nodes-some}
+use Rattle.sectortype.proofs.Maps.{in-locs, in-nodes, locs-at, locs-some, nodes-form-at, nodes-some}
 use Rattle.sectortype.specs.Abstract.{IndirectionTable, locsOf, nodesMap}
 use Rattle.sectortype.specs.Form.{entryAt, nodesForm, slotAt}
 use Rattle.sectortype.specs.Same.{sameNode}
+use Rattle.sectortype.specs.declared.Entry.{Entry}
+use Rattle.sectortype.specs.declared.Node.{Node}
 use Rattle.sectortype.specs.declared.Slot.{Slot}
 use Rattle.sectortype.specs.declared.Table.{Table}
 use Rattle.blocksystem.proofs.Invariant.{KeptOn}
-use Rattle.blocksystem.specs.Audit.{counted, isAdded, isAltered, isLost, noneCounted, onDisk}
+use Rattle.blocksystem.specs.Audit.{agrees, counted, isAdded, isAltered, isLost, noneCounted, onDisk}
 use Rattle.blocksystem.specs.declared.Named.{Named}
 
--- disk and picture agree about a reference: both have it with one node, or neither has it
-pub record Agrees (x : NodeRecord) (s : Slot) : Type 0 where
-  pub both : x .present ≡ s .present
-  pub same : x .present ≡ true → sameNode (x .node) (s .node) ≡ true
+-- READING
 
-module _ (x : NodeRecord) (s : Slot) (a : Agrees x s) where
-  not-lost : isLost x s ≡ false
-  not-lost = rw (a .both) (never (s .present))
+-- the table stored at exactly the place l locates the reference k, and the node n is stored at exactly that location
+pub record StoredThrough (d : ℕ) (r : Records) (l : Location) (k : ℕ) (n : Node) : Type 0 where
+  pub table : Table
+  pub at-place : tablesStored d r l ≡ some table
+  pub loc : Location
+  pub located : locsOf table k ≡ some loc
+  pub at-loc : nodesStored d r loc ≡ some n
+
+module _ (d : ℕ) (r : Records) (l : Location) (k : ℕ) (n : Node) where
+  abbrev read-table : TableRecord
+  read-table = readTable d r l
+
+  abbrev entry : Entry
+  entry = entryAt (readTable d r l .table) k
+
+  -- reading takes that node, and nothing else
+  pub read-iff : ((onDisk d r l k .present ≡ true) × (onDisk d r l k .node ≡ n)) ↔ StoredThrough d r l k n
+  read-iff = (
+    (λ h. split (read-table .present && entry .located)
+        (λ t. let a = and-iff (read-table .present) (entry .located) .0 t in
+        record {
+          table = read-table .table;
+          at-place = table-read-iff d r l (read-table .table) .1 (a .0, refl);
+          loc = entry .loc;
+          located = locs-at (read-table .table) k (a .1);
+          at-loc = node-read-iff d r (entry .loc) n .1 (rw t at h);
+        })
+        (λ t. absurd (false≢true (rw t at (h .0))))),
+    (λ s.
+        let a = table-read-iff d r l (s .table) .0 (s .at-place) in
+        let b = locs-some (s .table) k (s .located) in
+        rw (a .0, a .1, b .0, b .1) (node-read-iff d r (s .loc) n .0 (s .at-loc))),
+  )
+
+-- COUNTING
+
+-- lost, added and altered are the three ways not to agree; `x` and `s` say whether disk and picture have a node
+three-ways : (x s same : Bool) →
+    (((s && not x) ≡ false) × ((x && not s) ≡ false) × ((x && s && not same) ≡ false)) ↔ (((not x && not s) || (x && s && same)) ≡ true)
+three-ways false false same = ((λ h. refl), (λ h. (refl, refl, refl)))
+three-ways false true same = ((λ h. clash refl (h .0)), (λ h. clash h refl))
+three-ways true false same = ((λ h. clash refl (h .1)), (λ h. clash h refl))
+three-ways true true false = ((λ h. clash refl (h .2)), (λ h. clash h refl))
+three-ways true true true = ((λ h. refl), (λ h. (refl, refl, refl)))
+
+pub agrees-iff : (x : NodeRecord) (s : Slot) → ((isLost x s ≡ false) × (isAdded x s ≡ false) × (isAltered x s ≡ false)) ↔ (agrees x s ≡ true)
+agrees-iff x s = three-ways (x .present) (s .present) (sameNode (x .node) (s .node))
+
+module _ (d : ℕ) (r : Records) (m : Named) where
+  abbrev read : ℕ → NodeRecord
+  read = onDisk d r (m .place)
+
+  abbrev shown : ℕ → Slot
+  shown = slotAt (m .picture)
+
+  -- nothing is counted exactly where reading and picture agree about each of the 64 references
+  pub none-counted-iff : (counted d r m ≡ noneCounted) ↔ ((k : ℕ) → k < 64 → agrees (onDisk d r (m .place) k) (slotAt (m .picture) k) ≡ true)
+  unfolding counted
+  none-counted-iff = (
+    (λ e k b. at k .0 (lost .0 (ap (λ c. c .lost) e) k b, added .0 (ap (λ c. c .added) e) k b, altered .0 (ap (λ c. c .altered) e) k b)),
+    (λ h.
+        let a = lost .1 (λ k b. at k .1 (h k b) .0) in
+        let b = added .1 (λ k b. at k .1 (h k b) .1) in
+        let c = altered .1 (λ k b. at k .1 (h k b) .2) in
+        λ i. record { lost = a i; added = b i; altered = c i }),
+  )
     where
-      never : (b : Bool) → (b && not b) ≡ false
-      never true = refl
-      never false = refl
+      at : (k : ℕ) → ((isLost (read k) (shown k) ≡ false) × (isAdded (read k) (shown k) ≡ false) × (isAltered (read k) (shown k) ≡ false)) ↔ (agrees (read k) (shown k) ≡ true)
+      at k = agrees-iff (read k) (shown k)
 
-  not-added : isAdded x s ≡ false
-  not-added = rw (a .both) (never (s .present))
-    where
-      never : (b : Bool) → (b && not b) ≡ false
-      never true = refl
-      never false = refl
+      lost : (countBelow (λ k. isLost (read k) (shown k)) 64 ≡ 0) ↔ ((k : ℕ) → k < 64 → isLost (read k) (shown k) ≡ false)
+      lost = count-zero-iff (λ k. isLost (read k) (shown k)) 64
 
-  not-altered : isAltered x s ≡ false
-  not-altered = split (x .present) (λ e. rw (e, sym (a .both) ∙ e, a .same e)) (λ e. rw e)
+      added : (countBelow (λ k. isAdded (read k) (shown k)) 64 ≡ 0) ↔ ((k : ℕ) → k < 64 → isAdded (read k) (shown k) ≡ false)
+      added = count-zero-iff (λ k. isAdded (read k) (shown k)) 64
+
+      altered : (countBelow (λ k. isAltered (read k) (shown k)) 64 ≡ 0) ↔ ((k : ℕ) → k < 64 → isAltered (read k) (shown k) ≡ false)
+      altered = count-zero-iff (λ k. isAltered (read k) (shown k)) 64
+
+  -- each count is the number of references of its kind among the 64, so at most 64
+  pub counts-are : counted d r m ≡
+      record {
+        lost = countBelow (λ k. isLost (onDisk d r (m .place) k) (slotAt (m .picture) k)) 64;
+        added = countBelow (λ k. isAdded (onDisk d r (m .place) k) (slotAt (m .picture) k)) 64;
+        altered = countBelow (λ k. isAltered (onDisk d r (m .place) k) (slotAt (m .picture) k)) 64;
+      }
+  unfolding counted
+  counts-are = refl
+
+  pub counts-at-most : (counted d r m .lost ≤ 64) × (counted d r m .added ≤ 64) × (counted d r m .altered ≤ 64)
+  unfolding counted
+  counts-at-most = (count-le (λ k. isLost (read k) (shown k)) 64, count-le (λ k. isAdded (read k) (shown k)) 64, count-le (λ k. isAltered (read k) (shown k)) 64)
+
+-- A KEPT PLACE
 
 module _ (d : ℕ) (s : DiskState) (m : Named) (h : KeptOn d (diskVars d s) (m .place) (nodesMap (m .picture))) (form : nodesForm (m .picture) ≡ true) where
   abbrev stored : Table
   stored = upstream-some d (s .records) (m .place) (h .stored) .0
 
-  read : (readTable d (s .records) (m .place) .present ≡ true) × (readTable d (s .records) (m .place) .table ≡ stored)
-  read = table-read-iff d (s .records) (m .place) stored .0 (upstream-some d (s .records) (m .place) (h .stored) .1)
+  at-place : tablesStored d (s .records) (m .place) ≡ some stored
+  at-place = upstream-some d (s .records) (m .place) (h .stored) .1
 
   locs-are : locsOf stored ≡ h .table .locs
   locs-are = ap (λ (t : IndirectionTable). t .locs) (upstream-some d (s .records) (m .place) (h .stored) .2)
 
   -- a located reference is read with the picture's node
-  there : (k : ℕ) (e : entryAt stored k .located ≡ true) → Agrees (readNode d (s .records) (entryAt stored k .loc)) (slotAt (m .picture) k)
+  there : (k : ℕ) → entryAt stored k .located ≡ true → agrees (onDisk d (s .records) (m .place) k) (slotAt (m .picture) k) ≡ true
   there k e =
-      let l = entryAt stored k .loc in
-      let z = h .located k l (rw locs-are at (locs-at stored k e)) in
-      let x = node-read-iff d (s .records) l (z .node) .0 (z .stored) in
+      let l = locs-at stored k e in
+      let z = h .located k (entryAt stored k .loc) (rw locs-are at l) in
+      let x = read-iff d (s .records) (m .place) k (z .node) .1 (record { table = stored; at-place = at-place; loc = entryAt stored k .loc; located = l; at-loc = z .stored }) in
       let p = nodes-some (m .picture) k (z .pictured) in
       let f = nodes-form-at (m .picture) form k (z .node) (z .pictured) in
-      record { both = x .0 ∙ sym (p .0); same = λ y. rw (x .1, p .1) (same-node-iff (z .node) (z .node) f f .1 refl) }
+      rw (x .0, x .1, p .0, p .1) (same-node-iff (z .node) (z .node) f f .1 refl)
 
   -- any other is neither on the disk nor in the picture
-  absent : (k : ℕ) → entryAt stored k .located ≡ false → Agrees zeroNodeRecord (slotAt (m .picture) k)
+  absent : (k : ℕ) → entryAt stored k .located ≡ false → agrees (onDisk d (s .records) (m .place) k) (slotAt (m .picture) k) ≡ true
   absent k e =
+      let t = table-read-iff d (s .records) (m .place) stored .0 at-place in
       let g : h .table .locs k ≡ none = rw locs-are at (none-iff (locsOf stored k) .0 (in-locs stored k ∙ e)) in
       let z : slotAt (m .picture) k .present ≡ false = sym (in-nodes (m .picture) k) ∙ ap isSome (h .no-more k g) in
-      record { both = sym z; same = λ y. absurd (false≢true y) }
-
-  agrees : (k : ℕ) → Agrees (onDisk d (s .records) (m .place) k) (slotAt (m .picture) k)
-  agrees k = rw (read .0, read .1) (split (entryAt stored k .located) (λ e. rw e (there k e)) (λ e. rw e (absent k e)))
+      rw (t .0, t .1, e, z)
 
   pub none-counted : counted d (s .records) m ≡ noneCounted
-  unfolding counted
-  none-counted =
-      let x = onDisk d (s .records) (m .place) in
-      let y = slotAt (m .picture) in
-      let lost = count-zero (λ k. isLost (x k) (y k)) 64 (λ k b. not-lost (x k) (y k) (agrees k)) in
-      let added = count-zero (λ k. isAdded (x k) (y k)) 64 (λ k b. not-added (x k) (y k) (agrees k)) in
-      let altered = count-zero (λ k. isAltered (x k) (y k)) 64 (λ k b. not-altered (x k) (y k) (agrees k)) in
-      λ i. record { lost = lost i; added = added i; altered = altered i }
+  none-counted = none-counted-iff d (s .records) m .1 (λ k b. split (entryAt stored k .located) (there k) (absent k))

@@ -114,9 +114,10 @@ module _ (d x : ℕ) (on : made d ≡ true) where
   records-are : formattedRecords k l x ≡ withTable d rooted k (rootTable l)
   unfolding formattedRecords
   records-are =
+      let node-is = with-node-is d emptyRecords l (rootNode x) 0 on (root-block d on) in
       sym
       (with-table-is d rooted k (rootTable l) 0 on (table-area d on)
-      ∙ ap (λ (r : Records). record { tables = set (r .tables) 0 (record { present = true; loc = k; table = rootTable l }); nodes = r .nodes }) (with-node-is d emptyRecords l (rootNode x) 0 on (root-block d on)))
+      ∙ ap (λ (r : Records). record { tables = set (r .tables) 0 (record { present = true; loc = k; table = rootTable l }); nodes = r .nodes }) node-is)
 
   rooted-form : recordsChecked d rooted .form ≡ true
   rooted-form = with-node-form d emptyRecords on (empty-records-form d) (empty-records-placed d) l (rootNode x) (root-place d on) zero-succs-form
@@ -189,7 +190,7 @@ module _ (d x : ℕ) (on : made d ≡ true) where
   chosen true y z e = refl
   chosen false y z e = absurd (false≢true e)
 
-  -- what formatting hands back
+  -- what formatting returns
   pub formatted-is : formatted d x ≡ record { answer = 0; node = zeroNode; cache = emptyCache; disk = formattedDisk d x }
   unfolding formatted
   formatted-is =

@@ -1,5 +1,5 @@
--- THE invariant: what holds of cache, disk and pictures after any list of joined calls. It is stated over what they stand for: the cache's and the
--- disk's upstream variables, and the pictures as maps. Assumes nothing.
+-- THE invariant: what holds of cache, disk and pictures after any list of joined calls. It is stated over the upstream variables of cache and disk, and
+-- over the pictures as maps. Assumes nothing.
 use Prim.Native.Nat.{ℕ}
 use mathlib.Core.Bool.{true}
 use mathlib.Core.Option.{Option, none, some}
@@ -20,7 +20,7 @@ use Rattle.sectortype.specs.declared.Succs.{Succs}
 use Rattle.blocksystem.specs.Run.{State}
 use Rattle.blocksystem.specs.declared.Pictures.{Pictures}
 
--- THE STORY AS MAPS
+-- THE PICTURES AS MAPS
 
 pub record PictureMaps : Type 0 where
   -- the place that formatting, a start or a clean-up left named, and its picture
@@ -86,15 +86,20 @@ pub record Kept (d : ℕ) (tables : Imap IndirectionTable) (nodes : Imap Node) (
 abbrev pub KeptOn : ℕ → DVariables → Location → Map Node → Type 0
 KeptOn d v l pic = Kept d (v .indirectionTables) (v .nodes) (v .reqWriteIndirectionTables) (v .reqWriteNodes) l pic
 
--- THE PARTS OF A READY STATE
+-- THE PARTS OF A READY STATE. Each is over those variables of cache, disk and pictures alone that it names, so that a step keeps those parts at once
+-- whose variables it leaves alone.
 
 -- two maps have the same keys
 abbrev pub SameKeys : {A B : Type 0} → Map A → Map B → Type 0
 SameKeys a b = (ref : ℕ) → isSome (a ref) ≡ isSome (b ref)
 
--- a cached reference of the graph has the picture's node
-abbrev pub Cached : Map Succs → Map Node → Map Node → Type 0
-Cached graph cache pic = (ref : ℕ) (n : Node) → In ref graph → cache ref ≡ some n → pic ref ≡ some n
+-- the persistent table
+pub record PersistentOk (tables : Imap IndirectionTable) (tableReads : Map Location) (place loc : Location) (t : IndirectionTable) : Type 0 where
+  -- the first named place is the persistent one, and the persistent table is stored there
+  pub place-is : place ≡ loc
+  pub stored : tables loc ≡ some t
+  -- it is loaded: no table read is queued
+  pub no-reads : NoneQueued tableReads
 
 -- upstream's FrozenLoc: a frozen place is one that is set, and whose table write is answered
 abbrev pub frozenNow : Option ℕ → Option Location → Option Location
@@ -109,9 +114,27 @@ FrozenStored tables loc frozen = (l : Location) (t : IndirectionTable) → loc �
 abbrev pub TableWritesAwaited : Map Location → Option ℕ → Option Location → Type 0
 TableWritesAwaited queue awaited loc = (id : ℕ) (k : Location) → queue id ≡ some k → (awaited ≡ some id) × (loc ≡ some k)
 
+-- the frozen place
+pub record FrozenPlaceOk (tables : Imap IndirectionTable) (queue : Map Location) (second : Option Location) (awaited : Option ℕ) (loc : Option Location) (t : Option IndirectionTable) : Type 0 where
+  -- the second named place is the frozen one, while no write of it is outstanding
+  pub place-is : second ≡ frozenNow awaited loc
+  pub stored : FrozenStored tables loc t
+  pub writes : TableWritesAwaited queue awaited loc
+
 -- a queued node write is one that the cache awaits, at the same place
 abbrev pub NodeWritesAwaited : Map Location → Map OutstandingWrite → Type 0
 NodeWritesAwaited queue writes = (id : ℕ) (k : Location) → queue id ≡ some k → (w : OutstandingWrite) × (writes id ≡ some w) × (w .loc ≡ k)
+
+-- no outstanding node write has the address of a location of the table
+abbrev pub WritesApart : Map OutstandingWrite → Map Location → Type 0
+WritesApart writes locs = (id : ℕ) (w : OutstandingWrite) → writes id ≡ some w → NoAddr locs (w .loc .addr)
+
+-- the node writes
+pub record NodeWritesOk (queue : Map Location) (writes : Map OutstandingWrite) (t : IndirectionTable) (loc : Option Location) (frozen : Option IndirectionTable) : Type 0 where
+  pub awaited : NodeWritesAwaited queue writes
+  -- none is outstanding at an address of the persistent table t, nor of a frozen one whose place is set
+  pub persistent-apart : WritesApart writes (t .locs)
+  pub frozen-apart : (l : Location) (f : IndirectionTable) → loc ≡ some l → frozen ≡ some f → WritesApart writes (f .locs)
 
 -- a queued node read is one that the cache awaits, at the ephemeral location of its reference
 abbrev pub NodeReadsAwaited : Map Location → Map ℕ → Map Location → Type 0
@@ -121,43 +144,39 @@ NodeReadsAwaited queue reading locs = (id : ℕ) (k : Location) → queue id ≡
 abbrev pub ReadsUncached : Map ℕ → Map Succs → Map Node → Type 0
 ReadsUncached reading graph cache = (id ref : ℕ) → reading id ≡ some ref → In ref graph × (cache ref ≡ none)
 
--- no outstanding node write has the address of a location of the table
-abbrev pub WritesApart : Map OutstandingWrite → Map Location → Type 0
-WritesApart writes locs = (id : ℕ) (w : OutstandingWrite) → writes id ≡ some w → NoAddr locs (w .loc .addr)
+-- the node reads; t is the ephemeral table
+pub record NodeReadsOk (queue : Map Location) (reading : Map ℕ) (t : IndirectionTable) (cache : Map Node) : Type 0 where
+  pub awaited : NodeReadsAwaited queue reading (t .locs)
+  pub uncached : ReadsUncached reading (t .graph) cache
 
--- the frozen table and the frozen picture
-pub record FrozenOk (nodes : Imap Node) (t : IndirectionTable) (cache pic : Map Node) : Type 0 where
+-- a table and its picture
+pub record Pictured (nodes : Imap Node) (t : IndirectionTable) (pic : Map Node) : Type 0 where
+  -- the picture has the table's references exactly, each with a node whose successors are its list; a located one has its node on the disk
   pub refs : SameKeys pic (t .graph)
   pub lists : ListsAgree (t .graph) pic
   pub located : Located nodes (t .locs) pic
+
+-- the ephemeral table and the working picture
+pub record WorkingOk (nodes : Imap Node) (t : IndirectionTable) (cache pic : Map Node) : Type 0 where
+  pub pictured : Pictured nodes t pic
+  -- a cached reference has the working picture's node
+  pub cached : (ref : ℕ) (n : Node) → In ref (t .graph) → cache ref ≡ some n → pic ref ≡ some n
+
+-- the frozen table and the frozen picture
+pub record FrozenOk (nodes : Imap Node) (t : IndirectionTable) (cache pic : Map Node) : Type 0 where
+  pub pictured : Pictured nodes t pic
   -- a reference without a location is cached with the frozen picture's node
   pub cached : (ref : ℕ) → In ref (t .graph) → t .locs ref ≡ none → (n : Node) × (cache ref ≡ some n) × (pic ref ≡ some n)
 
 -- THE INVARIANT, PHASE BY PHASE
 
 pub record ReadyOk (x : Ready) (v : DVariables) (t : PictureMaps) : Type 0 where
-  -- the first named place is the persistent one, and the persistent table is stored there
-  pub persistent-place : t .place ≡ x .persistentIndirectionTableLoc
-  pub persistent-stored : v .indirectionTables (x .persistentIndirectionTableLoc) ≡ some (x .persistentIndirectionTable)
-  -- the second is the frozen one, while no write of it is outstanding
-  pub frozen-place : t .second ≡ frozenNow (x .outstandingIndirectionTableWrite) (x .frozenIndirectionTableLoc)
-  pub frozen-stored : FrozenStored (v .indirectionTables) (x .frozenIndirectionTableLoc) (x .frozenIndirectionTable)
-  -- the queues
-  pub table-reads : NoneQueued (v .reqReadIndirectionTables)
-  pub table-writes : TableWritesAwaited (v .reqWriteIndirectionTables) (x .outstandingIndirectionTableWrite) (x .frozenIndirectionTableLoc)
-  pub node-writes : NodeWritesAwaited (v .reqWriteNodes) (x .outstandingBlockWrites)
-  pub node-reads : NodeReadsAwaited (v .reqReadNodes) (x .outstandingBlockReads) (x .ephemeralIndirectionTable .locs)
-  pub reads-uncached : ReadsUncached (x .outstandingBlockReads) (x .ephemeralIndirectionTable .graph) (x .cache)
-  -- the working picture: the ephemeral references exactly, each with a node whose successors are its list; a located one has its node on the disk, a cached one in the cache
-  pub working-refs : SameKeys (t .working) (x .ephemeralIndirectionTable .graph)
-  pub working-lists : ListsAgree (x .ephemeralIndirectionTable .graph) (t .working)
-  pub located : Located (v .nodes) (x .ephemeralIndirectionTable .locs) (t .working)
-  pub cached : Cached (x .ephemeralIndirectionTable .graph) (x .cache) (t .working)
-  -- the frozen picture likewise
+  pub persistent : PersistentOk (v .indirectionTables) (v .reqReadIndirectionTables) (t .place) (x .persistentIndirectionTableLoc) (x .persistentIndirectionTable)
+  pub frozen-place : FrozenPlaceOk (v .indirectionTables) (v .reqWriteIndirectionTables) (t .second) (x .outstandingIndirectionTableWrite) (x .frozenIndirectionTableLoc) (x .frozenIndirectionTable)
+  pub writes : NodeWritesOk (v .reqWriteNodes) (x .outstandingBlockWrites) (x .persistentIndirectionTable) (x .frozenIndirectionTableLoc) (x .frozenIndirectionTable)
+  pub reads : NodeReadsOk (v .reqReadNodes) (x .outstandingBlockReads) (x .ephemeralIndirectionTable) (x .cache)
+  pub working : WorkingOk (v .nodes) (x .ephemeralIndirectionTable) (x .cache) (t .working)
   pub frozen : (f : IndirectionTable) → x .frozenIndirectionTable ≡ some f → FrozenOk (v .nodes) f (x .cache) (t .frozen)
-  -- no outstanding node write under the persistent table, nor under a frozen one whose place is set
-  pub persistent-apart : WritesApart (x .outstandingBlockWrites) (x .persistentIndirectionTable .locs)
-  pub frozen-apart : (l : Location) (f : IndirectionTable) → x .frozenIndirectionTableLoc ≡ some l → x .frozenIndirectionTable ≡ some f → WritesApart (x .outstandingBlockWrites) (f .locs)
 
 pub record LoadingOk (at : Location) (read : Option ℕ) (v : DVariables) (t : PictureMaps) : Type 0 where
   -- only the place being loaded is named, and its picture is the working one

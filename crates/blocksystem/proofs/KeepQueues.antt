@@ -9,7 +9,8 @@ use Rattle.base.specs.Maps.{Map, del}
 use Rattle.blockcache.specs.Upstream.{IdleOp, PageInIndirectionTableReq, PageInNodeReq, Ready, ReceiveLoc, Variables, WriteBackNodeResp, loadingIndirectionTable, ready, unready}
 use Rattle.blockcache.specs.UpstreamInv.{Inv}
 use Rattle.blockdisk.proofs.Moves.{nextVars}
-use Rattle.blockdisk.specs.Upstream.{Dop, Variables as DVariables, noDiskOp, reqReadIndirectionTable, reqReadNode, reqWriteIndirectionTable, reqWriteNode, respReadIndirectionTable, respReadNode, respWriteIndirectionTable, respWriteNode, setWriteNodes}
+use Rattle.blockdisk.specs.Upstream.{Dop, Variables as DVariables, noDiskOp, reqReadIndirectionTable, reqReadNode, reqWriteIndirectionTable, reqWriteNode}
+use Rattle.blockdisk.specs.Upstream.{respReadIndirectionTable, respReadNode, respWriteIndirectionTable, respWriteNode, setWriteNodes}
 use Rattle.disklayout.specs.declared.Location.{Location}
 use Rattle.sectortype.specs.Abstract.{IndirectionTable}
 use Rattle.sectortype.specs.declared.Node.{Node}
@@ -30,29 +31,20 @@ withQueues v tr nr tw nw =
       nodes = v .nodes;
     }
 
-module _ (d : ℕ) (v : DVariables) (t : PictureMaps) (tr nr tw nw : Map Location) (a : Fewer tr (v .reqReadIndirectionTables)) (b : Fewer nr (v .reqReadNodes)) (c : Fewer tw (v .reqWriteIndirectionTables)) (e : Fewer nw (v .reqWriteNodes)) where
-  kept-less : (l : Location) (pic : Map Node) → KeptOn d v l pic → KeptOn d (withQueues v tr nr tw nw) l pic
-  kept-less l pic k = kept-fewer d (v .indirectionTables) (v .nodes) (v .reqWriteIndirectionTables) (v .reqWriteNodes) l pic k tw nw c e
+module _ (d : ℕ) (v : DVariables) (t : PictureMaps) (tr nr tw nw : Map Location)
+    (a : Fewer tr (v .reqReadIndirectionTables)) (b : Fewer nr (v .reqReadNodes)) (c : Fewer tw (v .reqWriteIndirectionTables)) (e : Fewer nw (v .reqWriteNodes)) where
+  kept-less : {l : Location} {pic : Map Node} → KeptOn d v l pic → KeptOn d (withQueues v tr nr tw nw) l pic
+  kept-less k = kept-fewer k c e
 
   phase-less : (s : Variables) → InPhase s v t → InPhase s (withQueues v tr nr tw nw) t
   phase-less (ready x) p =
       record {
-        persistent-place = p .persistent-place;
-        persistent-stored = p .persistent-stored;
-        frozen-place = p .frozen-place;
-        frozen-stored = p .frozen-stored;
-        table-reads = none-fewer tr (v .reqReadIndirectionTables) a (p .table-reads);
-        table-writes = λ id k q. p .table-writes id k (c id k q);
-        node-writes = λ id k q. p .node-writes id k (e id k q);
-        node-reads = λ id k q. p .node-reads id k (b id k q);
-        reads-uncached = p .reads-uncached;
-        working-refs = p .working-refs;
-        working-lists = p .working-lists;
-        located = p .located;
-        cached = p .cached;
+        persistent = let o = p .persistent in record { place-is = o .place-is; stored = o .stored; no-reads = none-fewer tr (v .reqReadIndirectionTables) a (o .no-reads) };
+        frozen-place = let o = p .frozen-place in record { place-is = o .place-is; stored = o .stored; writes = λ id k q. o .writes id k (c id k q) };
+        writes = let o = p .writes in record { awaited = λ id k q. o .awaited id k (e id k q); persistent-apart = o .persistent-apart; frozen-apart = o .frozen-apart };
+        reads = record { awaited = λ id k q. p .reads .awaited id k (b id k q); uncached = p .reads .uncached };
+        working = p .working;
         frozen = p .frozen;
-        persistent-apart = p .persistent-apart;
-        frozen-apart = p .frozen-apart;
       }
   phase-less (loadingIndirectionTable at read) p =
       record {
@@ -76,8 +68,8 @@ module _ (d : ℕ) (v : DVariables) (t : PictureMaps) (tr nr tw nw : Map Locatio
   whole-less s w =
       record {
         inv = w .inv;
-        first = kept-less (t .place) (t .picture) (w .first);
-        second = λ l q. kept-less l (t .secondPicture) (w .second l q);
+        first = kept-less (w .first);
+        second = λ l q. kept-less (w .second l q);
         apart = w .apart;
         phase = phase-less s (w .phase);
       }
@@ -110,12 +102,17 @@ pub record Survives (v v' : DVariables) : Type 0 where
   pub nodes : (k : Location) (n : Node) → v .nodes k ≡ some n → NoneAt (v .reqWriteNodes) (k .addr) → v' .nodes k ≡ some n
 
 pub keep-crash : (d : ℕ) (s : Variables) (v v' : DVariables) (t : PictureMaps) → Whole d s v t → Survives v v' → Whole d unready v' t
-keep-crash d s v v' t w c = record { inv = tt; first = still (t .place) (t .picture) (w .first); second = λ l q. still l (t .secondPicture) (w .second l q); apart = w .apart; phase = c .idle }
+keep-crash d s v v' t w c =
+    record {
+      inv = tt;
+      first = still (w .first);
+      second = λ l q. still (w .second l q);
+      apart = w .apart;
+      phase = c .idle;
+    }
   where
-    still : (l : Location) (pic : Map Node) → KeptOn d v l pic → KeptOn d v' l pic
-    still l pic k =
-        kept-crash d (v .indirectionTables) (v .nodes) (v .reqWriteIndirectionTables) (v .reqWriteNodes) l pic k (v' .indirectionTables) (v' .nodes) (v' .reqWriteIndirectionTables) (v' .reqWriteNodes)
-        (c .idle .no-table-writes) (c .idle .no-node-writes) (c .tables) (c .nodes)
+    still : {l : Location} {pic : Map Node} → KeptOn d v l pic → KeptOn d v' l pic
+    still k = kept-crash k (c .idle .no-table-writes) (c .idle .no-node-writes) (c .tables) (c .nodes)
 
 -- BEFORE READY
 
@@ -127,7 +124,8 @@ pub record Started (t t' : PictureMaps) (l : Location) : Type 0 where
   -- the picture of a place then named
   pub named : ((t .place ≡ l) × (t' .picture ≡ t .picture)) ⊎ ((t .second ≡ some l) × (t' .picture ≡ t .secondPicture))
 
-pub keep-receive : (d : ℕ) (s' : Variables) (v : DVariables) (t t' : PictureMaps) (l : Location) → Whole d unready v t → Inv d s' → ReceiveLoc d unready s' l → Started t t' l → Whole d s' v t'
+pub keep-receive : (d : ℕ) (s' : Variables) (v : DVariables) (t t' : PictureMaps) (l : Location) →
+    Whole d unready v t → Inv d s' → ReceiveLoc d unready s' l → Started t t' l → Whole d s' v t'
 keep-receive d s' v t t' l w i u n =
     rw (u .next)
     (record {
@@ -170,47 +168,40 @@ keep-table-read d at read s' v t id loc w i u =
 
 -- A NODE WRITE ANSWERED
 
-pub keep-write-resp : (d : ℕ) (x y : Ready) (v : DVariables) (t : PictureMaps) (id : ℕ) → Whole d (ready x) v t → Inv d (ready y) → WriteBackNodeResp x y id → Whole d (ready y) (nextVars v (respWriteNode id)) t
+pub keep-write-resp : (d : ℕ) (x y : Ready) (v : DVariables) (t : PictureMaps) (id : ℕ) →
+    Whole d (ready x) v t → Inv d (ready y) → WriteBackNodeResp x y id → Whole d (ready y) (nextVars v (respWriteNode id)) t
 keep-write-resp d x y v t id w i u =
     let p = w .phase in
     rw (u .next)
     (record {
       inv = rw (u .next) at i;
-      first = less (t .place) (t .picture) (w .first);
-      second = λ l q. less l (t .secondPicture) (w .second l q);
+      first = less (w .first);
+      second = λ l q. less (w .second l q);
       apart = w .apart;
       phase = record {
-        persistent-place = p .persistent-place;
-        persistent-stored = p .persistent-stored;
+        persistent = p .persistent;
         frozen-place = p .frozen-place;
-        frozen-stored = p .frozen-stored;
-        table-reads = p .table-reads;
-        table-writes = p .table-writes;
-        node-writes = λ j k q.
-            let e = del-some (v .reqWriteNodes) id j q in
-            let h = p .node-writes j k (e .1) in
-            (h .0, del-other (x .outstandingBlockWrites) id j (e .0) ∙ h .1, h .2);
-        node-reads = p .node-reads;
-        reads-uncached = p .reads-uncached;
-        working-refs = p .working-refs;
-        working-lists = p .working-lists;
-        located = p .located;
-        cached = p .cached;
+        writes = record {
+          awaited = λ j k q.
+              let e = del-some (v .reqWriteNodes) id j q in
+              let h = p .writes .awaited j k (e .1) in
+              (h .0, del-other (x .outstandingBlockWrites) id j (e .0) ∙ h .1, h .2);
+          persistent-apart = λ j z q. p .writes .persistent-apart j z (del-some (x .outstandingBlockWrites) id j q .1);
+          frozen-apart = λ l f a b j z q. p .writes .frozen-apart l f a b j z (del-some (x .outstandingBlockWrites) id j q .1);
+        };
+        reads = p .reads;
+        working = p .working;
         frozen = p .frozen;
-        persistent-apart = λ j z q. p .persistent-apart j z (del-some (x .outstandingBlockWrites) id j q .1);
-        frozen-apart = λ l f a b j z q. p .frozen-apart l f a b j z (del-some (x .outstandingBlockWrites) id j q .1);
       };
     })
   where
-    less : (l : Location) (pic : Map Node) → KeptOn d v l pic → KeptOn d (setWriteNodes v (del (v .reqWriteNodes) id)) l pic
-    less l pic k =
-        kept-fewer d (v .indirectionTables) (v .nodes) (v .reqWriteIndirectionTables) (v .reqWriteNodes) l pic k (v .reqWriteIndirectionTables) (del (v .reqWriteNodes) id)
-        (λ j k q. q) (fewer-del (v .reqWriteNodes) id)
+    less : {l : Location} {pic : Map Node} → KeptOn d v l pic → KeptOn d (setWriteNodes v (del (v .reqWriteNodes) id)) l pic
+    less k = kept-fewer k (λ j k q. q) (fewer-del (v .reqWriteNodes) id)
 
 -- A NODE READ ASKED FOR
 
-pub keep-read-req : (d : ℕ) (x y : Ready) (v : DVariables) (t : PictureMaps) (id ref : ℕ) (loc : Location) → Whole d (ready x) v t → Inv d (ready y) → PageInNodeReq x y id loc ref →
-    Whole d (ready y) (nextVars v (reqReadNode id loc)) t
+pub keep-read-req : (d : ℕ) (x y : Ready) (v : DVariables) (t : PictureMaps) (id ref : ℕ) (loc : Location) →
+    Whole d (ready x) v t → Inv d (ready y) → PageInNodeReq x y id loc ref → Whole d (ready y) (nextVars v (reqReadNode id loc)) t
 keep-read-req d x y v t id ref loc w i u =
     let p = w .phase in
     rw (u .next)
@@ -220,26 +211,19 @@ keep-read-req d x y v t id ref loc w i u =
       second = w .second;
       apart = w .apart;
       phase = record {
-        persistent-place = p .persistent-place;
-        persistent-stored = p .persistent-stored;
+        persistent = p .persistent;
         frozen-place = p .frozen-place;
-        frozen-stored = p .frozen-stored;
-        table-reads = p .table-reads;
-        table-writes = p .table-writes;
-        node-writes = p .node-writes;
-        node-reads = λ j k q.
-            ⊎-elim
-            (λ (z : (j ≡ id) × (loc ≡ k)). (ref, rw (z .0) (put-same (x .outstandingBlockReads) id ref), u .located ∙ ap some (z .1)))
-            (λ z. let h = p .node-reads j k (z .1) in (h .0, put-other (x .outstandingBlockReads) id ref j (z .0) ∙ h .1, h .2))
-            (put-some (v .reqReadNodes) id loc j q);
-        reads-uncached = λ j r q.
-            ⊎-elim (λ (z : (j ≡ id) × (ref ≡ r)). rw (← (z .1)) (u .allocated, u .not-cached)) (λ z. p .reads-uncached j r (z .1)) (put-some (x .outstandingBlockReads) id ref j q);
-        working-refs = p .working-refs;
-        working-lists = p .working-lists;
-        located = p .located;
-        cached = p .cached;
+        writes = p .writes;
+        reads = record {
+          awaited = λ j k q.
+              ⊎-elim
+              (λ (z : (j ≡ id) × (loc ≡ k)). (ref, rw (z .0) (put-same (x .outstandingBlockReads) id ref), u .located ∙ ap some (z .1)))
+              (λ z. let h = p .reads .awaited j k (z .1) in (h .0, put-other (x .outstandingBlockReads) id ref j (z .0) ∙ h .1, h .2))
+              (put-some (v .reqReadNodes) id loc j q);
+          uncached = λ j r q.
+              ⊎-elim (λ (z : (j ≡ id) × (ref ≡ r)). rw (← (z .1)) (u .allocated, u .not-cached)) (λ z. p .reads .uncached j r (z .1)) (put-some (x .outstandingBlockReads) id ref j q);
+        };
+        working = p .working;
         frozen = p .frozen;
-        persistent-apart = p .persistent-apart;
-        frozen-apart = p .frozen-apart;
       };
     })

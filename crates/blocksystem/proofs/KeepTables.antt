@@ -1,4 +1,4 @@
--- The steps that move tables keep the invariant: 12 Freeze, 13 CleanUp, 3 and 4 the frozen table's write and its answer, 9 the table's page-in. Assumes nothing.
+-- The steps that change tables and their places keep the invariant: 12 Freeze, 13 CleanUp, 3 and 4 the frozen table's write and its answer, 9 the table's page-in. Assumes nothing.
 use Prim.Native.Nat.{ℕ}
 use mathlib.Core.Logic.{⊎-elim}
 use mathlib.Core.Option.{Option, none, some}
@@ -8,37 +8,45 @@ use Rattle.blockcache.proofs.InvLaws.{ready-ext}
 use Rattle.base.proofs.Maps.{del-some, put-some}
 use Rattle.base.proofs.Tests.{clash, never}
 use Rattle.base.specs.Maps.{Map, del, isSome}
+use Rattle.blockcache.specs.Scan.{reads}
 use Rattle.blockcache.specs.Upstream.{CleanUp, Freeze, PageInIndirectionTableResp, Ready, WriteBackIndirectionTableReq, WriteBackIndirectionTableResp, loadingIndirectionTable, ready}
 use Rattle.blockcache.specs.UpstreamInv.{Inv}
 use Rattle.blockdisk.proofs.Moves.{nextVars}
 use Rattle.blockdisk.proofs.Reading.{replacing-other, replacing-same}
-use Rattle.blockdisk.specs.Upstream.{AckReadIndirectionTable, Variables as DVariables, reqWriteIndirectionTable, respReadIndirectionTable, respWriteIndirectionTable}
+use Rattle.blockdisk.specs.Upstream.{AckReadIndirectionTable, Imap, Variables as DVariables, reqWriteIndirectionTable, respReadIndirectionTable, respWriteIndirectionTable}
 use Rattle.disklayout.proofs.Places.{table-overlap-iff}
 use Rattle.disklayout.specs.Device.{deviceOf}
 use Rattle.disklayout.specs.declared.Location.{Location}
 use Rattle.sectortype.specs.Abstract.{IndirectionTable}
 use Rattle.sectortype.specs.declared.Node.{Node}
-use Rattle.blocksystem.proofs.Invariant.{FrozenOk, Kept, NoneQueued, ReadyOk, PictureMaps, Whole}
+use Rattle.blocksystem.proofs.Invariant.{FrozenOk, FrozenPlaceOk, Kept, NoneQueued, PictureMaps, ReadyOk, TableWritesAwaited, Whole}
 use Rattle.blocksystem.proofs.Laws.{fewer-del, frozen-none, kept-fewer, kept-keys, kept-table-write, not-both, same-none, some-of}
+
+-- NO FROZEN PLACE
+
+-- while none is set and no write of it is outstanding, none is named
+no-place : {tables : Imap IndirectionTable} {queue : Map Location} {awaited : Option ℕ} {f : Option IndirectionTable} (loc : Option Location) →
+    awaited ≡ none → TableWritesAwaited queue awaited loc → FrozenPlaceOk tables queue none awaited none f
+no-place {awaited = awaited} loc e h = record { place-is = sym (frozen-none awaited); stored = λ l g q. never q; writes = λ j k q. never (sym e ∙ h j k q .0) }
 
 -- FREEZE
 
 abbrev pub frozeMaps : PictureMaps → Map Node → PictureMaps
 frozeMaps t p = record { place = t .place; picture = t .picture; second = none; secondPicture = p; working = t .working; frozen = t .working }
 
--- the ephemeral table with the working picture is what a frozen one is to be
-frozen-of-ephemeral : (d : ℕ) (x : Ready) (v : DVariables) (t : PictureMaps) → Whole d (ready x) v t → FrozenOk (v .nodes) (x .ephemeralIndirectionTable) (x .cache) (t .working)
+-- the ephemeral table with the working picture meets what is asked of a frozen one
+frozen-of-ephemeral : (d : ℕ) (x : Ready) (v : DVariables) (t : PictureMaps) → Whole d (ready x) v t →
+    FrozenOk (v .nodes) (x .ephemeralIndirectionTable) (x .cache) (t .working)
 frozen-of-ephemeral d x v t w =
-    let p = w .phase in
+    let p = w .phase .working in
     record {
-      refs = p .working-refs;
-      lists = p .working-lists;
-      located = p .located;
+      pictured = p .pictured;
       cached = λ ref g e.
           ⊎-elim (λ c. let n = some-of (x .cache) ref c in (n .0, n .1, p .cached ref (n .0) g (n .1))) (λ l. not-both (x .ephemeralIndirectionTable .locs) ref l e) (w .inv .ephemeral .consistent ref g);
     }
 
-pub keep-freeze : (d : ℕ) (x y : Ready) (v : DVariables) (t : PictureMaps) (blank : Map Node) → Whole d (ready x) v t → Inv d (ready y) → Freeze x y → Whole d (ready y) v (frozeMaps t blank)
+pub keep-freeze : (d : ℕ) (x y : Ready) (v : DVariables) (t : PictureMaps) (blank : Map Node) →
+    Whole d (ready x) v t → Inv d (ready y) → Freeze x y → Whole d (ready y) v (frozeMaps t blank)
 keep-freeze d x y v t blank w i u =
     let p = w .phase in
     rw (u .next)
@@ -48,22 +56,12 @@ keep-freeze d x y v t blank w i u =
       second = λ l q. never q;
       apart = λ l q. never q;
       phase = record {
-        persistent-place = p .persistent-place;
-        persistent-stored = p .persistent-stored;
-        frozen-place = sym (frozen-none (x .outstandingIndirectionTableWrite));
-        frozen-stored = λ l f q. never q;
-        table-reads = p .table-reads;
-        table-writes = λ j k q. never (sym (u .no-table-write) ∙ p .table-writes j k q .0);
-        node-writes = p .node-writes;
-        node-reads = p .node-reads;
-        reads-uncached = p .reads-uncached;
-        working-refs = p .working-refs;
-        working-lists = p .working-lists;
-        located = p .located;
-        cached = p .cached;
+        persistent = p .persistent;
+        frozen-place = no-place (x .frozenIndirectionTableLoc) (u .no-table-write) (p .frozen-place .writes);
+        writes = record { awaited = p .writes .awaited; persistent-apart = p .writes .persistent-apart; frozen-apart = λ l f q. never q };
+        reads = p .reads;
+        working = p .working;
         frozen = λ f q. let e : x .ephemeralIndirectionTable ≡ f = cc in rw (← e) (frozen-of-ephemeral d x v t w);
-        persistent-apart = p .persistent-apart;
-        frozen-apart = λ l f q. never q;
       };
     })
 
@@ -73,10 +71,12 @@ abbrev pub cleanedMaps : PictureMaps → Location → Map Node → PictureMaps
 cleanedMaps t l p = record { place = l; picture = t .secondPicture; second = none; secondPicture = p; working = t .working; frozen = t .frozen }
 
 -- with no write of it outstanding, a frozen place that is set is named
-pub frozen-named : (d : ℕ) (x : Ready) (v : DVariables) (t : PictureMaps) (l : Location) → Whole d (ready x) v t → x .outstandingIndirectionTableWrite ≡ none → x .frozenIndirectionTableLoc ≡ some l → t .second ≡ some l
-frozen-named d x v t l w a b = w .phase .frozen-place ∙ rw (a, b)
+pub frozen-named : (d : ℕ) (x : Ready) (v : DVariables) (t : PictureMaps) (l : Location) → Whole d (ready x) v t →
+    x .outstandingIndirectionTableWrite ≡ none → x .frozenIndirectionTableLoc ≡ some l → t .second ≡ some l
+frozen-named d x v t l w a b = w .phase .frozen-place .place-is ∙ rw (a, b)
 
-pub keep-clean-up : (d : ℕ) (x y : Ready) (v : DVariables) (t : PictureMaps) (blank : Map Node) → Whole d (ready x) v t → Inv d (ready y) → (u : CleanUp x y) → Whole d (ready y) v (cleanedMaps t (u .loc) blank)
+pub keep-clean-up : (d : ℕ) (x y : Ready) (v : DVariables) (t : PictureMaps) (blank : Map Node) →
+    Whole d (ready x) v t → Inv d (ready y) → (u : CleanUp x y) → Whole d (ready y) v (cleanedMaps t (u .loc) blank)
 keep-clean-up d x y v t blank w i u =
     let p = w .phase in
     rw (u .next)
@@ -86,97 +86,83 @@ keep-clean-up d x y v t blank w i u =
       second = λ l q. never q;
       apart = λ l q. never q;
       phase = record {
-        persistent-place = refl;
-        persistent-stored = p .frozen-stored (u .loc) (u .table) (u .frozen-loc) (u .frozen);
-        frozen-place = sym (frozen-none (x .outstandingIndirectionTableWrite));
-        frozen-stored = λ l f q. never q;
-        table-reads = p .table-reads;
-        table-writes = λ j k q. never (sym (u .no-table-write) ∙ p .table-writes j k q .0);
-        node-writes = p .node-writes;
-        node-reads = p .node-reads;
-        reads-uncached = p .reads-uncached;
-        working-refs = p .working-refs;
-        working-lists = p .working-lists;
-        located = p .located;
-        cached = p .cached;
+        persistent = record { place-is = refl; stored = p .frozen-place .stored (u .loc) (u .table) (u .frozen-loc) (u .frozen); no-reads = p .persistent .no-reads };
+        frozen-place = no-place (x .frozenIndirectionTableLoc) (u .no-table-write) (p .frozen-place .writes);
+        writes = record {
+          awaited = p .writes .awaited;
+          persistent-apart = p .writes .frozen-apart (u .loc) (u .table) (u .frozen-loc) (u .frozen);
+          frozen-apart = λ l f q. never q;
+        };
+        reads = p .reads;
+        working = p .working;
         frozen = λ f q. never q;
-        persistent-apart = p .frozen-apart (u .loc) (u .table) (u .frozen-loc) (u .frozen);
-        frozen-apart = λ l f q. never q;
       };
     })
 
 -- THE FROZEN TABLE WRITTEN
 
-pub keep-table-write : (d : ℕ) (x y : Ready) (v : DVariables) (t : PictureMaps) (id : ℕ) (loc : Location) (f : IndirectionTable) → Whole d (ready x) v t → Inv d (ready y) →
-    WriteBackIndirectionTableReq d x y id loc f → (loc .addr ≡ x .persistentIndirectionTableLoc .addr → ⊥) → Whole d (ready y) (nextVars v (reqWriteIndirectionTable id loc f)) t
+pub keep-table-write : (d : ℕ) (x y : Ready) (v : DVariables) (t : PictureMaps) (id : ℕ) (loc : Location) (f : IndirectionTable) →
+    Whole d (ready x) v t → Inv d (ready y) → WriteBackIndirectionTableReq d x y id loc f → (loc .addr ≡ x .persistentIndirectionTableLoc .addr → ⊥) →
+    Whole d (ready y) (nextVars v (reqWriteIndirectionTable id loc f)) t
 keep-table-write d x y v t id loc f w i u apart =
     let p = w .phase in
-    let none-second : t .second ≡ none = p .frozen-place ∙ rw (u .no-loc) (frozen-none (x .outstandingIndirectionTableWrite)) in
+    let none-second : t .second ≡ none = p .frozen-place .place-is ∙ rw (u .no-loc) (frozen-none (x .outstandingIndirectionTableWrite)) in
     rw (u .next)
     (record {
       inv = rw (u .next) at i;
-      first = kept-table-write d (v .indirectionTables) (v .nodes) (v .reqWriteIndirectionTables) (v .reqWriteNodes) (t .place) (t .picture) (w .first) id loc f (λ e. apart (e ∙ ap (λ l. l .addr) (p .persistent-place)));
+      first = kept-table-write (w .first) id loc f (λ e. apart (e ∙ ap (λ l. l .addr) (p .persistent .place-is)));
       second = λ l q. never (sym none-second ∙ q);
       apart = λ l q. never (sym none-second ∙ q);
       phase = record {
-        persistent-place = p .persistent-place;
-        persistent-stored = replacing-other (v .indirectionTables) loc f (x .persistentIndirectionTableLoc) (λ e. apart (sym e)) ∙ p .persistent-stored;
-        frozen-place = none-second;
-        frozen-stored = λ l g a b.
-            let e : loc ≡ l = cc in
-            let h : some f ≡ some g = sym (u .frozen) ∙ b in
-            rw (← e) (replacing-same (v .indirectionTables) loc f ∙ h);
-        table-reads = p .table-reads;
-        table-writes = λ j k q.
-            ⊎-elim (λ (z : (j ≡ id) × (loc ≡ k)). (ap some (sym (z .0)), ap some (z .1))) (λ z. never (sym (u .no-loc) ∙ p .table-writes j k (z .1) .1))
-            (put-some (v .reqWriteIndirectionTables) id loc j q);
-        node-writes = p .node-writes;
-        node-reads = p .node-reads;
-        reads-uncached = p .reads-uncached;
-        working-refs = p .working-refs;
-        working-lists = p .working-lists;
-        located = p .located;
-        cached = p .cached;
+        persistent = record {
+          place-is = p .persistent .place-is;
+          stored = replacing-other (v .indirectionTables) loc f (x .persistentIndirectionTableLoc) (λ e. apart (sym e)) ∙ p .persistent .stored;
+          no-reads = p .persistent .no-reads;
+        };
+        frozen-place = record {
+          place-is = none-second;
+          stored = λ l g a b.
+              let e : loc ≡ l = cc in
+              let h : some f ≡ some g = sym (u .frozen) ∙ b in
+              rw (← e) (replacing-same (v .indirectionTables) loc f ∙ h);
+          writes = λ j k q.
+              ⊎-elim (λ (z : (j ≡ id) × (loc ≡ k)). (ap some (sym (z .0)), ap some (z .1))) (λ z. never (sym (u .no-loc) ∙ p .frozen-place .writes j k (z .1) .1))
+              (put-some (v .reqWriteIndirectionTables) id loc j q);
+        };
+        writes = record {
+          awaited = p .writes .awaited;
+          persistent-apart = p .writes .persistent-apart;
+          frozen-apart = λ l g a b j z q. never (ap (λ m. m j) (sym (u .no-writes)) ∙ q);
+        };
+        reads = p .reads;
+        working = p .working;
         frozen = p .frozen;
-        persistent-apart = p .persistent-apart;
-        frozen-apart = λ l g a b j z q. never (ap (λ m. m j) (sym (u .no-writes)) ∙ q);
       };
     })
 
 abbrev pub namedMaps : PictureMaps → Location → PictureMaps
 namedMaps t l = record { place = t .place; picture = t .picture; second = some l; secondPicture = t .frozen; working = t .working; frozen = t .frozen }
 
-pub keep-table-resp : (d : ℕ) (x y : Ready) (v : DVariables) (t : PictureMaps) (id : ℕ) (loc : Location) → Whole d (ready x) v t → Inv d (ready y) →
-    WriteBackIndirectionTableResp x y id loc → Whole d (ready y) (nextVars v (respWriteIndirectionTable id)) (namedMaps t loc)
+pub keep-table-resp : (d : ℕ) (x y : Ready) (v : DVariables) (t : PictureMaps) (id : ℕ) (loc : Location) →
+    Whole d (ready x) v t → Inv d (ready y) → WriteBackIndirectionTableResp x y id loc → Whole d (ready y) (nextVars v (respWriteIndirectionTable id)) (namedMaps t loc)
 keep-table-resp d x y v t id loc w i u =
     rw (u .next)
     (record {
       inv = rw (u .next) at i;
-      first = kept-fewer d (v .indirectionTables) (v .nodes) (v .reqWriteIndirectionTables) (v .reqWriteNodes) (t .place) (t .picture) (w .first) (del (v .reqWriteIndirectionTables) id) (v .reqWriteNodes)
-          (fewer-del (v .reqWriteIndirectionTables) id) (λ j k q. q);
+      first = kept-fewer (w .first) (fewer-del (v .reqWriteIndirectionTables) id) (λ j k q. q);
       second = λ l q. let e : loc ≡ l = cc in rw (← e) kept;
       apart = λ l q e.
           let h : loc ≡ l = cc in
           let f = w .inv .places .frozen-loc loc (sym (u .frozen-loc)) in
-          let k : loc .addr ≡ x .persistentIndirectionTableLoc .addr = ap (λ m. m .addr) h ∙ e ∙ ap (λ m. m .addr) (p .persistent-place) in
+          let k : loc .addr ≡ x .persistentIndirectionTableLoc .addr = ap (λ m. m .addr) h ∙ e ∙ ap (λ m. m .addr) (p .persistent .place-is) in
           clash (table-overlap-iff (deviceOf d) loc (x .persistentIndirectionTableLoc) (f .valid) (w .inv .places .persistent-valid) .1 k) (f .apart);
       phase = record {
-        persistent-place = p .persistent-place;
-        persistent-stored = p .persistent-stored;
-        frozen-place = u .frozen-loc;
-        frozen-stored = p .frozen-stored;
-        table-reads = p .table-reads;
-        table-writes = λ j k q. absurd (no-more j k q);
-        node-writes = p .node-writes;
-        node-reads = p .node-reads;
-        reads-uncached = p .reads-uncached;
-        working-refs = p .working-refs;
-        working-lists = p .working-lists;
-        located = p .located;
-        cached = p .cached;
+        persistent = p .persistent;
+        frozen-place = record { place-is = u .frozen-loc; stored = p .frozen-place .stored; writes = λ j k q. absurd (no-more j k q) };
+        writes = p .writes;
+        reads = p .reads;
+        working = p .working;
         frozen = p .frozen;
-        persistent-apart = p .persistent-apart;
-        frozen-apart = p .frozen-apart;
       };
     })
   where
@@ -187,16 +173,16 @@ keep-table-resp d x y v t id loc w i u =
     no-more : NoneQueued (del (v .reqWriteIndirectionTables) id)
     no-more j k q =
         let e = del-some (v .reqWriteIndirectionTables) id j q in
-        let h : some j ≡ some id = sym (w .phase .table-writes j k (e .1) .0) ∙ u .awaited in
+        let h : some j ≡ some id = sym (p .frozen-place .writes j k (e .1) .0) ∙ u .awaited in
         e .0 (cc)
 
     kept : Kept d (v .indirectionTables) (v .nodes) (del (v .reqWriteIndirectionTables) id) (v .reqWriteNodes) loc (t .frozen)
     kept =
         let f = w .inv .places .frozen-loc loc (sym (u .frozen-loc)) in
-        let o = w .phase .frozen (f .table) (f .is) in
+        let o = p .frozen (f .table) (f .is) .pictured in
         record {
           table = f .table;
-          stored = w .phase .frozen-stored loc (f .table) (sym (u .frozen-loc)) (f .is);
+          stored = p .frozen-place .stored loc (f .table) (sym (u .frozen-loc)) (f .is);
           complete = f .wf;
           distinct = w .inv .frozen (f .table) (f .is) .distinct;
           located = o .located;
@@ -204,8 +190,8 @@ keep-table-resp d x y v t id loc w i u =
           no-more = λ ref e. same-none (t .frozen) (f .table .locs) (λ k. o .refs k ∙ f .wf .keys k) ref e;
           none-at-place = λ j k q a. no-more j k q;
           none-at-nodes = λ ref k e j q b a.
-              let h = w .phase .node-writes j q b in
-              w .phase .frozen-apart loc (f .table) (sym (u .frozen-loc)) (f .is) j (h .0) (h .1) ref k e (sym a ∙ ap (λ l. l .addr) (sym (h .2)));
+              let h = p .writes .awaited j q b in
+              p .writes .frozen-apart loc (f .table) (sym (u .frozen-loc)) (f .is) j (h .0) (h .1) ref k e (sym a ∙ ap (λ l. l .addr) (sym (h .2)));
         }
 
 -- THE TABLE PAGED IN
@@ -223,25 +209,27 @@ keep-table-page-in d at read y v v' t id brought w i u a =
       second = w .second;
       apart = w .apart;
       phase = record {
-        persistent-place = p .place;
-        persistent-stored = stored;
-        frozen-place = p .no-second;
-        frozen-stored = λ l f q. never q;
-        table-reads = λ j k q.
-            let e = del-some (v .reqReadIndirectionTables) id j q in
-            let h : some j ≡ some id = sym (p .table-reads j k (e .1) .0) ∙ u .awaited in
-            e .0 (cc);
-        table-writes = λ j k q. absurd (p .no-table-writes j k q);
-        node-writes = λ j k q. absurd (p .no-node-writes j k q);
-        node-reads = λ j k q. absurd (p .no-node-reads j k q);
-        reads-uncached = λ j r q. never q;
-        working-refs = rw (p .working) (λ ref. kept-keys d (v .indirectionTables) (v .nodes) (v .reqWriteIndirectionTables) (v .reqWriteNodes) (t .place) (t .picture) k ref ∙ ap (λ (z : IndirectionTable). isSome (z .locs ref)) same ∙ sym (u .wf .keys ref));
-        working-lists = rw (p .working) (rw same at (k .lists));
-        located = rw (p .working) (rw same at (k .located));
-        cached = λ ref n g q. never q;
+        persistent = record {
+          place-is = p .place;
+          stored = stored;
+          no-reads = λ j k q.
+              let e = del-some (v .reqReadIndirectionTables) id j q in
+              let h : some j ≡ some id = sym (p .table-reads j k (e .1) .0) ∙ u .awaited in
+              e .0 (cc);
+        };
+        frozen-place = record { place-is = p .no-second; stored = λ l f q. never q; writes = λ j k q. absurd (p .no-table-writes j k q) };
+        writes = record { awaited = λ j k q. absurd (p .no-node-writes j k q); persistent-apart = λ j z q. never q; frozen-apart = λ l f q. never q };
+        reads = record { awaited = λ j k q. absurd (p .no-node-reads j k q); uncached = λ j r q. never q };
+        working = record {
+          pictured = rw (p .working)
+              (record {
+                refs = λ ref. kept-keys k ref ∙ ap (λ (z : IndirectionTable). isSome (z .locs ref)) same ∙ sym (u .wf .keys ref);
+                lists = rw same at (k .lists);
+                located = rw same at (k .located);
+              });
+          cached = λ ref n g q. never q;
+        };
         frozen = λ f q. never q;
-        persistent-apart = λ j z q. never q;
-        frozen-apart = λ l f q. never q;
       };
     })
   where

@@ -53,7 +53,7 @@ module _ {A : Type 0} where
   pub in-del : (m : Map A) (k j : ℕ) → In j m → (j ≡ k → ⊥) → In j (del m k)
   in-del m k j i ne = rw (del-other m k j ne) i
 
-  -- a key that is gone is not there, and another was not there
+  -- a key that the map lacks is not in the map with a key less
   pub none-del : (m : Map A) (k j : ℕ) → m j ≡ none → del m k j ≡ none
   unfolding del
   none-del m k j e = split (eqb j k) (λ t. rw t) (λ t. rw t e)
@@ -67,9 +67,6 @@ module _ {A B : Type 0} (a : Map A) (b : Map B) (same : SameKeys a b) (k : ℕ) 
   unfolding del
   same-del j = split (eqb j k) (λ e. rw e) (λ e. rw e (same j))
 
-  pub same-in : In k b → In k a
-  same-in i = same k ∙ i
-
   pub same-none : b k ≡ none → a k ≡ none
   same-none e = none-iff (a k) .0 (same k ∙ ap isSome e)
 
@@ -82,27 +79,26 @@ frozen-none (some id) = refl
 abbrev pub Fewer : Map Location → Map Location → Type 0
 Fewer a b = (id : ℕ) (k : Location) → a id ≡ some k → b id ≡ some k
 
-pub fewer-same : (m : Map Location) → Fewer m m
-fewer-same m id k e = e
-
 pub fewer-del : (m : Map Location) (id : ℕ) → Fewer (del m id) m
 fewer-del m id j k e = del-some m id j e .1
 
 pub none-fewer : (a b : Map Location) → Fewer a b → NoneQueued b → NoneQueued a
 none-fewer a b f n id k e = n id k (f id k e)
 
--- WHAT STANDS ON THE DISK
+-- WHAT IS STORED ON THE DISK
 
-pub stored-elsewhere : (nodes : Imap Node) (k : Location) (n : Node) (l : Location) {p : Option Node} → StoredPictured nodes l p → (l .addr ≡ k .addr → ⊥) → StoredPictured (replacing nodes k n) l p
-stored-elsewhere nodes k n l s ne = record { node = s .node; stored = replacing-other nodes k n l ne ∙ s .stored; pictured = s .pictured }
+-- a write to another address
+pub stored-elsewhere : {nodes : Imap Node} {l : Location} {p : Option Node} (k : Location) (n : Node) → StoredPictured nodes l p → (l .addr ≡ k .addr → ⊥) →
+    StoredPictured (replacing nodes k n) l p
+stored-elsewhere {nodes} {l} k n s ne = record { node = s .node; stored = replacing-other nodes k n l ne ∙ s .stored; pictured = s .pictured }
 
 -- a write to an address that no location has
 pub located-write : (nodes : Imap Node) (k : Location) (n : Node) (locs : Map Location) (pic : Map Node) → Located nodes locs pic → NoAddr locs (k .addr) → Located (replacing nodes k n) locs pic
-located-write nodes k n locs pic h free ref l e = stored-elsewhere nodes k n l (h ref l e) (free ref l e)
+located-write nodes k n locs pic h free ref l e = stored-elsewhere k n (h ref l e) (free ref l e)
 
 -- A NAMED PLACE
 
-module _ (d : ℕ) (tables : Imap IndirectionTable) (nodes : Imap Node) (tw nw : Map Location) (l : Location) (pic : Map Node) (h : Kept d tables nodes tw nw l pic) where
+module _ {d : ℕ} {tables : Imap IndirectionTable} {nodes : Imap Node} {tw nw : Map Location} {l : Location} {pic : Map Node} (h : Kept d tables nodes tw nw l pic) where
   pub kept-keys : SameKeys pic (h .table .locs)
   kept-keys ref =
       split (isSome (h .table .locs ref))
@@ -144,8 +140,8 @@ module _ (d : ℕ) (tables : Imap IndirectionTable) (nodes : Imap Node) (tw nw :
       }
 
   -- requests answered
-  pub kept-fewer : (tw' nw' : Map Location) → Fewer tw' tw → Fewer nw' nw → Kept d tables nodes tw' nw' l pic
-  kept-fewer tw' nw' f g =
+  pub kept-fewer : {tw' nw' : Map Location} → Fewer tw' tw → Fewer nw' nw → Kept d tables nodes tw' nw' l pic
+  kept-fewer f g =
       record {
         table = h .table;
         stored = h .stored;
@@ -159,10 +155,10 @@ module _ (d : ℕ) (tables : Imap IndirectionTable) (nodes : Imap Node) (tw nw :
       }
 
   -- a crash leaves what no write is queued for, and nothing queued
-  pub kept-crash : (tables' : Imap IndirectionTable) (nodes' : Imap Node) (tw' nw' : Map Location) → NoneQueued tw' → NoneQueued nw' →
+  pub kept-crash : {tables' : Imap IndirectionTable} {nodes' : Imap Node} {tw' nw' : Map Location} → NoneQueued tw' → NoneQueued nw' →
       ((k : Location) (t : IndirectionTable) → tables k ≡ some t → NoneAt tw (k .addr) → tables' k ≡ some t) →
       ((k : Location) (n : Node) → nodes k ≡ some n → NoneAt nw (k .addr) → nodes' k ≡ some n) → Kept d tables' nodes' tw' nw' l pic
-  kept-crash tables' nodes' tw' nw' none-t none-n still-t still-n =
+  kept-crash none-t none-n still-t still-n =
       record {
         table = h .table;
         stored = still-t l (h .table) (h .stored) (h .none-at-place);

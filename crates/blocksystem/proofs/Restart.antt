@@ -1,5 +1,5 @@
--- What the invariant says besides: a place is always named, a start at a named place is never refused for want of a whole graph, and what a read
--- hands out is the working picture's node. Assumes nothing.
+-- What else follows from the invariant: a place is always named, a start at a named place is never refused with 20, and what a read returns is the
+-- working picture's node. Assumes nothing.
 use Prim.Native.Nat.{ℕ}
 use mathlib.Core.Bool.{_||_, false≢true, true}
 use mathlib.Core.List.{List}
@@ -58,9 +58,7 @@ module _ (d : ℕ) (s : State) (v : Invariant d s) (l : Location) (pic : ℕ →
       (λ e. rw (k .complete .keys ref, e) (sym (k .no-more ref (none-iff (k .table .locs ref) .0 e))))
 
   graph-keys : (ref : ℕ) → isSome (DiskGraph (k .table) nodes ref) ≡ isSome (k .table .graph ref)
-  graph-keys ref =
-      ap isSome (graph-pictured ref)
-      ∙ kept-keys d (diskVars d (s .disk) .indirectionTables) nodes (diskVars d (s .disk) .reqWriteIndirectionTables) (diskVars d (s .disk) .reqWriteNodes) l pic k ref ∙ sym (k .complete .keys ref)
+  graph-keys ref = ap isSome (graph-pictured ref) ∙ kept-keys k ref ∙ sym (k .complete .keys ref)
 
   pub kept-succs : WFSuccs d (systemVars d (s .cache) (s .disk)) l
   kept-succs =
@@ -108,11 +106,12 @@ ready-vars c PhaseUnready e = absurd (false≢true e)
 ready-vars c PhaseLoading e = absurd (false≢true e)
 ready-vars c PhaseReady e = refl
 
--- an accepted read hands out the working picture's node
+-- an accepted read returns the working picture's node
 pub read-pictured : (d : ℕ) (s : State) (q : Call) (o : Records) → Invariant d s → joinedAnswer d 17 q o (s .cache) (s .disk) ≡ 0 →
     nodesMap (s .pictures .working) (q .reference) ≡ some (joined d 17 q o (s .cache) (s .disk) .node)
 read-pictured d s q o v e =
     let z = joined-zero d 17 q o (s .cache) (s .disk) .0 e in
     let r = cache-read d (s .cache) q (z .0) in
     let p = subst (λ x. InPhase x (diskVars d (s .disk)) (pictureMaps (s .pictures))) (ready-vars (s .cache) (s .cache .phase) (r .0)) (v .whole .phase) in
-    rw (joined-node d 17 q o (s .cache) (s .disk) e, cache-node d (s .cache) q (z .0)) (p .cached (q .reference) (nodeOf (s .cache) 17 q) (r .2 .allocated) (r .2 .cached))
+    rw (joined-node d 17 q o (s .cache) (s .disk) e, cache-node d (s .cache) q (z .0))
+    (p .working .cached (q .reference) (nodeOf (s .cache) 17 q) (r .2 .allocated) (r .2 .cached))

@@ -54,8 +54,11 @@ module _ (d : ℕ) (s : DiskState) (f : DiskForm d s) where
           × ((r : ℕ) → hasSucc (readNode d (s .records) (entryAt t ref .loc) .node .succs) r ≡ true → In r (graphOf t))
       agrees ref a =
           let x = readNode d (s .records) (entryAt t ref .loc) in
-          let g = simp and-iff at (h .node ref a) in
-          (node-read-iff d (s .records) (entryAt t ref .loc) (x .node) .1 (g .0 .0, refl), same-set-iff (entryAt t ref .succs) (x .node .succs) .0 (and-both (g .0 .1 .0) (g .0 .1 .1)), within-iff t (x .node .succs) .0 (g .1))
+          let g = simp and-iff at (h .node ref a) in (
+            node-read-iff d (s .records) (entryAt t ref .loc) (x .node) .1 (g .0 .0, refl),
+            same-set-iff (entryAt t ref .succs) (x .node .succs) .0 (and-both (g .0 .1 .0) (g .0 .1 .1)),
+            within-iff t (x .node .succs) .0 (g .1),
+          )
 
       graph-node : (ref : ℕ) (a : entryAt t ref .allocated ≡ true) → DiskGraph (indirectionTable t) nodes ref ≡ some (readNode d (s .records) (entryAt t ref .loc) .node)
       graph-node ref a = graph-of ref (entryAt t ref .loc) (readNode d (s .records) (entryAt t ref .loc) .node) a (locs-at t ref (located ref a)) (agrees ref a .0)
@@ -128,7 +131,7 @@ module _ (d : ℕ) (s : DiskState) (f : DiskForm d s) where
     unfolding wholeGraph
     wf-succs-iff = (to, from)
       where
-        to : (readTable d (s .records) l .present && completeTest d (readTable d (s .records) l .table) && graphStored d (s .records) (readTable d (s .records) l .table)) ≡ true → WFSuccs d (systemVars d c s) l
+        to : wholeGraph d (s .records) l ≡ true → WFSuccs d (systemVars d c s) l
         to e =
             let t = readTable d (s .records) l .table in
             let g = simp and-iff at e in
@@ -148,7 +151,7 @@ module _ (d : ℕ) (s : DiskState) (f : DiskForm d s) where
               closed = rw up (stored-closed t tf h);
             }
 
-        from : WFSuccs d (systemVars d c s) l → (readTable d (s .records) l .present && completeTest d (readTable d (s .records) l .table) && graphStored d (s .records) (readTable d (s .records) l .table)) ≡ true
+        from : WFSuccs d (systemVars d c s) l → wholeGraph d (s .records) l ≡ true
         from w =
             let u = upstream-some d (s .records) l (w .whole .there) in
             let t = u .0 in

@@ -1,6 +1,6 @@
 -- Reading through a named place, and the references lost, added and altered.
 use Prim.Native.Nat.{ℕ}
-use mathlib.Core.Bool.{Bool, _&&_, cond, not}
+use mathlib.Core.Bool.{Bool, _&&_, _||_, cond, not}
 use Rattle.base.specs.Scan.{bit, countBelow}
 use Rattle.blockdisk.specs.Records.{readNode, readTable, zeroNodeRecord}
 use Rattle.blockdisk.specs.declared.NodeRecord.{NodeRecord}
@@ -33,6 +33,10 @@ isAdded x s = x .present && not (s .present)
 -- both have it, with different nodes
 abbrev pub isAltered : NodeRecord → Slot → Bool
 isAltered x s = x .present && s .present && not (sameNode (x .node) (s .node))
+
+-- reading and picture agree about a reference: neither has a node, or both have one and the two are equal
+abbrev pub agrees : NodeRecord → Slot → Bool
+agrees x s = (not (x .present) && not (s .present)) || (x .present && s .present && sameNode (x .node) (s .node))
 
 -- what one reference adds to a count
 unfoldable pub tally : Bool → ℕ

@@ -1,4 +1,4 @@
--- Names and pictures of document 01, settled by accepted calls and their arguments alone. A picture is nodes by reference.
+-- Named places and pictures, settled by accepted calls and their arguments alone. Both are document 01's terms; a picture is nodes by reference.
 use Prim.Native.Nat.{ℕ}
 use mathlib.Core.Option.{Option, none, some}
 use mathlib.Core.Bool.{Bool, _&&_, cond, false, true}

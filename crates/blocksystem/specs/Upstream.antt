@@ -223,7 +223,7 @@ NextStep d s s' vop crashStep = Crash s s' vop
 abbrev pub Next : ℕ → Variables → Variables → VersionOp → Type 0
 Next d s s' vop = (step : Step) × NextStep d s s' vop step
 
--- WHAT CACHE AND DISK STAND FOR
+-- THE UPSTREAM VARIABLES OF CACHE AND DISK
 
 abbrev pub systemVars : ℕ → CacheState → DiskState → Variables
 systemVars d c s = record { machine = cacheVars c; disk = diskVars d s }

@@ -15,15 +15,16 @@ pub struct Outcome {
     pub disk: DiskState,
 }
 
-// A place that is named, with the picture that belongs to it; nothing named is all zeros.
+// A place that is named, with the picture that belongs to it; nothing named is all zeros. "Named place" and "picture" are document 01's
+// terms (its section "Pictures and named places"): a picture is nodes by reference.
 pub struct Named {
     pub present: bool,
     pub place: Location,
     pub picture: Nodes,
 }
 
-// Names and pictures: the place that formatting, a start or a clean-up left named, the frozen place that step 4 named, the working
-// picture and the frozen one.
+// Document 01's named places and pictures: the place that formatting, a start or a clean-up left named, the frozen place that step 4
+// named, the working picture and the frozen one.
 pub struct Pictures {
     pub first: Named,
     pub second: Named,

@@ -1,5 +1,7 @@
-// The answers that no list of joined calls leads to: cache and disk are called on states made by hand. Prints a line for each,
-// `case=NAME answer=N`; every N is document 01's. (`forms` has the written forms that are broken.)
+// What no list of joined calls leads to, on states made by hand. Prints a line for each: `case=NAME answer=N` for a call of cache and
+// disk, where every N is document 01's, and `case=NAME lost=X added=Y altered=Z` for the counts of demand 3, which are 0 after every
+// list. (`forms` has the written forms that are broken.)
+mod audit_cases;
 mod cache_cases;
 mod changed;
 mod crash_cases;
@@ -11,4 +13,5 @@ fn main() {
     crash_cases::run();
     cache_cases::run();
     joined_cases::run();
+    audit_cases::run();
 }
