@@ -1,9 +1,10 @@
 // The disk's numbers 15, 16, 17 and 18. A kind is 1 table read, 2 node read, 3 table write, 4 node write.
 use blockdisk::Brought;
-use blockdisk::DiskState;
 use blockdisk::DiskCall;
 use blockdisk::DiskOp;
+use blockdisk::DiskState;
 use blockdisk::Queues;
+use disk::Disk;
 use disklayout::Location;
 use fixtures::AREA1;
 use fixtures::AREA2;
@@ -200,7 +201,10 @@ fn table_brought(id: u64, table: Table) -> u64 {
     let node = sector::zero_node();
     let op = DiskOp::RespReadIndirectionTableOp(id, Brought::Something);
     let call = DiskCall { op, node, table };
-    let o = disk::next(s, 0, call);
+    let o = Disk {
+        device: 0,
+        state: s,
+    }.next(call);
     o.answer
 }
 

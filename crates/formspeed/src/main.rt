@@ -1,8 +1,9 @@
 // A million calls of the disk that do nothing but judge its written form, to be timed: `time target/bin/formspeed`.
 // Prints how many were accepted.
-use blockdisk::DiskState;
 use blockdisk::DiskCall;
 use blockdisk::DiskOp;
+use blockdisk::DiskState;
+use disk::Disk;
 
 fn empty() -> DiskState {
     let records = disk::empty_records();
@@ -19,7 +20,10 @@ fn turn(s: DiskState) -> u64 {
         node,
         table,
     };
-    let o = disk::next(s, 0, c);
+    let o = Disk {
+        device: 0,
+        state: s,
+    }.next(c);
     if o.answer == 0 { 1 } else { 0 }
 }
 

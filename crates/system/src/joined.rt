@@ -5,11 +5,12 @@ ghost use Rattle.blocksystem.specs.Joined.{diskCall, startRows, joined};
 use crate::start::wf_succs;
 use blockcache::CacheState;
 use blockcache::Call;
-use blockdisk::DiskState;
 use blockdisk::DiskCall;
 use blockdisk::DiskOp;
+use blockdisk::DiskState;
 use blockdisk::Records;
 use blocksystem::Outcome;
+use disk::Disk;
 
 // The lower of two answers, of which 0 is no refusal.
 fn lower(a: u64, b: u64) -> u64
@@ -60,15 +61,22 @@ fn ask_start(device: u64, q: Call, s: DiskState) -> u64
 
 // A crash is offered records, every other step asks the disk for its operation, and a start alone asks for a graph. The three are
 // asked here and not in a function between, as each call by value copies the disk.
-pub fn step(device: u64, number: u64, q: Call, offered: Records, c: CacheState, s: DiskState) -> Outcome
+pub fn step(
+    device: u64,
+    number: u64,
+    q: Call,
+    offered: Records,
+    c: CacheState,
+    s: DiskState,
+) -> Outcome
     ensures { λ o. ⌜ o ≡ joined device number q offered c s ⌝ }
 {
     let a = cache::step(c, device, number, q);
     let b = if number == 18 {
-        disk::crash(s, device, offered)
+        Disk { device, state: s }.crash(offered)
     } else {
         let asked = disk_call(number, q);
-        disk::next(s, device, asked)
+        Disk { device, state: s }.next(asked)
     };
     let mut n20: u64 = 0;
     if number == 10 {
