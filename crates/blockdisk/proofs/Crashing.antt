@@ -58,9 +58,9 @@ unfolding nodeQueueForm
 zero-node-queue d = queue-iff (nodeRequestOk d) emptyRequests .1 (none-form, (λ id w e. never (rw none-map at e)))
 
 -- records in form and place, and nothing outstanding
-pub crashed-form : (d : ℕ) (o : Records) → made d ≡ true → recordsChecked d o .form ≡ true → recordsChecked d o .placed ≡ true → diskForm d (crashed o) ≡ true
-crashed-form d o on form placed =
-    disk-form-iff d (crashed o) .1
+pub crashed-form : (d : ℕ) (s : DiskState) (o : Records) → made d ≡ true → recordsChecked d o .form ≡ true → recordsChecked d o .placed ≡ true → diskForm d (crashed s o) ≡ true
+crashed-form d s o on form placed =
+    disk-form-iff d (crashed s o) .1
     (record {
       on = on;
       form = form;
@@ -98,11 +98,11 @@ empty-records-placed d =
       nodes-placed = λ k b. rw (getD-replicate 128 k zeroNodeRecord defaultNodeRecord b) (node-placed-iff d k zeroNodeRecord .1 (λ e. absurd (false≢true e)));
     })
 
-pub empty-disk-form : (d : ℕ) → made d ≡ true → diskForm d (crashed emptyRecords) ≡ true
-empty-disk-form d on = crashed-form d emptyRecords on (empty-records-form d) (empty-records-placed d)
+pub empty-disk-form : (d : ℕ) (s : DiskState) → made d ≡ true → diskForm d (crashed s emptyRecords) ≡ true
+empty-disk-form d s on = crashed-form d s emptyRecords on (empty-records-form d) (empty-records-placed d)
 
-pub crash-form-kept : (d : ℕ) (s : DiskState) (o : Records) → answer (crashRows d s o) ≡ 0 → diskForm d (crashed o) ≡ true
-crash-form-kept d s o e = let c = crash-ok-iff d s o .0 e in crashed-form d o (c .disk .on) (c .form) (c .placed)
+pub crash-form-kept : (d : ℕ) (s : DiskState) (o : Records) → answer (crashRows d s o) ≡ 0 → diskForm d (crashed s o) ≡ true
+crash-form-kept d s o e = let c = crash-ok-iff d s o .0 e in crashed-form d s o (c .disk .on) (c .form) (c .placed)
 
 -- WHAT IS KEPT
 

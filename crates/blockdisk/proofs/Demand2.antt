@@ -176,7 +176,7 @@ disk-accepted d s c = (
 
 -- of a crash they are 1 and the places of the offered records, a part of 19
 pub crash-accepted : (d : ℕ) (s : DiskState) (o : Records) →
-    (answer (crashRows d s o) ≡ 0) ↔ (NoneOf (1 ∷ []) (crashRows d s o) × (recordsChecked d o .placed ≡ true) × Crash (diskVars d s) (diskVars d (crashed o)))
+    (answer (crashRows d s o) ≡ 0) ↔ (NoneOf (1 ∷ []) (crashRows d s o) × (recordsChecked d o .placed ≡ true) × Crash (diskVars d s) (diskVars d (crashed s o)))
 crash-accepted d s o = (
   (λ e. let c = crash-ok-iff d s o .0 e in
       let k = records-kept-iff (s .queues) (s .records) o .0 (c .kept) in (
@@ -194,7 +194,7 @@ crash-accepted d s o = (
   (λ (h, placed, u). accept h placed u),
 )
   where
-    accept : NoneOf (1 ∷ []) (crashRows d s o) → recordsChecked d o .placed ≡ true → Crash (diskVars d s) (diskVars d (crashed o)) → answer (crashRows d s o) ≡ 0
+    accept : NoneOf (1 ∷ []) (crashRows d s o) → recordsChecked d o .placed ≡ true → Crash (diskVars d s) (diskVars d (crashed s o)) → answer (crashRows d s o) ≡ 0
     accept h placed u =
         let g = simp (not-iff, disk-form-iff, and-iff) at (or-left (not (diskForm d s && recordsChecked d o .form)) false (h .0)) in
         crash-ok-iff d s o .1

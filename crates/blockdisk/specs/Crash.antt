@@ -6,7 +6,7 @@ use lib.ListN.{getD}
 use Rattle.base.specs.Refusals.{Row, _when_}
 use Rattle.base.specs.Scan.{allBelow}
 use Rattle.blockdisk.specs.Form.{diskForm, recordsChecked}
-use Rattle.blockdisk.specs.Ops.{outcome}
+use Rattle.blockdisk.specs.Ops.{outcome, withQueues, withRecords}
 use Rattle.blockdisk.specs.Records.{defaultNodeRecord, defaultTableRecord}
 use Rattle.blockdisk.specs.declared.DiskState.{DiskState}
 use Rattle.blockdisk.specs.declared.DiskOutcome.{DiskOutcome}
@@ -50,8 +50,9 @@ crashRows d s o =
     (19 when not (recordsChecked d o .placed && recordsKept (s .queues) (s .records) o)) ∷
     []
 
-abbrev pub crashed : Records → DiskState
-crashed o = record { records = o; queues = emptyQueues }
+-- the records offered, and nothing outstanding
+abbrev pub crashed : DiskState → Records → DiskState
+crashed s o = withQueues (withRecords s o) emptyQueues
 
 unfoldable pub diskCrash : ℕ → DiskState → Records → DiskOutcome
-diskCrash d s o = outcome (crashRows d s o) (crashed o) s
+diskCrash d s o = outcome (crashRows d s o) (crashed s o) s

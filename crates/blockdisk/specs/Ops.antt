@@ -13,6 +13,7 @@ use Rattle.blockdisk.specs.declared.DiskCall.{DiskCall}
 use Rattle.blockdisk.specs.declared.DiskOp.{DiskOp}
 use Rattle.blockdisk.specs.declared.DiskOp.the-variants.{NoDiskOp, ReqReadIndirectionTableOp, ReqReadNodeOp, ReqWriteIndirectionTableOp, ReqWriteNodeOp, RespReadIndirectionTableOp, RespReadNodeOp, RespWriteIndirectionTableOp, RespWriteNodeOp}
 use Rattle.blockdisk.specs.declared.DiskOutcome.{DiskOutcome}
+use Rattle.blockdisk.specs.declared.Queues.{Queues}
 use Rattle.blockdisk.specs.declared.Records.{Records}
 use Rattle.blockdisk.specs.declared.Turn.{Turn}
 use Rattle.disklayout.specs.Blocks.{NodePlace}
@@ -95,34 +96,37 @@ opRows d s NoDiskOp n t = []
 
 -- THE NEXT DISK OF EACH OPERATION
 
-abbrev pub withTableReads : DiskState → Requests → DiskState
-withTableReads s q =
-    record { records = s .records; queues = record { tablereads = q; nodereads = s .queues .nodereads; tablewrites = s .queues .tablewrites; nodewrites = s .queues .nodewrites } }
-
-abbrev pub withNodeReads : DiskState → Requests → DiskState
-withNodeReads s q =
-    record { records = s .records; queues = record { tablereads = s .queues .tablereads; nodereads = q; tablewrites = s .queues .tablewrites; nodewrites = s .queues .nodewrites } }
-
-abbrev pub withTableWrites : DiskState → Requests → DiskState
-withTableWrites s q =
-    record { records = s .records; queues = record { tablereads = s .queues .tablereads; nodereads = s .queues .nodereads; tablewrites = q; nodewrites = s .queues .nodewrites } }
-
-abbrev pub withNodeWrites : DiskState → Requests → DiskState
-withNodeWrites s q =
-    record { records = s .records; queues = record { tablereads = s .queues .tablereads; nodereads = s .queues .nodereads; tablewrites = s .queues .tablewrites; nodewrites = q } }
+-- there is no record update: a setter for each group of fields, and for each queue of its group
 
 abbrev pub withRecords : DiskState → Records → DiskState
 withRecords s r = record { records = r; queues = s .queues }
 
+abbrev pub withQueues : DiskState → Queues → DiskState
+withQueues s qs = record { records = s .records; queues = qs }
+
+abbrev pub withTableReads : Queues → Requests → Queues
+withTableReads qs q = record { tablereads = q; nodereads = qs .nodereads; tablewrites = qs .tablewrites; nodewrites = qs .nodewrites }
+
+abbrev pub withNodeReads : Queues → Requests → Queues
+withNodeReads qs q = record { tablereads = qs .tablereads; nodereads = q; tablewrites = qs .tablewrites; nodewrites = qs .nodewrites }
+
+abbrev pub withTableWrites : Queues → Requests → Queues
+withTableWrites qs q = record { tablereads = qs .tablereads; nodereads = qs .nodereads; tablewrites = q; nodewrites = qs .nodewrites }
+
+abbrev pub withNodeWrites : Queues → Requests → Queues
+withNodeWrites qs q = record { tablereads = qs .tablereads; nodereads = qs .nodereads; tablewrites = qs .tablewrites; nodewrites = q }
+
 abbrev pub nextDisk : ℕ → DiskState → DiskOp → Node → Table → DiskState
-nextDisk d s (ReqReadIndirectionTableOp id l) n t = withTableReads s (insertOf (s .queues .tablereads) (requestOf id l))
-nextDisk d s (ReqReadNodeOp id l) n t = withNodeReads s (insertOf (s .queues .nodereads) (requestOf id l))
-nextDisk d s (ReqWriteIndirectionTableOp id l) n t = withRecords (withTableWrites s (insertOf (s .queues .tablewrites) (requestOf id l))) (withTable d (s .records) l t)
-nextDisk d s (ReqWriteNodeOp id l) n t = withRecords (withNodeWrites s (insertOf (s .queues .nodewrites) (requestOf id l))) (withNode d (s .records) l n)
-nextDisk d s (RespReadIndirectionTableOp id b) n t = withTableReads s (removeOf (s .queues .tablereads) id)
-nextDisk d s (RespReadNodeOp id b) n t = withNodeReads s (removeOf (s .queues .nodereads) id)
-nextDisk d s (RespWriteIndirectionTableOp id) n t = withTableWrites s (removeOf (s .queues .tablewrites) id)
-nextDisk d s (RespWriteNodeOp id) n t = withNodeWrites s (removeOf (s .queues .nodewrites) id)
+nextDisk d s (ReqReadIndirectionTableOp id l) n t = withQueues s (withTableReads (s .queues) (insertOf (s .queues .tablereads) (requestOf id l)))
+nextDisk d s (ReqReadNodeOp id l) n t = withQueues s (withNodeReads (s .queues) (insertOf (s .queues .nodereads) (requestOf id l)))
+nextDisk d s (ReqWriteIndirectionTableOp id l) n t =
+    withRecords (withQueues s (withTableWrites (s .queues) (insertOf (s .queues .tablewrites) (requestOf id l)))) (withTable d (s .records) l t)
+nextDisk d s (ReqWriteNodeOp id l) n t =
+    withRecords (withQueues s (withNodeWrites (s .queues) (insertOf (s .queues .nodewrites) (requestOf id l)))) (withNode d (s .records) l n)
+nextDisk d s (RespReadIndirectionTableOp id b) n t = withQueues s (withTableReads (s .queues) (removeOf (s .queues .tablereads) id))
+nextDisk d s (RespReadNodeOp id b) n t = withQueues s (withNodeReads (s .queues) (removeOf (s .queues .nodereads) id))
+nextDisk d s (RespWriteIndirectionTableOp id) n t = withQueues s (withTableWrites (s .queues) (removeOf (s .queues .tablewrites) id))
+nextDisk d s (RespWriteNodeOp id) n t = withQueues s (withNodeWrites (s .queues) (removeOf (s .queues .nodewrites) id))
 nextDisk d s NoDiskOp n t = s
 
 -- THE CALL

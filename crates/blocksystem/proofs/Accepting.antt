@@ -44,12 +44,12 @@ module _ (d : ℕ) (n : ℕ) (q : Call) (o : Records) (s : DiskState) where
     unfolding diskAsked diskCrash
     crash-answer = rw e
 
-    pub crash-next : answer (crashRows d s o) ≡ 0 → diskAsked d n q o s .disk ≡ crashed o
+    pub crash-next : answer (crashRows d s o) ≡ 0 → diskAsked d n q o s .disk ≡ crashed s o
     unfolding diskAsked diskCrash
     crash-next z = rw (e, eq-eqb _ _ z)
 
 -- a crash leaves what no write was outstanding for
-pub survives : (d : ℕ) (s : DiskState) (o : Records) → answer (crashRows d s o) ≡ 0 → Survives (diskVars d s) (diskVars d (crashed o))
+pub survives : (d : ℕ) (s : DiskState) (o : Records) → answer (crashRows d s o) ≡ 0 → Survives (diskVars d s) (diskVars d (crashed s o))
 survives d s o e =
     record {
       idle = record { no-table-reads = none-queued; no-node-reads = none-queued; no-table-writes = none-queued; no-node-writes = none-queued };

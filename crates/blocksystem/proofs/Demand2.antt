@@ -163,13 +163,13 @@ module _ (d : ℕ) (q : Call) (o : Records) (c : CacheState) (s : DiskState) whe
   unfolding stepOf steps
   crash-op s' (step, e, x) = let z : step ≡ crashStep = cc in (rw z at x) .0
 
-  crash-to : joinedAnswer d 18 q o c s ≡ 0 → (answer (crashRows d s o) ≡ 0) × Crash (systemVars d c s) (record { machine = unready; disk = diskVars d (crashed o) }) (q .vop)
+  crash-to : joinedAnswer d 18 q o c s ≡ 0 → (answer (crashRows d s o) ≡ 0) × Crash (systemVars d c s) (record { machine = unready; disk = diskVars d (crashed s o) }) (q .vop)
   crash-to e =
       let z = joined-zero d 18 q o c s .0 e in
       let a : answer (crashRows d s o) ≡ 0 = sym (crash-answer d 18 q o s refl) ∙ z .1 in
       (a, record { op = crash-op (cacheVars (cacheNext c 18 q)) (cache-allowed d c 18 q (z .0)); machine = refl; disk = crash-accepted d s o .0 a .2 })
 
-  crash-from : NoNarrowing d 18 q o c s → (m : MVariables) → Crash (systemVars d c s) (record { machine = m; disk = diskVars d (crashed o) }) (q .vop) → joinedAnswer d 18 q o c s ≡ 0
+  crash-from : NoNarrowing d 18 q o c s → (m : MVariables) → Crash (systemVars d c s) (record { machine = m; disk = diskVars d (crashed s o) }) (q .vop) → joinedAnswer d 18 q o c s ≡ 0
   unfolding stepOf steps
   crash-from h m x =
       joined-zero d 18 q o c s .1 (
@@ -215,7 +215,7 @@ module _ (d n : ℕ) (q : Call) (o : Records) (c : CacheState) (s : DiskState) w
             let y : joined d n q o c s .disk ≡ nextDisk d s (diskCall n q .op) (q .node) (q .table) = joined-disk d n q o c s e ∙ disk-next d n q o s ne (sym (disk-answer d n q o s ne) ∙ z .1) in
             rw (cs, y) (machine-to d n q o c s ne e);
         crash = λ t.
-            let y : joined d n q o c s .disk ≡ crashed o = joined-disk d n q o c s e ∙ crash-next d n q o s t (sym (crash-answer d n q o s t) ∙ z .1) in
+            let y : joined d n q o c s .disk ≡ crashed s o = joined-disk d n q o c s e ∙ crash-next d n q o s t (sym (crash-answer d n q o s t) ∙ z .1) in
             let h : n ≡ 18 = eqb-true n 18 t in
             let k : cacheVars (joined d n q o c s .cache) ≡ unready = ap cacheVars (cs ∙ ap (λ m. cacheNext c m q) h) ∙ cache-crash c q in
             rw (k, y) (crash-to d q o c s (rw h at e) .1);

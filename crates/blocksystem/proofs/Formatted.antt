@@ -128,7 +128,7 @@ module _ (d x : ℕ) (on : made d ≡ true) where
   pub formatted-form : diskForm d (formattedDisk d x) ≡ true
   formatted-form =
       rw records-are
-      (crashed-form d (withTable d rooted k (rootTable l)) on
+      (crashed-form d (formattedDisk d x) (withTable d rooted k (rootTable l)) on
       (with-table-form d rooted on rooted-form rooted-placed k (rootTable l) (table-place d on) (root-table-form l))
       (with-table-placed d rooted on rooted-form rooted-placed k (rootTable l) (table-place d on)))
 

@@ -51,7 +51,7 @@ module _ (d : ℕ) (q : Call) (o : Records) (s : State) (v : Invariant d s) wher
   crash-keeps e =
       let z = joined-zero d 18 q o (s .cache) (s .disk) .0 e in
       let a : answer (crashRows d (s .disk) o) ≡ 0 = sym (crash-answer d 18 q o (s .disk) refl) ∙ z .1 in
-      let after : diskAsked d 18 q o (s .disk) .disk ≡ crashed o = crash-next d 18 q o (s .disk) refl a in
+      let after : diskAsked d 18 q o (s .disk) .disk ≡ crashed (s .disk) o = crash-next d 18 q o (s .disk) refl a in
       record {
         made-device = v .made-device;
         cache-form = cache-form-kept d (s .cache) 18 q (z .0);
@@ -59,7 +59,7 @@ module _ (d : ℕ) (q : Call) (o : Records) (s : State) (v : Invariant d s) wher
         pictures-form = v .pictures-form;
         first-named = v .first-named;
         whole = rw after
-            (keep-crash d (cacheVars (s .cache)) (diskVars d (s .disk)) (diskVars d (crashed o)) (pictureMaps (s .pictures)) (v .whole) (survives d (s .disk) o a));
+            (keep-crash d (cacheVars (s .cache)) (diskVars d (s .disk)) (diskVars d (crashed (s .disk) o)) (pictureMaps (s .pictures)) (v .whole) (survives d (s .disk) o a));
       }
 
   step-keeps : (n : ℕ) → isCrash n ≡ false → Named n → Accepted n → Invariant d (nextState n)

@@ -43,7 +43,7 @@ module _ (d n : ℕ) (q : Call) (o : Records) (c : CacheState) (s : DiskState) w
   -- some next state; of a crash one with the disk that is offered
   pub record SystemAllows : Type 0 where
     pub machine : isCrash n ≡ false → (s' : Variables) × MachineTo s'
-    pub crash : isCrash n ≡ true → (m : MVariables) × Crash (systemVars d c s) (record { machine = m; disk = diskVars d (crashed o) }) (q .vop)
+    pub crash : isCrash n ≡ true → (m : MVariables) × Crash (systemVars d c s) (record { machine = m; disk = diskVars d (crashed s o) }) (q .vop)
 
   abbrev pub handedBack : Variables
   handedBack = systemVars d (joined d n q o c s .cache) (joined d n q o c s .disk)

@@ -4,6 +4,7 @@ use blockdisk::DiskCall;
 use blockdisk::DiskOp;
 use blockdisk::DiskState;
 use blockdisk::Queues;
+use disk::Disk;
 use disklayout::Location;
 use fixtures::AREA1;
 use fixtures::AREA2;
@@ -200,7 +201,10 @@ fn table_brought(id: u64, table: Table) -> u64 {
     let node = sector::zero_node();
     let op = DiskOp::RespReadIndirectionTableOp(id, Brought::Something);
     let call = DiskCall { op, node, table };
-    let o = disk::next(s, 0, call);
+    let o = Disk {
+        device: 0,
+        state: s,
+    }.next(call);
     o.answer
 }
 

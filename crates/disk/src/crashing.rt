@@ -1,7 +1,8 @@
 // A crash: the records offered afterwards must be possible ones; nothing is outstanding then.
 ghost use mathlib.Core.Path.{_≡_};
 ghost use Rattle.blockdisk.specs.Crash.{sameTableRecord, sameNodeRecord, keptTable, keptNode, tablesKept, nodesKept, recordsKept, emptyQueues, diskCrash};
-use crate::form::disk_form;
+use crate::Disk;
+use crate::form::queues_ok;
 use crate::form::records_ok;
 use blockdisk::DiskOutcome;
 use blockdisk::DiskState;
@@ -110,31 +111,35 @@ pub fn empty_queues() -> Queues
     }
 }
 
-// A crash that leaves the records offered: 1 if the disk, or a node or table of these, is not in its written form; 19 if they
-// are not possible. An offered record's place is judged by 19 alone.
-pub fn crash(s: DiskState, device: u64, offered: Records) -> DiskOutcome
-    ensures { λ o. ⌜ o ≡ diskCrash device s offered ⌝ }
-{
-    let form = disk_form(s, device);
-    let c = records_ok(device, offered);
-    let good = form & c.form;
-    if !good {
-        return DiskOutcome { answer: 1, disk: s };
+impl Disk {
+    // A crash that leaves the records offered: 1 if the disk, or a node or table of these, is not in its written form; 19 if they
+    // are not possible. An offered record's place is judged by 19 alone.
+    pub fn crash(self, offered: Records) -> DiskOutcome
+        ensures { λ o. ⌜ o ≡ diskCrash (self .device) (self .state) offered ⌝ }
+    {
+        let mut s = self.state;
+        let old = s.records;
+        let queues = s.queues;
+        let stored = records_ok(self.device, old);
+        let waiting = queues_ok(self.device, queues);
+        let known = self.device <= 2;
+        let form = known & stored.form & stored.placed & waiting;
+        let c = records_ok(self.device, offered);
+        let good = form & c.form;
+        if !good {
+            return DiskOutcome { answer: 1, disk: s };
+        }
+        let kept = records_kept(queues, old, offered);
+        let possible = c.placed & kept;
+        if !possible {
+            return DiskOutcome {
+                answer: 19,
+                disk: s,
+            };
+        }
+        let none = empty_queues();
+        s.records = offered;
+        s.queues = none;
+        DiskOutcome { answer: 0, disk: s }
     }
-    let old = s.records;
-    let queues = s.queues;
-    let kept = records_kept(queues, old, offered);
-    let possible = c.placed & kept;
-    if !possible {
-        return DiskOutcome {
-            answer: 19,
-            disk: s,
-        };
-    }
-    let none = empty_queues();
-    let disk = DiskState {
-        records: offered,
-        queues: none,
-    };
-    DiskOutcome { answer: 0, disk }
 }

@@ -1,8 +1,7 @@
 // The disk's one written form (number 1): each record in its own form and place, each queue in its form with places that 16 allows.
 ghost use mathlib.Core.Path.{_≡_};
-ghost use Rattle.blockdisk.specs.Form.{tableRecordChecked, nodeRecordChecked, tablesChecked, nodesChecked, recordsChecked, tableRequestOk, nodeRequestOk, tableQueueForm, nodeQueueForm, queuesForm, diskForm};
+ghost use Rattle.blockdisk.specs.Form.{tableRecordChecked, nodeRecordChecked, tablesChecked, nodesChecked, recordsChecked, tableRequestOk, nodeRequestOk, tableQueueForm, nodeQueueForm, queuesForm};
 use blockdisk::Checked;
-use blockdisk::DiskState;
 use blockdisk::NodeRecord;
 use blockdisk::Queues;
 use blockdisk::Records;
@@ -152,16 +151,4 @@ pub(crate) fn queues_ok(device: u64, qs: Queues) -> bool
     let r = table_queue_ok(device, c);
     let s = node_queue_ok(device, d);
     p & q & r & s
-}
-
-// Whether the disk is in its one written form on this device; on a device that is not made, none is.
-pub(crate) fn disk_form(s: DiskState, device: u64) -> bool
-    ensures { λ b. ⌜ b ≡ diskForm device s ⌝ }
-{
-    let records = s.records;
-    let queues = s.queues;
-    let c = records_ok(device, records);
-    let q = queues_ok(device, queues);
-    let known = device <= 2;
-    known & c.form & c.placed & q
 }

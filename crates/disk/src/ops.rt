@@ -1,7 +1,11 @@
 // Upstream's transitions of the disk: four requests, four answers, no operation. The entry judges the written form once, before all.
+// A transition takes the disk by value and returns the answer's number and the state.
+ghost use mathlib.Core.Bool.{_&&_, not};
 ghost use mathlib.Core.Path.{_≡_};
 ghost use Rattle.sectortype.specs.Form.{zeroNode, emptyTable};
-ghost use Rattle.blockdisk.specs.Ops.{requestOf, requestTurn, answerTurn, somethingIn, tableNotStored, nodeNotStored, opOutcome, callOutcome, diskStep};
+ghost use Rattle.sectortype.specs.Same.{sameNode, sameTable};
+ghost use Rattle.blockdisk.specs.Ops.{requestOf, requestTurn, answerTurn, somethingIn, opOutcome, callOutcome, diskStep};
+use crate::Disk;
 use crate::form::queues_ok;
 use crate::form::records_ok;
 use crate::read::node_at;
@@ -12,7 +16,8 @@ use blockdisk::Brought;
 use blockdisk::DiskCall;
 use blockdisk::DiskOp;
 use blockdisk::DiskOutcome;
-use blockdisk::DiskState;
+use blockdisk::NodeRecord;
+use blockdisk::TableRecord;
 use blockdisk::Turn;
 use disklayout::Location;
 use queue::Request;
@@ -96,253 +101,240 @@ fn brings(b: Brought) -> bool
     true
 }
 
-// Whether a table read answer brings something else than is stored at exactly the place asked for.
-fn table_not_stored(s: DiskState, device: u64, id: u64, b: Brought, table: Table) -> bool
-    ensures { λ r. ⌜ r ≡ tableNotStored device s id b table ⌝ }
+// Whether a table read answer brings something else than x, the record at exactly the place asked for.
+fn other_table(x: TableRecord, b: Brought, table: Table) -> bool
+    ensures { λ r. ⌜ r ≡ (somethingIn b && not (x .present && sameTable (x .table) table)) ⌝ }
 {
-    let qs = s.queues;
-    let q = qs.tablereads;
-    let w = queue::entry(q, id);
-    let records = s.records;
-    let loc = w.loc;
-    let x = table_at(device, records, loc);
     let stored = x.table;
     let same = sector::same_table(stored, table);
     let some = brings(b);
     some & !(x.present & same)
 }
 
-// Whether a node read answer brings something else than is stored at exactly the place asked for.
-fn node_not_stored(s: DiskState, device: u64, id: u64, b: Brought, node: Node) -> bool
-    ensures { λ r. ⌜ r ≡ nodeNotStored device s id b node ⌝ }
+// Whether a node read answer brings something else than x, the record at exactly the place asked for.
+fn other_node(x: NodeRecord, b: Brought, node: Node) -> bool
+    ensures { λ r. ⌜ r ≡ (somethingIn b && not (x .present && sameNode (x .node) node)) ⌝ }
 {
-    let qs = s.queues;
-    let q = qs.nodereads;
-    let w = queue::entry(q, id);
-    let records = s.records;
-    let loc = w.loc;
-    let x = node_at(device, records, loc);
     let stored = x.node;
     let same = sector::same_node(stored, node);
     let some = brings(b);
     some & !(x.present & same)
 }
 
-fn recv_read_indirection_table(mut s: DiskState, device: u64, id: u64, loc: Location) -> DiskOutcome
-    ensures { λ o. ⌜ o ≡ opOutcome device s (DiskOp.ReqReadIndirectionTableOp id loc) zeroNode emptyTable ⌝ }
-{
-    let mut qs = s.queues;
-    let q = qs.tablereads;
-    let allowed = layout::valid_indirection_table_location(device, loc);
-    let t = ask(q, id, loc, allowed.yes);
-    let n = t.answer;
-    if n != 0 {
-        return DiskOutcome { answer: n, disk: s };
+impl Disk {
+    fn recv_read_indirection_table(self, id: u64, loc: Location) -> DiskOutcome
+        ensures { λ o. ⌜ o ≡ opOutcome (self .device) (self .state) (DiskOp.ReqReadIndirectionTableOp id loc) zeroNode emptyTable ⌝ }
+    {
+        let mut s = self.state;
+        let mut qs = s.queues;
+        let q = qs.tablereads;
+        let allowed = layout::valid_indirection_table_location(self.device, loc);
+        let t = ask(q, id, loc, allowed.yes);
+        let n = t.answer;
+        if n != 0 {
+            return DiskOutcome { answer: n, disk: s };
+        }
+        let next = t.queue;
+        qs.tablereads = next;
+        s.queues = qs;
+        DiskOutcome { answer: 0, disk: s }
     }
-    let next = t.queue;
-    qs.tablereads = next;
-    s.queues = qs;
-    DiskOutcome { answer: 0, disk: s }
-}
 
-fn recv_read_node(mut s: DiskState, device: u64, id: u64, loc: Location) -> DiskOutcome
-    ensures { λ o. ⌜ o ≡ opOutcome device s (DiskOp.ReqReadNodeOp id loc) zeroNode emptyTable ⌝ }
-{
-    let mut qs = s.queues;
-    let q = qs.nodereads;
-    let allowed = layout::node_place(device, loc);
-    let t = ask(q, id, loc, allowed.yes);
-    let n = t.answer;
-    if n != 0 {
-        return DiskOutcome { answer: n, disk: s };
+    fn recv_read_node(self, id: u64, loc: Location) -> DiskOutcome
+        ensures { λ o. ⌜ o ≡ opOutcome (self .device) (self .state) (DiskOp.ReqReadNodeOp id loc) zeroNode emptyTable ⌝ }
+    {
+        let mut s = self.state;
+        let mut qs = s.queues;
+        let q = qs.nodereads;
+        let allowed = layout::node_place(self.device, loc);
+        let t = ask(q, id, loc, allowed.yes);
+        let n = t.answer;
+        if n != 0 {
+            return DiskOutcome { answer: n, disk: s };
+        }
+        let next = t.queue;
+        qs.nodereads = next;
+        s.queues = qs;
+        DiskOutcome { answer: 0, disk: s }
     }
-    let next = t.queue;
-    qs.nodereads = next;
-    s.queues = qs;
-    DiskOutcome { answer: 0, disk: s }
-}
 
-// The write takes effect at once: it replaces its area's record and nothing else.
-fn recv_write_indirection_table(
-    mut s: DiskState,
-    device: u64,
-    id: u64,
-    loc: Location,
-    table: Table,
-) -> DiskOutcome
-    ensures { λ o. ⌜ o ≡ opOutcome device s (DiskOp.ReqWriteIndirectionTableOp id loc) zeroNode table ⌝ }
-{
-    let mut qs = s.queues;
-    let q = qs.tablewrites;
-    let allowed = layout::valid_indirection_table_location(device, loc);
-    let t = ask(q, id, loc, allowed.yes);
-    let n = t.answer;
-    if n != 0 {
-        return DiskOutcome { answer: n, disk: s };
+    // The write takes effect at once: it replaces its area's record and nothing else.
+    fn recv_write_indirection_table(self, id: u64, loc: Location, table: Table) -> DiskOutcome
+        ensures { λ o. ⌜ o ≡ opOutcome (self .device) (self .state) (DiskOp.ReqWriteIndirectionTableOp id loc) zeroNode table ⌝ }
+    {
+        let mut s = self.state;
+        let mut qs = s.queues;
+        let q = qs.tablewrites;
+        let allowed = layout::valid_indirection_table_location(self.device, loc);
+        let t = ask(q, id, loc, allowed.yes);
+        let n = t.answer;
+        if n != 0 {
+            return DiskOutcome { answer: n, disk: s };
+        }
+        let next = t.queue;
+        qs.tablewrites = next;
+        let old = s.records;
+        let records = with_table(self.device, old, loc, table);
+        s.queues = qs;
+        s.records = records;
+        DiskOutcome { answer: 0, disk: s }
     }
-    let next = t.queue;
-    qs.tablewrites = next;
-    let old = s.records;
-    let records = with_table(device, old, loc, table);
-    s.queues = qs;
-    s.records = records;
-    DiskOutcome { answer: 0, disk: s }
-}
 
-// The write takes effect at once: it replaces its block's record and nothing else.
-fn recv_write_node(mut s: DiskState, device: u64, id: u64, loc: Location, node: Node) -> DiskOutcome
-    ensures { λ o. ⌜ o ≡ opOutcome device s (DiskOp.ReqWriteNodeOp id loc) node emptyTable ⌝ }
-{
-    let mut qs = s.queues;
-    let q = qs.nodewrites;
-    let allowed = layout::node_place(device, loc);
-    let t = ask(q, id, loc, allowed.yes);
-    let n = t.answer;
-    if n != 0 {
-        return DiskOutcome { answer: n, disk: s };
+    // The write takes effect at once: it replaces its block's record and nothing else.
+    fn recv_write_node(self, id: u64, loc: Location, node: Node) -> DiskOutcome
+        ensures { λ o. ⌜ o ≡ opOutcome (self .device) (self .state) (DiskOp.ReqWriteNodeOp id loc) node emptyTable ⌝ }
+    {
+        let mut s = self.state;
+        let mut qs = s.queues;
+        let q = qs.nodewrites;
+        let allowed = layout::node_place(self.device, loc);
+        let t = ask(q, id, loc, allowed.yes);
+        let n = t.answer;
+        if n != 0 {
+            return DiskOutcome { answer: n, disk: s };
+        }
+        let next = t.queue;
+        qs.nodewrites = next;
+        let old = s.records;
+        let records = with_node(self.device, old, loc, node);
+        s.queues = qs;
+        s.records = records;
+        DiskOutcome { answer: 0, disk: s }
     }
-    let next = t.queue;
-    qs.nodewrites = next;
-    let old = s.records;
-    let records = with_node(device, old, loc, node);
-    s.queues = qs;
-    s.records = records;
-    DiskOutcome { answer: 0, disk: s }
-}
 
-fn ack_read_indirection_table(
-    mut s: DiskState,
-    device: u64,
-    id: u64,
-    b: Brought,
-    table: Table,
-) -> DiskOutcome
-    ensures { λ o. ⌜ o ≡ opOutcome device s (DiskOp.RespReadIndirectionTableOp id b) zeroNode table ⌝ }
-{
-    let wrong = table_not_stored(s, device, id, b, table);
-    let mut qs = s.queues;
-    let q = qs.tablereads;
-    let t = take(q, id, wrong);
-    let n = t.answer;
-    if n != 0 {
-        return DiskOutcome { answer: n, disk: s };
+    fn ack_read_indirection_table(self, id: u64, b: Brought, table: Table) -> DiskOutcome
+        ensures { λ o. ⌜ o ≡ opOutcome (self .device) (self .state) (DiskOp.RespReadIndirectionTableOp id b) zeroNode table ⌝ }
+    {
+        let mut s = self.state;
+        let mut qs = s.queues;
+        let q = qs.tablereads;
+        let w = queue::entry(q, id);
+        let records = s.records;
+        let loc = w.loc;
+        let x = table_at(self.device, records, loc);
+        let wrong = other_table(x, b, table);
+        let t = take(q, id, wrong);
+        let n = t.answer;
+        if n != 0 {
+            return DiskOutcome { answer: n, disk: s };
+        }
+        let next = t.queue;
+        qs.tablereads = next;
+        s.queues = qs;
+        DiskOutcome { answer: 0, disk: s }
     }
-    let next = t.queue;
-    qs.tablereads = next;
-    s.queues = qs;
-    DiskOutcome { answer: 0, disk: s }
-}
 
-fn ack_read_node(mut s: DiskState, device: u64, id: u64, b: Brought, node: Node) -> DiskOutcome
-    ensures { λ o. ⌜ o ≡ opOutcome device s (DiskOp.RespReadNodeOp id b) node emptyTable ⌝ }
-{
-    let wrong = node_not_stored(s, device, id, b, node);
-    let mut qs = s.queues;
-    let q = qs.nodereads;
-    let t = take(q, id, wrong);
-    let n = t.answer;
-    if n != 0 {
-        return DiskOutcome { answer: n, disk: s };
+    fn ack_read_node(self, id: u64, b: Brought, node: Node) -> DiskOutcome
+        ensures { λ o. ⌜ o ≡ opOutcome (self .device) (self .state) (DiskOp.RespReadNodeOp id b) node emptyTable ⌝ }
+    {
+        let mut s = self.state;
+        let mut qs = s.queues;
+        let q = qs.nodereads;
+        let w = queue::entry(q, id);
+        let records = s.records;
+        let loc = w.loc;
+        let x = node_at(self.device, records, loc);
+        let wrong = other_node(x, b, node);
+        let t = take(q, id, wrong);
+        let n = t.answer;
+        if n != 0 {
+            return DiskOutcome { answer: n, disk: s };
+        }
+        let next = t.queue;
+        qs.nodereads = next;
+        s.queues = qs;
+        DiskOutcome { answer: 0, disk: s }
     }
-    let next = t.queue;
-    qs.nodereads = next;
-    s.queues = qs;
-    DiskOutcome { answer: 0, disk: s }
-}
 
-fn ack_write_indirection_table(mut s: DiskState, device: u64, id: u64) -> DiskOutcome
-    ensures { λ o. ⌜ o ≡ opOutcome device s (DiskOp.RespWriteIndirectionTableOp id) zeroNode emptyTable ⌝ }
-{
-    let mut qs = s.queues;
-    let q = qs.tablewrites;
-    let t = take(q, id, false);
-    let n = t.answer;
-    if n != 0 {
-        return DiskOutcome { answer: n, disk: s };
+    fn ack_write_indirection_table(self, id: u64) -> DiskOutcome
+        ensures { λ o. ⌜ o ≡ opOutcome (self .device) (self .state) (DiskOp.RespWriteIndirectionTableOp id) zeroNode emptyTable ⌝ }
+    {
+        let mut s = self.state;
+        let mut qs = s.queues;
+        let q = qs.tablewrites;
+        let t = take(q, id, false);
+        let n = t.answer;
+        if n != 0 {
+            return DiskOutcome { answer: n, disk: s };
+        }
+        let next = t.queue;
+        qs.tablewrites = next;
+        s.queues = qs;
+        DiskOutcome { answer: 0, disk: s }
     }
-    let next = t.queue;
-    qs.tablewrites = next;
-    s.queues = qs;
-    DiskOutcome { answer: 0, disk: s }
-}
 
-fn ack_write_node(mut s: DiskState, device: u64, id: u64) -> DiskOutcome
-    ensures { λ o. ⌜ o ≡ opOutcome device s (DiskOp.RespWriteNodeOp id) zeroNode emptyTable ⌝ }
-{
-    let mut qs = s.queues;
-    let q = qs.nodewrites;
-    let t = take(q, id, false);
-    let n = t.answer;
-    if n != 0 {
-        return DiskOutcome { answer: n, disk: s };
+    fn ack_write_node(self, id: u64) -> DiskOutcome
+        ensures { λ o. ⌜ o ≡ opOutcome (self .device) (self .state) (DiskOp.RespWriteNodeOp id) zeroNode emptyTable ⌝ }
+    {
+        let mut s = self.state;
+        let mut qs = s.queues;
+        let q = qs.nodewrites;
+        let t = take(q, id, false);
+        let n = t.answer;
+        if n != 0 {
+            return DiskOutcome { answer: n, disk: s };
+        }
+        let next = t.queue;
+        qs.nodewrites = next;
+        s.queues = qs;
+        DiskOutcome { answer: 0, disk: s }
     }
-    let next = t.queue;
-    qs.nodewrites = next;
-    s.queues = qs;
-    DiskOutcome { answer: 0, disk: s }
-}
 
-fn stutter(s: DiskState, device: u64) -> DiskOutcome
-    ensures { λ o. ⌜ o ≡ opOutcome device s DiskOp.NoDiskOp zeroNode emptyTable ⌝ }
-{
-    DiskOutcome { answer: 0, disk: s }
-}
-
-// The operation alone, on a disk and a call in their written form.
-fn dispatch(s: DiskState, device: u64, call: DiskCall) -> DiskOutcome
-    ensures { λ o. ⌜ o ≡ callOutcome device s call ⌝ }
-{
-    let op = call.op;
-    let node = call.node;
-    let table = call.table;
-    match op {
-        DiskOp::ReqReadIndirectionTableOp(id, loc) => recv_read_indirection_table(
-            s,
-            device,
-            id,
-            loc,
-        ),
-        DiskOp::ReqReadNodeOp(id, loc) => recv_read_node(s, device, id, loc),
-        DiskOp::ReqWriteIndirectionTableOp(id, loc) => recv_write_indirection_table(
-            s,
-            device,
-            id,
-            loc,
-            table,
-        ),
-        DiskOp::ReqWriteNodeOp(id, loc) => recv_write_node(s, device, id, loc, node),
-        DiskOp::RespReadIndirectionTableOp(id, b) => ack_read_indirection_table(
-            s,
-            device,
-            id,
-            b,
-            table,
-        ),
-        DiskOp::RespReadNodeOp(id, b) => ack_read_node(s, device, id, b, node),
-        DiskOp::RespWriteIndirectionTableOp(id) => ack_write_indirection_table(s, device, id),
-        DiskOp::RespWriteNodeOp(id) => ack_write_node(s, device, id),
-        DiskOp::NoDiskOp => stutter(s, device),
+    fn stutter(self) -> DiskOutcome
+        ensures { λ o. ⌜ o ≡ opOutcome (self .device) (self .state) DiskOp.NoDiskOp zeroNode emptyTable ⌝ }
+    {
+        let s = self.state;
+        DiskOutcome { answer: 0, disk: s }
     }
-}
 
-// Any call on any disk. Its written form is asked of its two parts, as `disk_form` does for a crash: that would copy the whole disk
-// once more at each call.
-pub fn next(s: DiskState, device: u64, call: DiskCall) -> DiskOutcome
-    ensures { λ o. ⌜ o ≡ diskStep device s call ⌝ }
-{
-    let node = call.node;
-    let table = call.table;
-    let records = s.records;
-    let queues = s.queues;
-    let stored = records_ok(device, records);
-    let waiting = queues_ok(device, queues);
-    let known = device <= 2;
-    let form = known & stored.form & stored.placed & waiting;
-    let noded = sector::node_form(node);
-    let tabled = sector::table_form(table);
-    let good = form & noded & tabled;
-    if good {
-        return dispatch(s, device, call);
+    // The operation alone, on a disk and a call in their written form.
+    fn dispatch(self, call: DiskCall) -> DiskOutcome
+        ensures { λ o. ⌜ o ≡ callOutcome (self .device) (self .state) call ⌝ }
+    {
+        let op = call.op;
+        let node = call.node;
+        let table = call.table;
+        match op {
+            DiskOp::ReqReadIndirectionTableOp(id, loc) => self.recv_read_indirection_table(id, loc),
+            DiskOp::ReqReadNodeOp(id, loc) => self.recv_read_node(id, loc),
+            DiskOp::ReqWriteIndirectionTableOp(id, loc) => self.recv_write_indirection_table(
+                id,
+                loc,
+                table,
+            ),
+            DiskOp::ReqWriteNodeOp(id, loc) => self.recv_write_node(id, loc, node),
+            DiskOp::RespReadIndirectionTableOp(id, b) => self.ack_read_indirection_table(
+                id,
+                b,
+                table,
+            ),
+            DiskOp::RespReadNodeOp(id, b) => self.ack_read_node(id, b, node),
+            DiskOp::RespWriteIndirectionTableOp(id) => self.ack_write_indirection_table(id),
+            DiskOp::RespWriteNodeOp(id) => self.ack_write_node(id),
+            DiskOp::NoDiskOp => self.stutter(),
+        }
     }
-    DiskOutcome { answer: 1, disk: s }
+
+    // Any call on any disk. Its written form is asked of its parts: a function that took the whole disk would copy it once more at
+    // each call.
+    pub fn next(self, call: DiskCall) -> DiskOutcome
+        ensures { λ o. ⌜ o ≡ diskStep (self .device) (self .state) call ⌝ }
+    {
+        let node = call.node;
+        let table = call.table;
+        let s = self.state;
+        let records = s.records;
+        let queues = s.queues;
+        let stored = records_ok(self.device, records);
+        let waiting = queues_ok(self.device, queues);
+        let known = self.device <= 2;
+        let form = known & stored.form & stored.placed & waiting;
+        let noded = sector::node_form(node);
+        let tabled = sector::table_form(table);
+        let good = form & noded & tabled;
+        if good {
+            return self.dispatch(call);
+        }
+        DiskOutcome { answer: 1, disk: s }
+    }
 }

@@ -3,6 +3,7 @@ use blockdisk::DiskCall;
 use blockdisk::DiskOp;
 use blockdisk::DiskState;
 use blockdisk::Records;
+use disk::Disk;
 use disklayout::Location;
 use fixtures::AREA1;
 use fixtures::BLOCK0;
@@ -134,7 +135,10 @@ fn disk_with_table(s: DiskState, table: Table) -> u64 {
     let node = sector::zero_node();
     let op = DiskOp::NoDiskOp;
     let call = DiskCall { op, node, table };
-    let o = disk::next(s, 0, call);
+    let o = Disk {
+        device: 0,
+        state: s,
+    }.next(call);
     o.answer
 }
 

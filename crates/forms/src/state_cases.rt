@@ -6,6 +6,7 @@ use blockdisk::DiskCall;
 use blockdisk::DiskOp;
 use blockdisk::NodeRecord;
 use blockdisk::TableRecord;
+use disk::Disk;
 use disklayout::Location;
 use fixtures::AREA1;
 use fixtures::AREA2;
@@ -264,8 +265,8 @@ fn devices(name: &[u8], device: u64) {
     let op = DiskOp::NoDiskOp;
     let call = DiskCall { op, node, table };
     let a = cache::step(c, device, 14, q);
-    let b = disk::next(s, device, call);
-    let d = disk::crash(s, device, none);
+    let b = Disk { device, state: s }.next(call);
+    let d = Disk { device, state: s }.crash(none);
     pair(b"cache_on", name, a.answer);
     pair(b"disk_on", name, b.answer);
     pair(b"crash_of_the_disk_on", name, d.answer);

@@ -3,6 +3,7 @@
 use blockdisk::DiskCall;
 use blockdisk::DiskOp;
 use blockdisk::DiskState;
+use disk::Disk;
 
 fn empty() -> DiskState {
     let records = disk::empty_records();
@@ -19,7 +20,10 @@ fn turn(s: DiskState) -> u64 {
         node,
         table,
     };
-    let o = disk::next(s, 0, c);
+    let o = Disk {
+        device: 0,
+        state: s,
+    }.next(c);
     if o.answer == 0 { 1 } else { 0 }
 }
 

@@ -10,6 +10,7 @@ use blockdisk::DiskOp;
 use blockdisk::DiskState;
 use blockdisk::Records;
 use blocksystem::Outcome;
+use disk::Disk;
 
 // The lower of two answers, of which 0 is no refusal.
 fn lower(a: u64, b: u64) -> u64
@@ -72,10 +73,10 @@ pub fn step(
 {
     let a = cache::step(c, device, number, q);
     let b = if number == 18 {
-        disk::crash(s, device, offered)
+        Disk { device, state: s }.crash(offered)
     } else {
         let asked = disk_call(number, q);
-        disk::next(s, device, asked)
+        Disk { device, state: s }.next(asked)
     };
     let mut n20: u64 = 0;
     if number == 10 {

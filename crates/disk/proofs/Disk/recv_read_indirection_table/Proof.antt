@@ -1,9 +1,9 @@
 -- Refused: the disk as it was. Accepted: by what the callees ensure. Assumes nothing.
 use borrow.Author.Needs.{needs}
-use borrow.Author.Tests.{eq-eqb, ne-eqb}
-use Rattle.disk.proofs.ops.recv_read_indirection_table.Statement.{statement}
+use borrow.Author.Tests.{ne-eqb}
+use Rattle.disk.proofs.Disk.recv_read_indirection_table.Statement.{statement}
 use Rattle.blockdisk.specs.Ops.{requestTurn}
-use Rattle.disk.proofs.ops.recv_read_indirection_table.Tie as tie
+use Rattle.disk.proofs.Disk.recv_read_indirection_table.Tie as tie
 
 valid-indirection-table-location-requires : tie.Need-valid-indirection-table-location-requires
 valid-indirection-table-location-requires c κs = search needs
@@ -21,7 +21,7 @@ returns-2 : tie.Need-returns-2
 unfolding requestTurn
 returns-2 c =
     let e = simp (c .before .before .ask .ensures, c .before .before .before .valid-indirection-table-location .ensures) at (c .before .if1 .left) in
-    simp (c .before .before .ask .ensures, c .before .before .before .valid-indirection-table-location .ensures, eq-eqb _ _ e, e)
+    simp (c .before .before .ask .ensures, c .before .before .before .valid-indirection-table-location .ensures, e)
 
 pub recv-read-indirection-table-spec : {M : Type 1} → statement M
 recv-read-indirection-table-spec =

@@ -1,9 +1,9 @@
 -- Refused: the disk as it was. Accepted: by what the callees ensure. Assumes nothing.
 use borrow.Author.Needs.{needs}
-use borrow.Author.Tests.{eq-eqb, ne-eqb}
-use Rattle.disk.proofs.ops.recv_write_indirection_table.Statement.{statement}
+use borrow.Author.Tests.{ne-eqb}
+use Rattle.disk.proofs.Disk.recv_write_indirection_table.Statement.{statement}
 use Rattle.blockdisk.specs.Ops.{requestTurn}
-use Rattle.disk.proofs.ops.recv_write_indirection_table.Tie as tie
+use Rattle.disk.proofs.Disk.recv_write_indirection_table.Tie as tie
 
 valid-indirection-table-location-requires : tie.Need-valid-indirection-table-location-requires
 valid-indirection-table-location-requires c κs = search needs
@@ -24,7 +24,7 @@ returns-2 : tie.Need-returns-2
 unfolding requestTurn
 returns-2 c =
     let e = simp (c .before .before .before .before .ask .ensures, c .before .before .before .before .before .valid-indirection-table-location .ensures) at (c .before .before .before .if1 .left) in
-    simp (c .before .before .before .before .ask .ensures, c .before .before .before .before .before .valid-indirection-table-location .ensures, c .with-table .ensures, eq-eqb _ _ e, e)
+    simp (c .before .before .before .before .ask .ensures, c .before .before .before .before .before .valid-indirection-table-location .ensures, c .with-table .ensures, e)
 
 pub recv-write-indirection-table-spec : {M : Type 1} → statement M
 recv-write-indirection-table-spec =

@@ -1,8 +1,8 @@
 -- Arm by arm, by what the method ensures. Assumes nothing.
 use borrow.Author.Needs.{needs}
-use Rattle.disk.proofs.ops.dispatch.Statement.{statement}
+use Rattle.disk.proofs.Disk.dispatch.Statement.{statement}
 use Rattle.blockdisk.specs.Ops.{callOutcome}
-use Rattle.disk.proofs.ops.dispatch.Tie as tie
+use Rattle.disk.proofs.Disk.dispatch.Tie as tie
 
 enum-known-op : tie.Need-enum-known-op
 enum-known-op c = search needs

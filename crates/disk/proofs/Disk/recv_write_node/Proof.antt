@@ -1,9 +1,9 @@
 -- Refused: the disk as it was. Accepted: by what the callees ensure. Assumes nothing.
 use borrow.Author.Needs.{needs}
-use borrow.Author.Tests.{eq-eqb, ne-eqb}
-use Rattle.disk.proofs.ops.recv_write_node.Statement.{statement}
+use borrow.Author.Tests.{ne-eqb}
+use Rattle.disk.proofs.Disk.recv_write_node.Statement.{statement}
 use Rattle.blockdisk.specs.Ops.{requestTurn}
-use Rattle.disk.proofs.ops.recv_write_node.Tie as tie
+use Rattle.disk.proofs.Disk.recv_write_node.Tie as tie
 
 node-place-requires : tie.Need-node-place-requires
 node-place-requires c κs = search needs
@@ -24,7 +24,7 @@ returns-2 : tie.Need-returns-2
 unfolding requestTurn
 returns-2 c =
     let e = simp (c .before .before .before .before .ask .ensures, c .before .before .before .before .before .node-place .ensures) at (c .before .before .before .if1 .left) in
-    simp (c .before .before .before .before .ask .ensures, c .before .before .before .before .before .node-place .ensures, c .with-node .ensures, eq-eqb _ _ e, e)
+    simp (c .before .before .before .before .ask .ensures, c .before .before .before .before .before .node-place .ensures, c .with-node .ensures, e)
 
 pub recv-write-node-spec : {M : Type 1} → statement M
 recv-write-node-spec =

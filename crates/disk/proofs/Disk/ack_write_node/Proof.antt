@@ -1,9 +1,9 @@
 -- Refused: the disk as it was. Accepted: by what the callees ensure. Assumes nothing.
 use borrow.Author.Needs.{needs}
-use borrow.Author.Tests.{eq-eqb, ne-eqb}
-use Rattle.disk.proofs.ops.ack_write_node.Statement.{statement}
+use borrow.Author.Tests.{ne-eqb}
+use Rattle.disk.proofs.Disk.ack_write_node.Statement.{statement}
 use Rattle.blockdisk.specs.Ops.{answerTurn}
-use Rattle.disk.proofs.ops.ack_write_node.Tie as tie
+use Rattle.disk.proofs.Disk.ack_write_node.Tie as tie
 
 take-requires : tie.Need-take-requires
 take-requires c κs = search needs
@@ -18,7 +18,7 @@ returns-2 : tie.Need-returns-2
 unfolding answerTurn
 returns-2 c =
     let e = simp (c .before .before .take .ensures) at (c .before .if1 .left) in
-    simp (c .before .before .take .ensures, eq-eqb _ _ e, e)
+    simp (c .before .before .take .ensures, e)
 
 pub ack-write-node-spec : {M : Type 1} → statement M
 ack-write-node-spec = tie.close (tie.spec take-requires returns returns-2)
