@@ -8,6 +8,7 @@ pub mod KeepWrite
 pub mod KeepSteps
 pub mod Accepting
 pub mod PictureSteps
+pub mod PictureNumbers
 pub mod Tallies
 pub mod Counting
 pub mod Keep

@@ -2,6 +2,7 @@
 ghost use mathlib.Core.Path.{_≡_};
 ghost use Rattle.blocksystem.specs.Format.{rootNode, rootTable, formattedRecords, formatted};
 ghost use Rattle.blocksystem.specs.Names.{zeroNamed, withRoot, firstPictures};
+use crate::Store;
 use blockdisk::DiskState;
 use blockdisk::NodeRecord;
 use blockdisk::Records;
@@ -65,34 +66,36 @@ fn formatted_records(at: Location, place: Location, contents: u64) -> Records
     r
 }
 
-// A newly formatted device; one above 2 gives 1 and zeros.
-pub fn format(device: u64, contents: u64) -> Outcome
-    ensures { λ o. ⌜ o ≡ formatted device contents ⌝ }
-{
-    let node = sector::zero_node();
-    let cache = cache::unready();
-    let queues = disk::empty_queues();
-    if 2 < device {
-        let records = disk::empty_records();
+impl Store {
+    // A newly formatted device; one above 2 gives 1 and zeros.
+    pub fn format(device: u64, contents: u64) -> Outcome
+        ensures { λ o. ⌜ o ≡ formatted device contents ⌝ }
+    {
+        let node = sector::zero_node();
+        let cache = cache::unready();
+        let queues = disk::empty_queues();
+        if 2 < device {
+            let records = disk::empty_records();
+            let disk = DiskState { records, queues };
+            return Outcome {
+                answer: 1,
+                node,
+                cache,
+                disk,
+            };
+        }
+        let t = layout::indirection_table1_addr(device);
+        let n = layout::first_node_addr(device);
+        let at = root_place(t.value);
+        let place = root_place(n.value);
+        let records = formatted_records(at, place, contents);
         let disk = DiskState { records, queues };
-        return Outcome {
-            answer: 1,
+        Outcome {
+            answer: 0,
             node,
             cache,
             disk,
-        };
-    }
-    let t = layout::indirection_table1_addr(device);
-    let n = layout::first_node_addr(device);
-    let at = root_place(t.value);
-    let place = root_place(n.value);
-    let records = formatted_records(at, place, contents);
-    let disk = DiskState { records, queues };
-    Outcome {
-        answer: 0,
-        node,
-        cache,
-        disk,
+        }
     }
 }
 

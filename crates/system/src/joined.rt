@@ -2,14 +2,14 @@
 ghost use mathlib.Core.Path.{_≡_};
 ghost use Rattle.base.specs.Refusals.{answer, lowest};
 ghost use Rattle.blocksystem.specs.Joined.{diskCall, startRows, joined};
+use crate::Store;
 use crate::start::wf_succs;
-use blockcache::CacheState;
 use blockcache::Call;
 use blockdisk::DiskCall;
 use blockdisk::DiskOp;
-use blockdisk::DiskState;
 use blockdisk::Records;
 use blocksystem::Outcome;
+use cache::Cache;
 use disk::Disk;
 
 // The lower of two answers, of which 0 is no refusal.
@@ -45,61 +45,61 @@ fn disk_call(number: u64, q: Call) -> DiskCall
     DiskCall { op, node, table }
 }
 
-// A start asks for a whole graph at the place given.
-fn ask_start(device: u64, q: Call, s: DiskState) -> u64
-    ensures { λ n. ⌜ n ≡ answer (startRows device 10 q s) ⌝ }
-{
-    let v = q.vop;
-    let loc = cache::vop_loc(v);
-    let r = s.records;
-    let whole = wf_succs(device, r, loc);
-    if whole {
-        return 0;
+impl Store {
+    // A start asks for a whole graph at the place given.
+    fn ask_start(self, q: Call) -> u64
+        ensures { λ n. ⌜ n ≡ answer (startRows (self .device) 10 q (self .disk)) ⌝ }
+    {
+        let v = q.vop;
+        let loc = cache::vop_loc(v);
+        let s = self.disk;
+        let r = s.records;
+        let whole = wf_succs(self.device, r, loc);
+        if whole {
+            return 0;
+        }
+        20
     }
-    20
-}
 
-// A crash is offered records, every other step asks the disk for its operation, and a start alone asks for a graph. The three are
-// asked here and not in a function between, as each call by value copies the disk.
-pub fn step(
-    device: u64,
-    number: u64,
-    q: Call,
-    offered: Records,
-    c: CacheState,
-    s: DiskState,
-) -> Outcome
-    ensures { λ o. ⌜ o ≡ joined device number q offered c s ⌝ }
-{
-    let a = cache::step(c, device, number, q);
-    let b = if number == 18 {
-        Disk { device, state: s }.crash(offered)
-    } else {
-        let asked = disk_call(number, q);
-        Disk { device, state: s }.next(asked)
-    };
-    let mut n20: u64 = 0;
-    if number == 10 {
-        n20 = ask_start(device, q, s);
-    }
-    let both = lower(a.answer, b.answer);
-    let n = lower(both, n20);
-    if n != 0 {
-        let node = sector::zero_node();
-        return Outcome {
-            answer: n,
-            node,
-            cache: c,
-            disk: s,
+    // The joined call: it asks cache and disk, and if either refuses, neither moves. A crash is offered records, every other step asks the
+    // disk for its operation, and a start alone asks for a graph. The three are asked here and not in a function between, as each call by
+    // value copies the disk.
+    pub fn step(self, number: u64, q: Call, offered: Records) -> Outcome
+        ensures { λ o. ⌜ o ≡ joined (self .device) number q offered (self .cache) (self .disk) ⌝ }
+    {
+        let device = self.device;
+        let c = self.cache;
+        let s = self.disk;
+        let a = Cache { device, state: c }.step(number, q);
+        let b = if number == 18 {
+            Disk { device, state: s }.crash(offered)
+        } else {
+            let asked = disk_call(number, q);
+            Disk { device, state: s }.next(asked)
         };
-    }
-    let node = a.node;
-    let cache = a.cache;
-    let disk = b.disk;
-    Outcome {
-        answer: 0,
-        node,
-        cache,
-        disk,
+        let mut n20: u64 = 0;
+        if number == 10 {
+            n20 = self.ask_start(q);
+        }
+        let both = lower(a.answer, b.answer);
+        let n = lower(both, n20);
+        if n != 0 {
+            let node = sector::zero_node();
+            return Outcome {
+                answer: n,
+                node,
+                cache: c,
+                disk: s,
+            };
+        }
+        let node = a.node;
+        let cache = a.cache;
+        let disk = b.disk;
+        Outcome {
+            answer: 0,
+            node,
+            cache,
+            disk,
+        }
     }
 }

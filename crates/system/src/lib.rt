@@ -1,12 +1,20 @@
-// CacheState and disk joined: formatting, the joined call, names and pictures, and what a crash has lost, as `blocksystem` defines them.
+// Cache and disk joined: formatting, the joined call, names and pictures, and what a crash has lost, as `blocksystem` defines them.
 mod formatting;
 mod joined;
 mod pictures;
 mod reading;
 mod start;
 
-pub use formatting::format;
+use blockcache::CacheState;
+use blockdisk::DiskState;
+
+// The store: cache and disk on one device. Its methods are all that a program calls; each call gets the store that the last one handed
+// back.
+pub struct Store {
+    pub device: u64,
+    pub cache: CacheState,
+    pub disk: DiskState,
+}
+
 pub use formatting::format_pictures;
-pub use joined::step;
 pub use pictures::pictures_after;
-pub use reading::audit;

@@ -2,7 +2,7 @@
 ghost use mathlib.Core.Path.{_≡_};
 ghost use Rattle.base.specs.Scan.{bit};
 ghost use Rattle.blocksystem.specs.Audit.{throughTable, isLost, isAdded, isAltered, tally, counted};
-use blockdisk::DiskState;
+use crate::Store;
 use blockdisk::NodeRecord;
 use blockdisk::Records;
 use blockdisk::TableRecord;
@@ -50,31 +50,35 @@ fn altered(x: NodeRecord, s: Slot) -> u64
     one_if(x.present & s.present & !same)
 }
 
-// The counts for one named place.
-pub fn audit(device: u64, s: DiskState, m: Named) -> Counts
-    ensures { λ c. ⌜ c ≡ counted device (s .records) m ⌝ }
-{
-    let r = s.records;
-    let place = m.place;
-    let picture = m.picture;
-    let x = disk::table_at(device, r, place);
-    let t = x.table;
-    let mut a: u64 = 0;
-    let mut b: u64 = 0;
-    let mut c: u64 = 0;
-    let mut i: usize = 0;
-    while i < 64 {
-        let e = t.entries[i];
-        let slot = picture.slots[i];
-        let y = through_table(device, r, x, e);
-        a += lost(y, slot);
-        b += added(y, slot);
-        c += altered(y, slot);
-        i += 1;
-    }
-    Counts {
-        lost: a,
-        added: b,
-        altered: c,
+impl Store {
+    // The counts for one named place.
+    pub fn audit(self, m: Named) -> Counts
+        ensures { λ c. ⌜ c ≡ counted (self .device) (self .disk .records) m ⌝ }
+    {
+        let device = self.device;
+        let s = self.disk;
+        let r = s.records;
+        let place = m.place;
+        let picture = m.picture;
+        let x = disk::table_at(device, r, place);
+        let t = x.table;
+        let mut a: u64 = 0;
+        let mut b: u64 = 0;
+        let mut c: u64 = 0;
+        let mut i: usize = 0;
+        while i < 64 {
+            let e = t.entries[i];
+            let slot = picture.slots[i];
+            let y = through_table(device, r, x, e);
+            a += lost(y, slot);
+            b += added(y, slot);
+            c += altered(y, slot);
+            i += 1;
+        }
+        Counts {
+            lost: a,
+            added: b,
+            altered: c,
+        }
     }
 }

@@ -1,6 +1,8 @@
 -- Arm by arm, by what the method ensures. Assumes nothing.
 use borrow.Author.Needs.{needs}
-use borrow.Author.Tests.{ne-eqb}
+use mathlib.Core.Path.{sym}
+use Rattle.blockcache.specs.Steps.{stepOf, steps}
+use Rattle.blocksystem.proofs.PictureNumbers.{pictures-same}
 use Rattle.system.proofs.pictures.pictures_after.Statement.{statement}
 use Rattle.blocksystem.specs.Names.{picturesAfter}
 use Rattle.system.proofs.pictures.pictures_after.Tie as tie
@@ -30,36 +32,38 @@ set-node-requires-2 : tie.Need-set-node-requires-2
 set-node-requires-2 c κs = search needs
 
 returns : tie.Need-returns
-unfolding picturesAfter
+unfolding picturesAfter stepOf steps
 returns c = simp (c .before .match .keys1) (rw (c .before .before .before .vop-loc .ensures) at (c .frozen-named .ensures))
 
 returns-2 : tie.Need-returns-2
-unfolding picturesAfter
+unfolding picturesAfter stepOf steps
 returns-2 c = simp (c .before .match .keys2) (c .removed .ensures)
 
 returns-3 : tie.Need-returns-3
-unfolding picturesAfter
+unfolding picturesAfter stepOf steps
 returns-3 c = simp (c .before .match .keys3) (rw (c .before .before .before .vop-loc .ensures) at (c .started-at .ensures))
 
 returns-4 : tie.Need-returns-4
-unfolding picturesAfter
+unfolding picturesAfter stepOf steps
 returns-4 c = simp (c .before .match .keys4) (c .freeze .ensures)
 
 returns-5 : tie.Need-returns-5
-unfolding picturesAfter
+unfolding picturesAfter stepOf steps
 returns-5 c = simp (c .before .match .keys5) (c .clean-up .ensures)
 
 returns-6 : tie.Need-returns-6
-unfolding picturesAfter
+unfolding picturesAfter stepOf steps
 returns-6 c = simp (c .before .match .keys6) (c .set-node .ensures)
 
 returns-7 : tie.Need-returns-7
-unfolding picturesAfter
+unfolding picturesAfter stepOf steps
 returns-7 c = simp (c .before .match .keys7) (c .set-node2 .ensures)
 
 returns-8 : tie.Need-returns-8
-unfolding picturesAfter
-returns-8 c = simp (ne-eqb _ _ (c .match .rest .1), ne-eqb _ _ (c .match .rest .0 .1), ne-eqb _ _ (c .match .rest .0 .0 .1), ne-eqb _ _ (c .match .rest .0 .0 .0 .1), ne-eqb _ _ (c .match .rest .0 .0 .0 .0 .1), ne-eqb _ _ (c .match .rest .0 .0 .0 .0 .0 .1), ne-eqb _ _ (c .match .rest .0 .0 .0 .0 .0 .0 .1))
+returns-8 c =
+    let r = c .match .rest in
+    let r12 = r .0 .0 .0 in
+    sym (pictures-same _ _ _ (r12 .0 .0 .0 .1) (r12 .0 .0 .1) (r12 .0 .1) (r12 .1) (r .0 .0 .1) (r .0 .1) (r .1))
 
 pub pictures-after-spec : {M : Type 1} → statement M
 pictures-after-spec =

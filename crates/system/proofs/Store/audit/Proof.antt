@@ -7,9 +7,9 @@ use Rattle.base.proofs.Scan.{count-none, count-turn}
 use Rattle.base.specs.Scan.{countBelow}
 use Rattle.sectortype.specs.Form.{entryAt, slotAt}
 use Rattle.blocksystem.proofs.Tallies.{count-end, count-fits, tally-fits}
-use Rattle.system.proofs.reading.audit.Statement.{statement}
+use Rattle.system.proofs.Store.audit.Statement.{statement}
 use Rattle.blocksystem.specs.Audit.{counted, isAdded, isAltered, isLost, tally, throughTable}
-use Rattle.system.proofs.reading.audit.Tie as tie
+use Rattle.system.proofs.Store.audit.Tie as tie
 
 abbrev Inv-loop : tie.InvT-loop
 Inv-loop device r picture x t a₀ b₀ c₀ i₀ a b c i = (i ≤ 64) × (a ≡ countBelow (λ k. isLost (throughTable device r x (entryAt t k)) (slotAt picture k)) i) × (b ≡ countBelow (λ k. isAdded (throughTable device r x (entryAt t k)) (slotAt picture k)) i) × (c ≡ countBelow (λ k. isAltered (throughTable device r x (entryAt t k)) (slotAt picture k)) i)

@@ -1,9 +1,9 @@
 -- A device that is not made, and one that is. Assumes nothing.
 use borrow.Author.Needs.{needs}
 use borrow.Author.Tests.{le-leb, lt-leb}
-use Rattle.system.proofs.formatting.format.Statement.{statement}
+use Rattle.system.proofs.Store.format.Statement.{statement}
 use Rattle.blocksystem.specs.Format.{formatted}
-use Rattle.system.proofs.formatting.format.Tie as tie
+use Rattle.system.proofs.Store.format.Tie as tie
 
 zero-node-requires : tie.Need-zero-node-requires
 zero-node-requires c κs = search needs
