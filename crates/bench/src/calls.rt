@@ -9,6 +9,7 @@ use disklayout::Location;
 use sectortype::Node;
 use sectortype::Succs;
 use sectortype::Table;
+use system::Store;
 
 // The device and the contents number of this round, the counts and the checksum so far, and the store.
 pub struct State {
@@ -44,7 +45,12 @@ pub fn offer(s: State, number: u64, q: Call, offered: Records) -> State {
     let before = s.store;
     let cache = before.cache;
     let disk = before.disk;
-    let o = system::step(s.device, number, q, offered, cache, disk);
+    let store = Store {
+        device: s.device,
+        cache,
+        disk,
+    };
+    let o = store.step(number, q, offered);
     let node = o.node;
     let answered = mixed(s.checksum, o.answer);
     State {

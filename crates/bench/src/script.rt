@@ -28,6 +28,7 @@ use blockcache::VersionOp;
 use blockdisk::Brought;
 use blockdisk::DiskOp;
 use sectortype::Node;
+use system::Store;
 
 // Reference r as the script first writes it: it names the one before it, and the root.
 fn leaf(base: u64, r: u8) -> Node {
@@ -194,7 +195,7 @@ fn again(s: State) -> State {
 
 // The store newly formatted on this device, with this contents number; counts and checksum as they were.
 fn formatted(s: State, device: u64, base: u64) -> State {
-    let o = system::format(device, base);
+    let o = Store::format(device, base);
     State {
         device,
         base,
@@ -218,7 +219,7 @@ pub fn round(s: State, i: u64) -> State {
 
 // Nothing called yet.
 pub fn start() -> State {
-    let o = system::format(0, 0);
+    let o = Store::format(0, 0);
     State {
         device: 0,
         base: 0,

@@ -22,6 +22,7 @@ use fixtures::table_record;
 use sectortype::Node;
 use sectortype::Nodes;
 use sectortype::Table;
+use system::Store;
 
 fn audited(name: &[u8], picture: Nodes, r: Records) {
     let place = at(AREA1, 4096);
@@ -31,7 +32,13 @@ fn audited(name: &[u8], picture: Nodes, r: Records) {
         place,
         picture,
     };
-    let c = system::audit(0, s, m);
+    let cache = cache::unready();
+    let store = Store {
+        device: 0,
+        cache,
+        disk: s,
+    };
+    let c = store.audit(m);
     counts(name, c.lost, c.added, c.altered);
 }
 

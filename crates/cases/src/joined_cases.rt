@@ -36,9 +36,15 @@ use fixtures::with_frozen;
 use fixtures::with_reads;
 use fixtures::with_writes;
 use queue::Requests;
+use system::Store;
 
 fn both(name: &[u8], number: u64, q: Call, offered: Records, c: CacheState, s: DiskState) {
-    let o = system::step(0, number, q, offered, c, s);
+    let store = Store {
+        device: 0,
+        cache: c,
+        disk: s,
+    };
+    let o = store.step(number, q, offered);
     let d = o.cache;
     let t = o.disk;
     let n = changed(c, d, s, t);

@@ -6,6 +6,7 @@ use blockdisk::DiskCall;
 use blockdisk::DiskOp;
 use blockdisk::NodeRecord;
 use blockdisk::TableRecord;
+use cache::Cache;
 use disk::Disk;
 use disklayout::Location;
 use fixtures::AREA1;
@@ -264,7 +265,7 @@ fn devices(name: &[u8], device: u64) {
     let table = sector::empty_table();
     let op = DiskOp::NoDiskOp;
     let call = DiskCall { op, node, table };
-    let a = cache::step(c, device, 14, q);
+    let a = Cache { device, state: c }.step(14, q);
     let b = Disk { device, state: s }.next(call);
     let d = Disk { device, state: s }.crash(none);
     pair(b"cache_on", name, a.answer);

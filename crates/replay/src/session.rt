@@ -3,49 +3,48 @@
 use crate::print;
 use crate::print::Tally;
 use crate::show;
-use blockcache::CacheState;
 use blockcache::Call;
-use blockdisk::DiskState;
 use blockdisk::Records;
 use blocksystem::Named;
 use blocksystem::Outcome;
 use blocksystem::Pictures;
+use system::Store;
 use words::line::Line;
 
-// A sequence of calls on one device: where it stands, and its names and pictures.
-pub struct Store {
-    pub device: u64,
-    pub cache: CacheState,
-    pub disk: DiskState,
+// A sequence of calls on one device: the store as the last call left it, and its names and pictures.
+pub struct Sequence {
+    pub store: Store,
     pub pictures: Pictures,
 }
 
-// Until a `format` has been accepted no sequence has been started, and what stands in `store` is not used.
+// Until a `format` has been accepted no sequence has been started, and what is in `sequence` is not used.
 pub struct Session {
     pub started: bool,
-    pub store: Store,
+    pub sequence: Sequence,
     pub tally: Tally,
 }
 
-// The store after a call that was accepted.
-fn moved(device: u64, o: Outcome, pictures: Pictures) -> Store {
+// The sequence after a call that was accepted.
+fn moved(device: u64, o: Outcome, pictures: Pictures) -> Sequence {
     let cache = o.cache;
     let disk = o.disk;
-    Store {
-        device,
-        cache,
-        disk,
+    Sequence {
+        store: Store {
+            device,
+            cache,
+            disk,
+        },
         pictures,
     }
 }
 
 pub fn unstarted() -> Session {
-    let o = system::format(0, 0);
+    let o = Store::format(0, 0);
     let pictures = system::format_pictures(0, 0);
-    let store = moved(0, o, pictures);
+    let sequence = moved(0, o, pictures);
     Session {
         started: false,
-        store,
+        sequence,
         tally: print::nothing(),
     }
 }
@@ -64,38 +63,33 @@ fn comes_before(a: Named, b: Named) -> bool {
 
 fn audit_one(line: u64, store: Store, named: Named) {
     if named.present {
-        let disk = store.disk;
-        let c = system::audit(store.device, disk, named);
+        let c = store.audit(named);
         print::counts(line, named.place, c);
     }
 }
 
-impl Store {
+impl Sequence {
     // Each named place, by ascending address.
     fn audit(self, line: u64) {
+        let store = self.store;
         let pictures = self.pictures;
         let first = pictures.first;
         let second = pictures.second;
         if comes_before(second, first) {
-            audit_one(line, self, second);
-            audit_one(line, self, first);
+            audit_one(line, store, second);
+            audit_one(line, store, first);
         } else {
-            audit_one(line, self, first);
-            audit_one(line, self, second);
+            audit_one(line, store, first);
+            audit_one(line, store, second);
         }
     }
 
     fn show(self, line: u64) {
-        let cache = self.cache;
-        let disk = self.disk;
+        let store = self.store;
+        let cache = store.cache;
+        let disk = store.disk;
         show::sizes(line, cache);
-        show::blocks(line, self.device, cache, disk);
-    }
-
-    fn step(self, number: u64, call: Call, offered: Records) -> Outcome {
-        let cache = self.cache;
-        let disk = self.disk;
-        system::step(self.device, number, call, offered, cache, disk)
+        show::blocks(line, store.device, cache, disk);
     }
 }
 
@@ -122,22 +116,23 @@ impl Session {
 
     // A refused `format` leaves the sequence before it as it was.
     fn format(self, device: u64, contents: u64) -> Session {
-        let o = system::format(device, contents);
+        let o = Store::format(device, contents);
         let answer = o.answer;
         print::answer(self.tally.lines, answer);
         let mut next = self.counted(answer);
         if answer == 0 {
             let pictures = system::format_pictures(device, contents);
-            let store = moved(device, o, pictures);
+            let sequence = moved(device, o, pictures);
             next.started = true;
-            next.store = store;
+            next.sequence = sequence;
         }
         next
     }
 
     // Makes a call, prints what it answers, and keeps names and pictures where it is accepted.
     fn call(self, number: u64, call: Call, offered: Records) -> Session {
-        let store = self.store;
+        let sequence = self.sequence;
+        let store = sequence.store;
         let o = store.step(number, call, offered);
         let answer = o.answer;
         if number == 17 {
@@ -147,10 +142,10 @@ impl Session {
         }
         let mut next = self.counted(answer);
         if answer == 0 {
-            let before = store.pictures;
+            let before = sequence.pictures;
             let pictures = system::pictures_after(before, number, call);
             let after = moved(store.device, o, pictures);
-            next.store = after;
+            next.sequence = after;
         }
         next
     }
@@ -162,7 +157,8 @@ impl Session {
         if !q.ok {
             return self.error();
         }
-        let store = self.store;
+        let sequence = self.sequence;
+        let store = sequence.store;
         let cache = store.cache;
         let disk = store.disk;
         let stored = disk.records;
@@ -183,16 +179,16 @@ impl Session {
         if !self.started {
             return self.error();
         }
-        let store = self.store;
+        let sequence = self.sequence;
         let line = self.tally.lines;
         match kind {
             Line::Step(n) => self.step(n, words::line::rest(s)),
             Line::Audit => {
-                store.audit(line);
+                sequence.audit(line);
                 self
             }
             Line::Show => {
-                store.show(line);
+                sequence.show(line);
                 self
             }
             Line::Format(d, c) => self.format(d, c),

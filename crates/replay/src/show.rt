@@ -3,8 +3,8 @@ use crate::print;
 use blockcache::CacheState;
 use blockcache::Phase;
 use blockdisk::DiskState;
+use cache::is_ready;
 use queue::Requests;
-use script::calls::is_ready;
 use sectortype::Table;
 use words::digits::wide;
 
@@ -26,7 +26,7 @@ fn counted(ready: bool, n: u8) -> u64 {
 
 pub fn sizes(line: u64, cache: CacheState) {
     let phase = cache.phase;
-    let ready = is_ready(cache);
+    let ready = is_ready(phase);
     print::word(b"line=", line);
     print::text(b" phase=");
     phase_name(phase);
@@ -111,7 +111,8 @@ fn letter(w: bool, p: bool, e: bool, f: bool, o: bool) -> u8 {
 
 // A letter for each block, by who has its address: outside Ready only what is stored counts.
 fn letters(device: u64, cache: CacheState, disk: DiskState) -> [u8; 128] {
-    let ready = is_ready(cache);
+    let phase = cache.phase;
+    let ready = is_ready(phase);
     let tables = cache.tables;
     let records = disk.records;
     let frozen = ready & tables.isfrozen;

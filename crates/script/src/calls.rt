@@ -1,6 +1,5 @@
 // The call that a request makes on a cache and a disk.
 ghost use mathlib.Core.Path.{_≡_};
-ghost use Rattle.blockcache.specs.Form.{isReady};
 ghost use Rattle.script.specs.Calls.{someNode, nothingNode, storedNode, cachedNode, nodeValue, someTable, nothingTable, storedTable, cacheTable, tableValue, bringingOf, callOf};
 use crate::request::NodeSource;
 use crate::request::NodeWord;
@@ -9,10 +8,10 @@ use crate::request::TableSource;
 use crate::request::TableWord;
 use blockcache::CacheState;
 use blockcache::Call;
-use blockcache::Phase;
 use blockdisk::Brought;
 use blockdisk::DiskOp;
 use blockdisk::DiskState;
+use cache::is_ready;
 use sectortype::Node;
 use sectortype::Nodes;
 use sectortype::Table;
@@ -113,17 +112,6 @@ fn cached_node(nodes: Nodes, reference: u64) -> Node
     sector::zero_node()
 }
 
-pub fn is_ready(cache: CacheState) -> bool
-    ensures { λ r. ⌜ r ≡ isReady cache ⌝ }
-{
-    let phase = cache.phase;
-    match phase {
-        Phase::Unready => false,
-        Phase::Loading => false,
-        Phase::Ready => true,
-    }
-}
-
 // One of the cache's tables, or the empty one where it is not there.
 fn cache_table(present: bool, t: Table) -> BroughtTable
     ensures { λ r. ⌜ r ≡ cacheTable present t ⌝ }
@@ -163,7 +151,8 @@ fn table_value(
 ) -> BroughtTable
     ensures { λ r. ⌜ r ≡ tableValue (w .source) (w .table) id device cache disk ⌝ }
 {
-    let ready = is_ready(cache);
+    let phase = cache.phase;
+    let ready = is_ready(phase);
     let tables = cache.tables;
     let source = w.source;
     match source {
