@@ -60,7 +60,8 @@ fn ask_start(device: u64, q: Call, s: DiskState) -> u64
 }
 
 // A crash is offered records, every other step asks the disk for its operation, and a start alone asks for a graph. The three are
-// asked here and not in a function between, as each call by value copies the disk.
+// asked here and not in a function between, as each call by value copies the disk; for the same reason the disk is made once, and no
+// part of it is read but from there.
 pub fn step(
     device: u64,
     number: u64,
@@ -71,21 +72,24 @@ pub fn step(
 ) -> Outcome
     ensures { λ o. ⌜ o ≡ joined device number q offered c s ⌝ }
 {
+    let d = Disk { device, state: s };
     let a = cache::step(c, device, number, q);
     let b = if number == 18 {
-        Disk { device, state: s }.crash(offered)
+        d.crash(offered)
     } else {
         let asked = disk_call(number, q);
-        Disk { device, state: s }.next(asked)
+        d.next(asked)
     };
     let mut n20: u64 = 0;
     if number == 10 {
+        let s = d.state;
         n20 = ask_start(device, q, s);
     }
     let both = lower(a.answer, b.answer);
     let n = lower(both, n20);
     if n != 0 {
         let node = sector::zero_node();
+        let s = d.state;
         return Outcome {
             answer: n,
             node,
