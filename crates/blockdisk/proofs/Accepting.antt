@@ -13,7 +13,8 @@ use Rattle.blockdisk.specs.Ops.{answerRows, diskRows, opRows, requestRow
 use Rattle.blockdisk.specs.declared.DiskState.{DiskState}
 use Rattle.blockdisk.specs.declared.DiskCall.{DiskCall}
 use Rattle.blockdisk.specs.declared.DiskOp.{DiskOp}
-use Rattle.blockdisk.specs.declared.DiskOp.the-variants.{NoDiskOp, ReqReadIndirectionTableOp, ReqReadNodeOp, ReqWriteIndirectionTableOp, ReqWriteNodeOp, RespReadIndirectionTableOp, RespReadNodeOp, RespWriteIndirectionTableOp, RespWriteNodeOp}
+use Rattle.blockdisk.specs.declared.DiskOp.the-variants.{NoDiskOp, ReqReadIndirectionTableOp, ReqReadNodeOp, ReqWriteIndirectionTableOp, ReqWriteNodeOp}
+use Rattle.blockdisk.specs.declared.DiskOp.the-variants.{RespReadIndirectionTableOp, RespReadNodeOp, RespWriteIndirectionTableOp, RespWriteNodeOp}
 use Rattle.queue.specs.Queue.{hasOf}
 use Rattle.queue.specs.declared.Requests.{Requests}
 use Rattle.sectortype.specs.Form.{nodeForm, tableForm}

@@ -10,10 +10,12 @@ use Rattle.base.proofs.Refusals.{accepted-iff}
 use Rattle.base.proofs.Scan.{all-iff}
 use Rattle.base.proofs.Tests.{and-both, and-iff, never, not-iff}
 use Rattle.base.specs.Refusals.{answer, ascending}
-use Rattle.blockdisk.proofs.Forms.{DiskForm, both, disk-form-iff, node-placed-iff, node-queue-form, queued-node-place, queued-table-place, records-form-iff, records-placed-iff, table-placed-iff, table-queue-form}
+use Rattle.blockdisk.proofs.Forms.{DiskForm, both, disk-form-iff, node-placed-iff, node-queue-form, queued-node-place, queued-table-place, records-form-iff}
+use Rattle.blockdisk.proofs.Forms.{records-placed-iff, table-placed-iff, table-queue-form}
 use Rattle.blockdisk.proofs.Havoc.{havoc-iff, kept-stored}
 use Rattle.blockdisk.proofs.Outstanding.{queue-iff, written-iff}
-use Rattle.blockdisk.proofs.RecordArrays.{node-laws, nodeArray, nodes-are-formed, nodes-are-placed, nodes-read, table-laws, tableArray, tables-are-formed, tables-are-placed, tables-read, upstream-laws, upstream-read, upstreamArray}
+use Rattle.blockdisk.proofs.RecordArrays.{node-laws, nodeArray, nodes-are-formed, nodes-are-placed, nodes-read, table-laws, tableArray, tables-are-formed, tables-are-placed}
+use Rattle.blockdisk.proofs.RecordArrays.{tables-read, upstream-laws, upstream-read, upstreamArray}
 use Rattle.blockdisk.specs.Crash.{crashRows, crashed, keptNode, keptTable, nodesKept, recordsKept, tablesKept}
 use Rattle.blockdisk.specs.Form.{diskForm, nodeQueueForm, nodeRecordChecked, nodeRequestOk, recordsChecked, tableQueueForm, tableRecordChecked, tableRequestOk}
 use Rattle.blockdisk.specs.Records.{emptyRecords, defaultNodeRecord, defaultTableRecord, nodeRecordAt, tableRecordAt, zeroNodeRecord, zeroTableRecord}
@@ -149,7 +151,8 @@ module _ (d : ℕ) (s : DiskState) (o : Records) (f : DiskForm d s) (g : records
 -- WHAT STAYS STORED: where no write is outstanding at the address
 
 module _ (d : ℕ) (s : DiskState) (o : Records) (e : answer (crashRows d s o) ≡ 0) (l : Location) where
-  pub crash-keeps-node : (n : Node) → nodesStored d (s .records) l ≡ some n → ((id : ℕ) (k : Location) → places (s .queues .nodewrites) id ≡ some k → k .addr ≡ l .addr → ⊥) → nodesStored d o l ≡ some n
+  pub crash-keeps-node : (n : Node) → nodesStored d (s .records) l ≡ some n →
+      ((id : ℕ) (k : Location) → places (s .queues .nodewrites) id ≡ some k → k .addr ≡ l .addr → ⊥) → nodesStored d o l ≡ some n
   crash-keeps-node n h free =
       let c = crash-ok-iff d s o .0 e in
       let q = s .queues .nodewrites in
@@ -158,7 +161,8 @@ module _ (d : ℕ) (s : DiskState) (o : Records) (e : answer (crashRows d s o) �
       (kept-stored (nodeArray d) q (node-laws d) (s .records .nodes) (o .nodes) (nodes-are-formed d (s .records) (c .disk .form)) (nodes-are-formed d o (c .form)) kept l n
       (rw (nodes-read d (s .records) (c .disk .on)) at h) (written-iff q (l .addr) (node-queue-form d q (c .disk .nodewrites)) .1 free))
 
-  pub crash-keeps-table : (t : Table) → tablesStored d (s .records) l ≡ some t → ((id : ℕ) (k : Location) → places (s .queues .tablewrites) id ≡ some k → k .addr ≡ l .addr → ⊥) → tablesStored d o l ≡ some t
+  pub crash-keeps-table : (t : Table) → tablesStored d (s .records) l ≡ some t →
+      ((id : ℕ) (k : Location) → places (s .queues .tablewrites) id ≡ some k → k .addr ≡ l .addr → ⊥) → tablesStored d o l ≡ some t
   crash-keeps-table t h free =
       let c = crash-ok-iff d s o .0 e in
       let q = s .queues .tablewrites in

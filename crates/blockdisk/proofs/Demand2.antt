@@ -21,12 +21,14 @@ use Rattle.blockdisk.specs.Crash.{crashRows, crashed, emptyQueues}
 use Rattle.blockdisk.specs.Form.{diskForm, recordsChecked}
 use Rattle.blockdisk.specs.Ops.{answerRows, diskRows, nextDisk, nodePlace, opRows, requestRows, somethingIn, tablePlace, nodeNotStored, tableNotStored}
 use Rattle.blockdisk.specs.Records.{withNode, withTable}
-use Rattle.blockdisk.specs.Upstream.{Crash, Imap, Init, Next, Variables, diskVars, dopOf, nodesStored, opOf, places, setNodes, setTables, setWriteNodes, setWriteTables, tablesStored, upstreamTables}
+use Rattle.blockdisk.specs.Upstream.{Crash, Imap, Init, Next, Variables, diskVars, dopOf, nodesStored, opOf, places, setNodes, setTables, setWriteNodes, setWriteTables}
+use Rattle.blockdisk.specs.Upstream.{tablesStored, upstreamTables}
 use Rattle.blockdisk.specs.declared.Brought.{Brought}
 use Rattle.blockdisk.specs.declared.DiskState.{DiskState}
 use Rattle.blockdisk.specs.declared.DiskCall.{DiskCall}
 use Rattle.blockdisk.specs.declared.DiskOp.{DiskOp}
-use Rattle.blockdisk.specs.declared.DiskOp.the-variants.{NoDiskOp, ReqReadIndirectionTableOp, ReqReadNodeOp, ReqWriteIndirectionTableOp, ReqWriteNodeOp, RespReadIndirectionTableOp, RespReadNodeOp, RespWriteIndirectionTableOp, RespWriteNodeOp}
+use Rattle.blockdisk.specs.declared.DiskOp.the-variants.{NoDiskOp, ReqReadIndirectionTableOp, ReqReadNodeOp, ReqWriteIndirectionTableOp, ReqWriteNodeOp}
+use Rattle.blockdisk.specs.declared.DiskOp.the-variants.{RespReadIndirectionTableOp, RespReadNodeOp, RespWriteIndirectionTableOp, RespWriteNodeOp}
 use Rattle.blockdisk.specs.declared.Records.{Records}
 use Rattle.disklayout.specs.Blocks.{NodePlace}
 use Rattle.disklayout.specs.Device.{deviceOf, made}
@@ -53,14 +55,16 @@ brought-iff q id m true a there = (
 brought-iff q id m false a there = ((λ h loc e y. absurd (false≢true y)), (λ h y. absurd (false≢true y)))
 
 module _ (d : ℕ) (s : DiskState) (f : DiskForm d s) (id : ℕ) (b : Brought) where
-  pub wrong-node-iff : (n : Node) → nodeForm n ≡ true → (nodeNotStored d s id b n ≡ false) ↔ (somethingIn b ≡ true → nodesStored d (s .records) (entryOf (s .queues .nodereads) id .loc) ≡ some n)
+  pub wrong-node-iff : (n : Node) → nodeForm n ≡ true →
+      (nodeNotStored d s id b n ≡ false) ↔ (somethingIn b ≡ true → nodesStored d (s .records) (entryOf (s .queues .nodereads) id .loc) ≡ some n)
   unfolding nodeNotStored
   wrong-node-iff n g =
       let l = entryOf (s .queues .nodereads) id .loc in
       let is = node-is-iff d (s .records) (f .on) (f .form) l n g in
       simp (and-false-iff, not-iff, is) Iff·rfl
 
-  pub wrong-table-iff : (t : Table) → tableForm t ≡ true → (tableNotStored d s id b t ≡ false) ↔ (somethingIn b ≡ true → upstreamTables d (s .records) (entryOf (s .queues .tablereads) id .loc) ≡ some (indirectionTable t))
+  pub wrong-table-iff : (t : Table) → tableForm t ≡ true →
+      (tableNotStored d s id b t ≡ false) ↔ (somethingIn b ≡ true → upstreamTables d (s .records) (entryOf (s .queues .tablereads) id .loc) ≡ some (indirectionTable t))
   unfolding tableNotStored
   wrong-table-iff t g =
       let l = entryOf (s .queues .tablereads) id .loc in
@@ -163,7 +167,10 @@ module _ (d : ℕ) (s : DiskState) (f : DiskForm d s) (n : Node) (t : Table) (fn
 pub disk-accepted : (d : ℕ) (s : DiskState) (c : DiskCall) →
     (answer (diskRows d s c) ≡ 0) ↔ (NoneOf (1 ∷ 16 ∷ 18 ∷ []) (diskRows d s c) × ((s' : Variables) × Next (diskVars d s) s' (dopOf c)))
 disk-accepted d s c = (
-  (λ e. (clear-none-of (1 ∷ 16 ∷ 18 ∷ []) (diskRows d s c) (accepted-iff (diskRows d s c) (disk-ascending d s c) .0 e), (diskVars d (nextDisk d s (c .op) (c .node) (c .table)), disk-allowed d s c e))),
+  (λ e. (
+    clear-none-of (1 ∷ 16 ∷ 18 ∷ []) (diskRows d s c) (accepted-iff (diskRows d s c) (disk-ascending d s c) .0 e),
+    (diskVars d (nextDisk d s (c .op) (c .node) (c .table)), disk-allowed d s c e),
+  )),
   (λ (h, v). accept h (v .0) (v .1)),
 )
   where

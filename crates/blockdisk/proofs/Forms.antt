@@ -10,7 +10,8 @@ use lib.ListN.{length}
 use Rattle.base.proofs.Scan.{all-at, all-of}
 use Rattle.base.proofs.Tests.{and-iff, and-left, eqb-iff, not-iff, or-true-iff}
 use Rattle.blockdisk.proofs.Outstanding.{places-some, queue-iff}
-use Rattle.blockdisk.specs.Form.{diskForm, nodeQueueForm, nodeRecordChecked, nodeRequestOk, nodesChecked, queuesForm, recordsChecked, tableQueueForm, tableRecordChecked, tableRequestOk, tablesChecked}
+use Rattle.blockdisk.specs.Form.{diskForm, nodeQueueForm, nodeRecordChecked, nodeRequestOk, nodesChecked, queuesForm, recordsChecked, tableQueueForm, tableRecordChecked}
+use Rattle.blockdisk.specs.Form.{tableRequestOk, tablesChecked}
 use Rattle.blockdisk.specs.Records.{nodeRecordAt, tableRecordAt}
 use Rattle.blockdisk.specs.Upstream.{places}
 use Rattle.blockdisk.specs.declared.DiskState.{DiskState}

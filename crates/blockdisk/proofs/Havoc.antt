@@ -1,4 +1,4 @@
--- A crash on a shelf: the records that must stay are upstream's havocMap. Assumes nothing.
+-- A crash, of an array of records: those that must stay are upstream's havocMap. Assumes nothing.
 use Prim.Native.Nat.{_<_, ℕ}
 use mathlib.Core.Bool.{Bool, _&&_, _||_, false, not, true}
 use mathlib.Core.List.{List}

@@ -22,7 +22,8 @@ use Rattle.blockdisk.specs.Records.{defaultNodeRecord, defaultTableRecor
 use Rattle.blockdisk.specs.declared.DiskState.{DiskState}
 use Rattle.blockdisk.specs.declared.DiskCall.{DiskCall}
 use Rattle.blockdisk.specs.declared.DiskOp.{DiskOp}
-use Rattle.blockdisk.specs.declared.DiskOp.the-variants.{NoDiskOp, ReqReadIndirectionTableOp, ReqReadNodeOp, ReqWriteIndirectionTableOp, ReqWriteNodeOp, RespReadIndirectionTableOp, RespReadNodeOp, RespWriteIndirectionTableOp, RespWriteNodeOp}
+use Rattle.blockdisk.specs.declared.DiskOp.the-variants.{NoDiskOp, ReqReadIndirectionTableOp, ReqReadNodeOp, ReqWriteIndirectionTableOp, ReqWriteNodeOp}
+use Rattle.blockdisk.specs.declared.DiskOp.the-variants.{RespReadIndirectionTableOp, RespReadNodeOp, RespWriteIndirectionTableOp, RespWriteNodeOp}
 use Rattle.blockdisk.specs.declared.NodeRecord.{NodeRecord}
 use Rattle.blockdisk.specs.declared.Records.{Records}
 use Rattle.blockdisk.specs.declared.TableRecord.{TableRecord}
@@ -43,7 +44,8 @@ use Rattle.sectortype.specs.declared.Table.{Table}
 -- THE RECORDS
 
 -- a test that the record at each place passes, one place set
-set-each : {R : Type 0} (g : ℕ → R → Bool) (z : R) (l : List R) (n k : ℕ) (v : R) → k < length l → g k v ≡ true → ((j : ℕ) → j < n → g j (getD l j z) ≡ true) → (j : ℕ) → j < n → g j (getD (set l k v) j z) ≡ true
+set-each : {R : Type 0} (g : ℕ → R → Bool) (z : R) (l : List R) (n k : ℕ) (v : R) → k < length l → g k v ≡ true →
+    ((j : ℕ) → j < n → g j (getD l j z) ≡ true) → (j : ℕ) → j < n → g j (getD (set l k v) j z) ≡ true
 set-each g z l n k v b e h j c =
     rw (set-at-place l k v z j b) (split (eqb j k) (λ t. let q : j ≡ k = eqb-true j k t in rw t (rw q e)) (λ t. rw t (h j c)))
 
@@ -80,10 +82,11 @@ module _ (d : ℕ) (r : Records) (on : made d ≡ true) (form : recordsChecked d
     with-node-placed =
         let h = records-placed-iff d r .0 placed in
         let p = node-place-in-of (deviceOf d) (device-good d) block l allowed .1 node-number in
+        let in-place = node-placed-iff d block new-node .1 (λ e. (on, p)) in
         rw (with-node-is d r l x block on node-number)
         (records-placed-iff d node-after .1
         (record {
-          nodes-placed = set-each (λ j y. nodeRecordChecked d j y .placed) defaultNodeRecord (r .nodes) 128 block new-node node-fits (node-placed-iff d block new-node .1 (λ e. (on, p))) (h .nodes-placed);
+          nodes-placed = set-each (λ j y. nodeRecordChecked d j y .placed) defaultNodeRecord (r .nodes) 128 block new-node node-fits in-place (h .nodes-placed);
           tables-placed = h .tables-placed;
         }))
 
@@ -119,10 +122,11 @@ module _ (d : ℕ) (r : Records) (on : made d ≡ true) (form : recordsChecked d
     with-table-placed =
         let h = records-placed-iff d r .0 placed in
         let p = table-place-in-of (deviceOf d) area l allowed .1 table-number in
+        let in-place = table-placed-iff d area new-table .1 (λ e. (on, p)) in
         rw (with-table-is d r l x area on table-number)
         (records-placed-iff d table-after .1
         (record {
-          tables-placed = set-each (λ j y. tableRecordChecked d j y .placed) defaultTableRecord (r .tables) 2 area new-table table-fits (table-placed-iff d area new-table .1 (λ e. (on, p))) (h .tables-placed);
+          tables-placed = set-each (λ j y. tableRecordChecked d j y .placed) defaultTableRecord (r .tables) 2 area new-table table-fits in-place (h .tables-placed);
           nodes-placed = h .nodes-placed;
         }))
 

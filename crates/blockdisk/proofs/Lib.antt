@@ -1,6 +1,7 @@
 -- The laws of the disk.
 pub mod Accepting
 pub mod Crashing
+pub mod Decided
 pub mod Demand2
 pub mod Forms
 pub mod Havoc

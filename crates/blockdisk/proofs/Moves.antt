@@ -11,11 +11,14 @@ use Rattle.blockdisk.proofs.Forms.{DiskForm, node-queue-form, table-que
 use Rattle.blockdisk.proofs.Outstanding.{places-insert, places-remove}
 use Rattle.blockdisk.proofs.Reading.{node-leaves-tables, node-leaves-upstream, nodes-after, replacing, table-leaves-nodes, tables-after, upstream-after}
 use Rattle.blockdisk.specs.Ops.{diskRows, nextDisk, nodePlace, opRows, requestOf, tablePlace, nodeNotStored, tableNotStored}
-use Rattle.blockdisk.specs.Upstream.{Dop, Imap, Variables, diskVars, dopOf, noDiskOp, nodesStored, opOf, places, reqReadIndirectionTable, reqReadNode, reqWriteIndirectionTable, reqWriteNode, respReadIndirectionTable, respReadNode, respWriteIndirectionTable, respWriteNode, setNodes, setReadNodes, setReadTables, setTables, setWriteNodes, setWriteTables, tablesStored, upstreamTables}
+use Rattle.blockdisk.specs.Upstream.{Dop, Imap, Variables, diskVars, dopOf, noDiskOp, nodesStored, opOf, places, reqReadIndirectionTable, reqReadNode}
+use Rattle.blockdisk.specs.Upstream.{reqWriteIndirectionTable, reqWriteNode, respReadIndirectionTable, respReadNode, respWriteIndirectionTable, respWriteNode, setNodes}
+use Rattle.blockdisk.specs.Upstream.{setReadNodes, setReadTables, setTables, setWriteNodes, setWriteTables, tablesStored, upstreamTables}
 use Rattle.blockdisk.specs.declared.DiskState.{DiskState}
 use Rattle.blockdisk.specs.declared.DiskCall.{DiskCall}
 use Rattle.blockdisk.specs.declared.DiskOp.{DiskOp}
-use Rattle.blockdisk.specs.declared.DiskOp.the-variants.{NoDiskOp, ReqReadIndirectionTableOp, ReqReadNodeOp, ReqWriteIndirectionTableOp, ReqWriteNodeOp, RespReadIndirectionTableOp, RespReadNodeOp, RespWriteIndirectionTableOp, RespWriteNodeOp}
+use Rattle.blockdisk.specs.declared.DiskOp.the-variants.{NoDiskOp, ReqReadIndirectionTableOp, ReqReadNodeOp, ReqWriteIndirectionTableOp, ReqWriteNodeOp}
+use Rattle.blockdisk.specs.declared.DiskOp.the-variants.{RespReadIndirectionTableOp, RespReadNodeOp, RespWriteIndirectionTableOp, RespWriteNodeOp}
 use Rattle.disklayout.specs.Blocks.{NodePlace}
 use Rattle.disklayout.specs.Device.{deviceOf, made}
 use Rattle.disklayout.specs.Layout.{ValidIndirectionTableLocation}

@@ -13,7 +13,8 @@ use Rattle.base.proofs.Tests.{and-both, and-iff, clash, split}
 use Rattle.base.specs.Maps.{flagged}
 use Rattle.blockdisk.proofs.Forms.{records-form-iff}
 use Rattle.blockdisk.proofs.RecordArray.{reads, reads-iff, replaced-away, replaced-elsewhere, replaced-same, replaced-update}
-use Rattle.blockdisk.proofs.RecordArrays.{node-laws, nodeArray, nodes-are-formed, nodes-are-placed, nodes-read, table-laws, tableArray, tables-are-formed, tables-are-placed, tables-read, upstream-laws, upstream-read, upstreamArray}
+use Rattle.blockdisk.proofs.RecordArrays.{node-laws, nodeArray, nodes-are-formed, nodes-are-placed, nodes-read, table-laws, tableArray, tables-are-formed, tables-are-placed}
+use Rattle.blockdisk.proofs.RecordArrays.{tables-read, upstream-laws, upstream-read, upstreamArray}
 use Rattle.blockdisk.specs.Form.{recordsChecked}
 use Rattle.blockdisk.specs.Records.{nodeRecordAt, readNode, readTable, tableRecordAt, withNode, withTable}
 use Rattle.blockdisk.specs.Upstream.{DiskMapUpdate, Imap, nodesStored, tablesStored, upstreamTables}

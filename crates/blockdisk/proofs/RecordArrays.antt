@@ -1,4 +1,4 @@
--- The node blocks and the table areas of a device as shelves: what is stored is what the shelf reads. Assumes nothing.
+-- The node blocks and the table areas of a device, each as an array of records: what is stored is what the array reads. Assumes nothing.
 use Prim.Native.Nat.{ℕ}
 use mathlib.Core.Bool.{_&&_, cond, true}
 use mathlib.Core.Logic.{_↔_}
@@ -107,7 +107,7 @@ upstream-laws d =
     table-array-laws indirectionTable d
     (λ x y a b. ((λ e. table-abstract x y a b .1 (same-table-iff x y a b .0 e)), (λ e. same-table-iff x y a b .1 (table-abstract x y a b .0 e))))
 
--- WHAT IS STORED IS WHAT THE SHELF READS
+-- WHAT IS STORED IS WHAT THE ARRAY READS
 
 module _ (d : ℕ) (r : Records) (on : made d ≡ true) where
   pub nodes-read : nodesStored d r ≡ reads (nodeArray d) (r .nodes)

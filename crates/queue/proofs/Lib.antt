@@ -1,3 +1,4 @@
 -- The laws of the queue.
+pub mod Decided
 pub mod Laws
 pub mod Mapped

@@ -7,6 +7,7 @@ use crate::start::wf_succs;
 use blockcache::Call;
 use blockdisk::DiskCall;
 use blockdisk::DiskOp;
+use blockdisk::DiskState;
 use blockdisk::Records;
 use blocksystem::Outcome;
 use cache::Cache;
@@ -45,51 +46,61 @@ fn disk_call(number: u64, q: Call) -> DiskCall
     DiskCall { op, node, table }
 }
 
-impl Store {
-    // A start asks for a whole graph at the place given.
-    fn ask_start(self, q: Call) -> u64
-        ensures { λ n. ⌜ n ≡ answer (startRows (self .device) 10 q (self .disk)) ⌝ }
-    {
-        let v = q.vop;
-        let loc = cache::vop_loc(v);
-        let s = self.disk;
-        let r = s.records;
-        let whole = wf_succs(self.device, r, loc);
-        if whole {
-            return 0;
-        }
-        20
+// A start asks for a whole graph at the place given.
+fn ask_start(device: u64, q: Call, s: DiskState) -> u64
+    ensures { λ n. ⌜ n ≡ answer (startRows device 10 q s) ⌝ }
+{
+    let v = q.vop;
+    let loc = cache::vop_loc(v);
+    let r = s.records;
+    let whole = wf_succs(device, r, loc);
+    if whole {
+        return 0;
     }
+    20
+}
 
+impl Store {
     // The joined call: it asks cache and disk, and if either refuses, neither moves. A crash is offered records, every other step asks the
     // disk for its operation, and a start alone asks for a graph. The three are asked here and not in a function between, as each call by
-    // value copies the disk.
+    // value copies the disk; for the same reason cache and disk are made once, and no part of them is read but from there.
     pub fn step(self, number: u64, q: Call, offered: Records) -> Outcome
         ensures { λ o. ⌜ o ≡ joined (self .device) number q offered (self .cache) (self .disk) ⌝ }
     {
         let device = self.device;
-        let c = self.cache;
-        let s = self.disk;
-        let a = Cache { device, state: c }.step(number, q);
+        let held = self.cache;
+        let stored = self.disk;
+        let c = Cache {
+            device,
+            state: held,
+        };
+        let d = Disk {
+            device,
+            state: stored,
+        };
+        let a = c.step(number, q);
         let b = if number == 18 {
-            Disk { device, state: s }.crash(offered)
+            d.crash(offered)
         } else {
             let asked = disk_call(number, q);
-            Disk { device, state: s }.next(asked)
+            d.next(asked)
         };
         let mut n20: u64 = 0;
         if number == 10 {
-            n20 = self.ask_start(q);
+            let s = d.state;
+            n20 = ask_start(device, q, s);
         }
         let both = lower(a.answer, b.answer);
         let n = lower(both, n20);
         if n != 0 {
             let node = sector::zero_node();
+            let cache = c.state;
+            let disk = d.state;
             return Outcome {
                 answer: n,
                 node,
-                cache: c,
-                disk: s,
+                cache,
+                disk,
             };
         }
         let node = a.node;

@@ -1,4 +1,4 @@
--- Arm by arm, by what the method ensures. Assumes nothing.
+-- Arm by arm: the operation is the arm's, and the transition's own contract is the definition there. Assumes nothing.
 use borrow.Author.Needs.{needs}
 use Rattle.disk.proofs.Disk.dispatch.Statement.{statement}
 use Rattle.blockdisk.specs.Ops.{callOutcome}

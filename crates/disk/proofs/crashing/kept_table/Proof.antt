@@ -1,3 +1,4 @@
+-- By what the callees ensure. Assumes nothing.
 use borrow.Author.Needs.{needs}
 use Rattle.disk.proofs.crashing.kept_table.Statement.{statement}
 use Rattle.disk.proofs.crashing.kept_table.Tie as tie

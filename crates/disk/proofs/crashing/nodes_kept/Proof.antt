@@ -8,7 +8,6 @@ use Rattle.base.specs.Scan.{allBelow}
 use Rattle.disk.proofs.crashing.nodes_kept.Statement.{statement}
 use Rattle.blockdisk.specs.Crash.{keptNode, nodesKept}
 use Rattle.blockdisk.specs.Records.{defaultNodeRecord}
-use Rattle.disklayout.proofs.Devices.{good}
 use Rattle.disk.proofs.crashing.nodes_kept.Tie as tie
 
 abbrev Inv-loop : tie.InvT-loop

@@ -1,3 +1,4 @@
+-- By what the callees ensure. Assumes nothing.
 use borrow.Author.Needs.{needs}
 use Rattle.disk.proofs.crashing.same_node_record.Statement.{statement}
 use Rattle.disk.proofs.crashing.same_node_record.Tie as tie

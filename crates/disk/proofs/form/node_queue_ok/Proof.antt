@@ -8,7 +8,6 @@ use Rattle.base.proofs.Scan.{all-end, all-none, all-turn}
 use Rattle.base.specs.Scan.{allBelow}
 use Rattle.disk.proofs.form.node_queue_ok.Statement.{statement}
 use Rattle.blockdisk.specs.Form.{nodeQueueForm, nodeRequestOk}
-use Rattle.disklayout.proofs.Devices.{good}
 use Rattle.queue.specs.Queue.{requestAt}
 use Rattle.disk.proofs.form.node_queue_ok.Tie as tie
 

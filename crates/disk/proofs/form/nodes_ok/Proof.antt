@@ -11,7 +11,10 @@ use Rattle.blockdisk.specs.Records.{defaultNodeRecord}
 use Rattle.disk.proofs.form.nodes_ok.Tie as tie
 
 abbrev Inv-loop : tie.InvT-loop
-Inv-loop device nodes form₀ placed₀ i₀ form placed i = (i ≤ 128) × (form ≡ allBelow (λ k. nodeRecordChecked device k (getD nodes k defaultNodeRecord) .form) i) × (placed ≡ allBelow (λ k. nodeRecordChecked device k (getD nodes k defaultNodeRecord) .placed) i)
+Inv-loop device nodes form₀ placed₀ i₀ form placed i =
+    (i ≤ 128) ×
+    (form ≡ allBelow (λ k. nodeRecordChecked device k (getD nodes k defaultNodeRecord) .form) i) ×
+    (placed ≡ allBelow (λ k. nodeRecordChecked device k (getD nodes k defaultNodeRecord) .placed) i)
 
 abbrev μ-loop : tie.MeasureT-loop
 μ-loop device nodes form₀ placed₀ i₀ form placed i = 128 - i
@@ -35,12 +38,18 @@ loop-less : tie.Need-loop-less Inv-loop μ-loop
 loop-less c = search needs
 
 loop-again : tie.Need-loop-again Inv-loop μ-loop
-loop-again c = (search needs, all-turn _ _ (c .before .before .before .before .before .loop .inv .1) (ap (λ x. x .form) (c .before .before .node-record-ok .ensures)), all-turn _ _ (c .before .before .before .before .before .loop .inv .2) (ap (λ x. x .placed) (c .before .before .node-record-ok .ensures)))
+loop-again c =
+    let r = c .before .before in
+    let v = r .before .before .before .loop .inv in
+    let e = r .node-record-ok .ensures in
+    (search needs, all-turn _ _ (v .1) (ap (λ x. x .form) e), all-turn _ _ (v .2) (ap (λ x. x .placed) e))
 
 returns : tie.Need-returns Inv-loop μ-loop
 unfolding nodesChecked
 returns c =
-    simp (all-end _ (c .before .loop .inv .1) (c .before .loop .inv .0) (c .loop-test .left), all-end _ (c .before .loop .inv .2) (c .before .loop .inv .0) (c .loop-test .left))
+    let v = c .before .loop .inv in
+    let past = c .loop-test .left in
+    simp (all-end _ (v .1) (v .0) past, all-end _ (v .2) (v .0) past)
 
 pub nodes-ok-spec : {M : Type 1} → statement M
 nodes-ok-spec =

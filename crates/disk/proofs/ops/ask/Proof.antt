@@ -1,4 +1,4 @@
--- The rows in their order. Assumes nothing.
+-- The rows in their order: each return has the tests of the rows above it, by what `has` ensures. Assumes nothing.
 use mathlib.Core.Path.{_∙_, sym}
 use borrow.Author.Needs.{needs}
 use borrow.Author.Tests.{not-false, not-true}
@@ -20,7 +20,9 @@ returns-2 c = simp (sym (c .before .before .before .has .ensures) ∙ c .before 
 
 returns-3 : tie.Need-returns-3
 unfolding requestTurn answer
-returns-3 c = simp (sym (c .before .before .before .before .has .ensures) ∙ c .before .before .if1 .left, not-false (c .before .before .before .before .before .args .allowed) (c .before .if2 .left), c .if3 .taken)
+returns-3 c =
+    let h = c .before .before .before .before in
+    simp (sym (h .has .ensures) ∙ c .before .before .if1 .left, not-false (h .before .args .allowed) (c .before .if2 .left), c .if3 .taken)
 
 request-requires : tie.Need-request-requires
 request-requires c κs = search needs
@@ -30,7 +32,11 @@ insert-requires c κs = search needs
 
 returns-4 : tie.Need-returns-4
 unfolding requestTurn answer
-returns-4 c = simp (sym (c .before .before .before .before .before .before .has .ensures) ∙ c .before .before .before .before .if1 .left, not-false (c .before .before .before .before .before .before .before .args .allowed) (c .before .before .before .if2 .left), c .before .before .if3 .left, c .insert .ensures, c .before .request .ensures)
+returns-4 c =
+    let r = c .before .before in
+    let h = r .before .before .before .before in
+    let new = sym (h .has .ensures) ∙ r .before .before .if1 .left in
+    simp (new, not-false (h .before .args .allowed) (r .before .if2 .left), r .if3 .left, c .insert .ensures, c .before .request .ensures)
 
 pub ask-spec : {M : Type 1} → statement M
 ask-spec =

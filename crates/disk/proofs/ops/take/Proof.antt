@@ -1,4 +1,4 @@
--- The rows in their order. Assumes nothing.
+-- The rows in their order: each return has the tests of the rows above it, by what `has` ensures. Assumes nothing.
 use mathlib.Core.Path.{_∙_, sym}
 use borrow.Author.Needs.{needs}
 use borrow.Author.Tests.{not-false, not-true}

@@ -1,4 +1,5 @@
--- The block's number is below 128, so the remainder is the number itself. Assumes nothing.
+-- The block's number is below 128, so the remainder is the number itself; the test of the record there is the definition's.
+-- Assumes nothing.
 use borrow.Author.Needs.{needs}
 use Rattle.blockdisk.proofs.Numbers.{node-found, node-missing}
 use Rattle.disk.proofs.read.node_at.Statement.{statement}
@@ -17,13 +18,20 @@ same-loc-requires : tie.Need-same-loc-requires
 same-loc-requires c κs = search needs
 
 returns : tie.Need-returns
-returns c = node-found (c .before .before .before .before .before .before .before .before .args .device) (c .before .before .before .before .before .before .before .before .args .t2) (c .before .before .before .before .before .before .before .before .args .loc) (c .before .before .before .before .before .before .before .node-block-of .result) (c .before .before .before .before .before .before .before .node-block-of .ensures) (rw (c .before .before .before .same-loc .ensures) at (c .if1 .taken))
+returns c =
+    let n = c .before .before .before .before .before .before .before in
+    let a = n .before .args in
+    node-found (a .device) (a .t2) (a .loc) (n .node-block-of .result) (n .node-block-of .ensures) (rw (c .before .before .before .same-loc .ensures) at (c .if1 .taken))
 
 zero-node-record-requires : tie.Need-zero-node-record-requires
 zero-node-record-requires c κs = search needs
 
 returns-2 : tie.Need-returns-2
-returns-2 c = rw (c .zero-node-record .ensures) (node-missing (c .before .before .before .before .before .before .before .before .before .args .device) (c .before .before .before .before .before .before .before .before .before .args .t2) (c .before .before .before .before .before .before .before .before .before .args .loc) (c .before .before .before .before .before .before .before .before .node-block-of .result) (c .before .before .before .before .before .before .before .before .node-block-of .ensures) (rw (c .before .before .before .before .same-loc .ensures) at (c .before .if1 .left)))
+returns-2 c =
+    let n = c .before .before .before .before .before .before .before .before in
+    let a = n .before .args in
+    let here = rw (c .before .before .before .before .same-loc .ensures) at (c .before .if1 .left) in
+    rw (c .zero-node-record .ensures) (node-missing (a .device) (a .t2) (a .loc) (n .node-block-of .result) (n .node-block-of .ensures) here)
 
 pub node-at-spec : {M : Type 1} → statement M
 node-at-spec =

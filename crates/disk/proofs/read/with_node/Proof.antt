@@ -14,7 +14,10 @@ array-set-from-nodes : tie.Need-array-set-from-nodes
 array-set-from-nodes c = search needs
 
 returns : tie.Need-returns
-returns c = node-set (c .before .before .before .before .args .device) (c .before .before .before .before .args .r) (c .before .before .before .before .args .loc) (c .before .before .before .node-block-of .result) (c .before .before .before .before .args .node) (c .before .before .before .node-block-of .ensures)
+returns c =
+    let n = c .before .before .before in
+    let a = n .before .args in
+    node-set (a .device) (a .r) (a .loc) (n .node-block-of .result) (a .node) (n .node-block-of .ensures)
 
 pub with-node-spec : {M : Type 1} → statement M
 with-node-spec = tie.close (tie.spec node-block-of-requires mul-nodes array-set-from-nodes returns)

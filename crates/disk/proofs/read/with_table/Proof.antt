@@ -14,7 +14,10 @@ array-set-from-tables : tie.Need-array-set-from-tables
 array-set-from-tables c = search needs
 
 returns : tie.Need-returns
-returns c = table-set (c .before .before .before .before .args .device) (c .before .before .before .before .args .r) (c .before .before .before .before .args .loc) (c .before .before .before .table-area-of .result) (c .before .before .before .before .args .table) (c .before .before .before .table-area-of .ensures)
+returns c =
+    let n = c .before .before .before in
+    let a = n .before .args in
+    table-set (a .device) (a .r) (a .loc) (n .table-area-of .result) (a .table) (n .table-area-of .ensures)
 
 pub with-table-spec : {M : Type 1} → statement M
 with-table-spec =
