@@ -1,6 +1,7 @@
 -- The theory of the cache.
 pub mod Bounds
 pub mod Bridge
+pub mod Decided
 pub mod Demand2
 pub mod FormKept
 pub mod Forms

@@ -1,4 +1,5 @@
--- Refused: both as they were. Accepted: what cache and disk hand back. Assumes nothing.
+-- Refused: both as they were. Accepted: what cache and disk hand back. In both, what the disk and the graph were asked is read off the
+-- arms, and the lowest of the three answers is the definition's. Assumes nothing.
 use mathlib.Core.Logic.{⊎-elim}
 use mathlib.Core.Path.{_≡_, _∙_}
 use borrow.Author.Needs.{needs}
@@ -35,34 +36,31 @@ zero-node-requires c κs = search needs
 returns : tie.Need-returns
 unfolding answer diskAsked joined joinedAnswer
 returns c =
-    let c2 = c .before .before in
-    let c4 = c2 .before .before in
-    let c5 = c4 .before in
-    let c6 = c5 .before in
-    let a = c6 .before .before .before .args in
-    let b : c5 .if1 .b ≡ diskAsked (a .self .device) (a .number) (a .q) (a .offered) (a .self .disk) =
+    let z = c .before .before in
+    let l = z .before .before in
+    let m = l .before .before in
+    let a = m .before .before .before .before .before .args in
+    let b : m .before .if1 .b ≡ diskAsked (a .self .device) (a .number) (a .q) (a .offered) (a .self .disk) =
     ⊎-elim (λ w. w .2 ∙ simp (eq-eqb _ _ (w .0 .taken)) (w .1 .ensures))
-    (λ w. w .3 ∙ simp (ne-eqb _ _ (w .0 .left)) (rw (w .1 .ensures) at (w .2 .ensures))) (c5 .if1 .came) in
-    let n : c4 .if2 .n20 ≡ answer (startRows (a .self .device) (a .number) (a .q) (a .self .disk)) =
-    ⊎-elim (λ w. w .2 ∙ simp (w .0 .taken) (w .1 .ensures)) (λ w. w .1 ∙ simp (ne-eqb _ _ (w .0 .left))) (c4 .if2 .came) in
-    let e = simp (c2 .lower2 .ensures, c2 .before .lower .ensures, n, b, c6 .step .ensures) at (c .before .if3 .taken) in
-    simp (c .zero-node .ensures, c2 .lower2 .ensures, c2 .before .lower .ensures, n, b, c6 .step .ensures, ne-eqb _ _ e)
+    (λ w. w .3 ∙ simp (ne-eqb _ _ (w .0 .left)) (rw (w .1 .ensures) at (w .2 .ensures))) (m .before .if1 .came) in
+    let n : m .if2 .n20 ≡ answer (startRows (a .self .device) (a .number) (a .q) (a .self .disk)) =
+    ⊎-elim (λ w. w .3 ∙ simp (w .0 .taken) (w .2 .ensures)) (λ w. w .1 ∙ simp (ne-eqb _ _ (w .0 .left))) (m .if2 .came) in
+    let e = simp (l .lower2 .ensures, l .before .lower .ensures, n, b, m .before .before .step .ensures) at (z .before .if3 .taken) in
+    simp (z .zero-node .ensures, l .lower2 .ensures, l .before .lower .ensures, n, b, m .before .before .step .ensures, ne-eqb _ _ e)
 
 returns-2 : tie.Need-returns-2
 unfolding answer diskAsked joined joinedAnswer
 returns-2 c =
-    let c4 = c .before .before .before .before in
-    let c6 = c4 .before .before in
-    let c7 = c6 .before in
-    let c8 = c7 .before in
-    let a = c8 .before .before .before .args in
-    let b : c7 .if1 .b ≡ diskAsked (a .self .device) (a .number) (a .q) (a .offered) (a .self .disk) =
+    let l = c .before .before .before .before in
+    let m = l .before .before in
+    let a = m .before .before .before .before .before .args in
+    let b : m .before .if1 .b ≡ diskAsked (a .self .device) (a .number) (a .q) (a .offered) (a .self .disk) =
     ⊎-elim (λ w. w .2 ∙ simp (eq-eqb _ _ (w .0 .taken)) (w .1 .ensures))
-    (λ w. w .3 ∙ simp (ne-eqb _ _ (w .0 .left)) (rw (w .1 .ensures) at (w .2 .ensures))) (c7 .if1 .came) in
-    let n : c6 .if2 .n20 ≡ answer (startRows (a .self .device) (a .number) (a .q) (a .self .disk)) =
-    ⊎-elim (λ w. w .2 ∙ simp (w .0 .taken) (w .1 .ensures)) (λ w. w .1 ∙ simp (ne-eqb _ _ (w .0 .left))) (c6 .if2 .came) in
-    let e = simp (c4 .lower2 .ensures, c4 .before .lower .ensures, n, b, c8 .step .ensures) at (c .before .before .before .if3 .left) in
-    simp (eq-eqb _ _ e, e, b, c8 .step .ensures)
+    (λ w. w .3 ∙ simp (ne-eqb _ _ (w .0 .left)) (rw (w .1 .ensures) at (w .2 .ensures))) (m .before .if1 .came) in
+    let n : m .if2 .n20 ≡ answer (startRows (a .self .device) (a .number) (a .q) (a .self .disk)) =
+    ⊎-elim (λ w. w .3 ∙ simp (w .0 .taken) (w .2 .ensures)) (λ w. w .1 ∙ simp (ne-eqb _ _ (w .0 .left))) (m .if2 .came) in
+    let e = simp (l .lower2 .ensures, l .before .lower .ensures, n, b, m .before .before .step .ensures) at (c .before .before .before .if3 .left) in
+    simp (e, b, m .before .before .step .ensures)
 
 pub step-spec : {M : Type 1} → statement M
 step-spec =
