@@ -5,21 +5,18 @@ use mathlib.Core.Bool.{_||_, false, true}
 use mathlib.Core.Logic.{_↔_}
 use mathlib.Core.Option.{some}
 use mathlib.Core.Path.{_∙_, _≡_, refl, subst, sym}
-use borrow.Author.Tests.{eq-eqb}
-use lib.Dec.{eqb}
 use Rattle.blockcache.specs.Abstract.{Allowed, cacheVars, callOp, readyVars}
 use Rattle.blockcache.specs.Form.{isReady}
 use Rattle.blockcache.specs.Narrowings.{narrowed, narrowedOf, stepNarrowed}
 use Rattle.blockcache.specs.Next.{stepNext}
 use Rattle.blockcache.specs.NextStep.{NextStep}
 use Rattle.blockcache.specs.Rows.{ownRows, stepRows, takes}
-use Rattle.blockcache.specs.Step.{cacheNext, cacheRows, cacheStep, nodeOf, outsideLimits}
-use Rattle.blockcache.specs.Steps.{Step, allocStep, cleanUpStep, crashStep, dirtyStep, evictStep, freezeStep, isRead, noOpStep, pageInIndirectionTableReqStep, pageInIndirectionTableRespStep, pageInNodeReqStep, pageInNodeRespStep, readStep, receiveLocStep, stepOf, steps, unallocStep, writeBackIndirectionTableReqStep, writeBackIndirectionTableRespStep, writeBackNodeReqStep, writeBackNodeRespStep}
+use Rattle.blockcache.specs.Step.{cacheNext, cacheRows, nodeOf, outsideLimits}
+use Rattle.blockcache.specs.Steps.{Step, allocStep, cleanUpStep, crashStep, dirtyStep, evictStep, freezeStep, noOpStep, pageInIndirectionTableReqStep, pageInIndirectionTableRespStep, pageInNodeReqStep, pageInNodeRespStep, readStep, receiveLocStep, stepOf, steps, unallocStep, writeBackIndirectionTableReqStep, writeBackIndirectionTableRespStep, writeBackNodeReqStep, writeBackNodeRespStep}
 use Rattle.blockcache.specs.Upstream.{ReadStep, Variables, unready}
 use Rattle.base.proofs.Refusals.{Clear}
 use Rattle.base.proofs.Tests.{or-iff}
 use Rattle.base.specs.Refusals.{answer}
-use Rattle.blockcache.proofs.Bounds.{cond-same}
 use Rattle.blockcache.proofs.Forms.{WellFormed, well-formed-iff}
 use Rattle.blockcache.proofs.Frames.{Exact, Next, frame, gate-iff}
 use Rattle.blockcache.proofs.GraphSteps.{alloc-exact, dirty-exact, evict-exact, read-cached, read-exact, unalloc-exact}
@@ -29,7 +26,6 @@ use Rattle.blockcache.proofs.ReadSteps.{page-in-node-req-exact, page-in
 use Rattle.blockcache.proofs.WriteSteps.{write-back-node-req-exact, write-back-node-resp-exact, write-back-table-req-exact, write-back-table-resp-exact}
 use Rattle.blockcache.specs.declared.CacheState.{CacheState}
 use Rattle.blockcache.specs.declared.Call.{Call}
-use Rattle.sectortype.specs.Form.{zeroNode}
 
 module _ (d : ℕ) (c : CacheState) (q : Call) (w : WellFormed d c q) where
   exact : (step : Step) → Exact d c q step
@@ -99,16 +95,6 @@ cache-read d c q e =
     let k : Clear (stepRows d c q readStep) = subst (λ s. Clear (stepRows d c q s)) (sym same) (x .clear) in
     let h = gate-iff (takes (c .phase) (q .vop) (q .dop) readStep) (ownRows d c q readStep) .0 k in
     (h .0 .2, refl, read-cached d c q (x .form) (h .1))
-
--- the node that cacheStep hands out with an accepted read is that node, the one that cache-read speaks of
-pub cache-node : (d : ℕ) (c : CacheState) (q : Call) → answer (cacheRows d c 17 q) ≡ 0 → cacheStep d c 17 q .node ≡ nodeOf c 17 q
-unfolding cacheStep
-cache-node d c q e = rw (eq-eqb (answer (cacheRows d c 17 q)) 0 e)
-
--- with every other step, and a refusal, it is zeros
-pub cache-no-node : (d : ℕ) (c : CacheState) (n : ℕ) (q : Call) → isRead n ≡ false → cacheStep d c n q .node ≡ zeroNode
-unfolding cacheStep
-cache-no-node d c n q e = rw (e, cond-same (eqb (answer (cacheRows d c n q)) 0) zeroNode)
 
 -- a crash leaves the cache unready
 pub cache-crash : (c : CacheState) (q : Call) → cacheVars (cacheNext c 18 q) ≡ unready

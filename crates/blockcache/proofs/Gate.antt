@@ -12,7 +12,7 @@ use Rattle.base.specs.Maps.{isSome}
 use Rattle.base.specs.Refusals.{Row, _when_, answer}
 use Rattle.blockcache.proofs.Numbers.{step-of-number}
 use Rattle.blockcache.specs.Rows.{Takes, gate, ownRows, stepRows, takes}
-use Rattle.blockcache.specs.Step.{answered, cacheRows, cacheStep, dispatched, gated, nextOf, nodeOf, pastGate, rowsOf, settled, wellFormed}
+use Rattle.blockcache.specs.Step.{answered, cacheNext, cacheRows, cacheStep, dispatched, gated, nextOf, nodeOf, pastGate, rowsOf, settled, wellFormed}
 use Rattle.blockcache.specs.Steps.{Step, stepOf}
 use Rattle.blockcache.specs.declared.CacheState.{CacheState}
 use Rattle.blockcache.specs.declared.Call.{Call}
@@ -43,19 +43,22 @@ module _ (d : ℕ) (c : CacheState) (q : Call) where
       rw (a, step-of-number n step e)
 
 module _ (d : ℕ) (c : CacheState) (n : ℕ) (q : Call) where
+  -- a step is made of the answer of its rows, the node and the next cache
+  pub step-is : cacheStep d c n q ≡ settled (answer (cacheRows d c n q)) (nodeOf c n q) (cacheNext c n q) c
+  unfolding cacheStep
+  step-is = refl
+
   -- not in its written form, or on no such device
   pub step-unformed : wellFormed d c q ≡ false → cacheStep d c n q ≡ answered 1 c
-  unfolding cacheStep answer
-  step-unformed w = rw w
+  unfolding answer
+  step-unformed w = step-is ∙ rw w
 
   module _ (w : wellFormed d c q ≡ true) where
     -- refused by V, D or phase, or for want of such a step
     pub step-shut : (gateOf d c q (stepOf n) ≡ 0 → ⊥) → cacheStep d c n q ≡ answered (gateOf d c q (stepOf n)) c
-    unfolding cacheStep
     step-shut ne =
         let e : answer (cacheRows d c n q) ≡ gateOf d c q (stepOf n) = rw w (rows-shut d c q (stepOf n) ne) in
-        rw (e, ne-eqb (gateOf d c q (stepOf n)) 0 ne)
+        step-is ∙ rw (e, ne-eqb (gateOf d c q (stepOf n)) 0 ne)
 
     pub step-open : gateOf d c q (stepOf n) ≡ 0 → cacheStep d c n q ≡ dispatched d c q (stepOf n)
-    unfolding cacheStep
-    step-open z = rw w (rows-open d c q n (stepOf n) refl z)
+    step-open z = step-is ∙ rw w (rows-open d c q n (stepOf n) refl z)

@@ -1,21 +1,25 @@
 -- The theorems said of cacheStep, which is what the code's contract equates: its answer is that of the rows, a refused call leaves the cache as it
 -- was, and every call, accepted or refused, keeps the written form and upstream's Inv. Assumes nothing.
 use Prim.Native.Nat.{ℕ}
-use mathlib.Core.Bool.{cond, true}
+use mathlib.Core.Bool.{cond, false, true}
 use mathlib.Core.List.{List}
-use mathlib.Core.Path.{_∙_, _≡_, refl, subst, sym}
+use mathlib.Core.Path.{_∙_, _≡_, ap, subst, sym}
 use borrow.Author.Tests.{eq-eqb, eqb-false, eqb-true, ne-eqb}
 use lib.Dec.{eqb}
 use Rattle.base.proofs.Tests.{split}
 use Rattle.base.specs.Refusals.{Row, answer}
+use Rattle.blockcache.proofs.Bounds.{cond-same}
 use Rattle.blockcache.proofs.FormKept.{cache-form-kept}
+use Rattle.blockcache.proofs.Gate.{step-is}
 use Rattle.blockcache.proofs.InvKept.{inv-kept}
 use Rattle.blockcache.specs.Abstract.{cacheVars}
 use Rattle.blockcache.specs.Form.{cacheForm}
-use Rattle.blockcache.specs.Step.{cacheNext, cacheRows, cacheStep}
+use Rattle.blockcache.specs.Step.{cacheNext, cacheRows, cacheStep, nodeOf}
+use Rattle.blockcache.specs.Steps.{isRead}
 use Rattle.blockcache.specs.UpstreamInv.{Inv}
 use Rattle.blockcache.specs.declared.CacheState.{CacheState}
 use Rattle.blockcache.specs.declared.Call.{Call}
+use Rattle.sectortype.specs.Form.{zeroNode}
 
 module _ (d : ℕ) (c : CacheState) (n : ℕ) (q : Call) where
   abbrev rows : List Row
@@ -25,12 +29,13 @@ module _ (d : ℕ) (c : CacheState) (n : ℕ) (q : Call) where
   next = cacheNext c n q
 
   pub step-answer : cacheStep d c n q .answer ≡ answer rows
-  unfolding cacheStep
-  step-answer = refl
+  step-answer = ap (λ o. o .answer) (step-is d c n q)
 
   pub step-cache : cacheStep d c n q .cache ≡ cond (eqb (answer rows) 0) next c
-  unfolding cacheStep
-  step-cache = refl
+  step-cache = ap (λ o. o .cache) (step-is d c n q)
+
+  pub step-node : cacheStep d c n q .node ≡ cond (eqb (answer rows) 0) (nodeOf c n q) zeroNode
+  step-node = ap (λ o. o .node) (step-is d c n q)
 
   pub step-taken : answer rows ≡ 0 → cacheStep d c n q .cache ≡ next
   step-taken e = step-cache ∙ rw (eq-eqb (answer rows) 0 e)
@@ -50,3 +55,13 @@ module _ (d : ℕ) (c : CacheState) (n : ℕ) (q : Call) where
 
   pub step-inv : Inv d (cacheVars c) → Inv d (cacheVars (cacheStep d c n q .cache))
   step-inv i = step-keeps (λ x. Inv d (cacheVars x)) i (inv-kept d c n q i)
+
+-- THE NODE
+
+-- with an accepted read it is the cached node, the one that cache-read speaks of
+pub cache-node : (d : ℕ) (c : CacheState) (q : Call) → answer (cacheRows d c 17 q) ≡ 0 → cacheStep d c 17 q .node ≡ nodeOf c 17 q
+cache-node d c q e = step-node d c 17 q ∙ rw (eq-eqb (answer (cacheRows d c 17 q)) 0 e)
+
+-- with every other step it is zeros
+pub cache-no-node : (d : ℕ) (c : CacheState) (n : ℕ) (q : Call) → isRead n ≡ false → cacheStep d c n q .node ≡ zeroNode
+cache-no-node d c n q e = step-node d c n q ∙ rw (e, cond-same (eqb (answer (cacheRows d c n q)) 0) zeroNode)

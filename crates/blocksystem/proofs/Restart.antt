@@ -8,7 +8,8 @@ use mathlib.Core.Option.{Option, some}
 use mathlib.Core.Path.{_∙_, _≡_, ap, refl, subst, sym}
 use Rattle.base.proofs.Tests.{and-iff, none-iff, or-cases, split}
 use Rattle.base.specs.Maps.{isSome}
-use Rattle.blockcache.proofs.Demand2.{cache-node, cache-read}
+use Rattle.blockcache.proofs.Demand2.{cache-read}
+use Rattle.blockcache.proofs.Outcomes.{cache-node}
 use Rattle.blockcache.specs.Abstract.{readyVars, varsIn}
 use Rattle.blockcache.specs.Form.{readyPhase}
 use Rattle.blockcache.specs.Step.{nodeOf}
