@@ -13,7 +13,8 @@ use Rattle.blockcache.proofs.Waiting.{write-holds-iff}
 use Rattle.blockcache.specs.Abstract.{writesMap}
 use Rattle.blockcache.specs.Next.{assigned}
 use Rattle.blockcache.specs.Scan.{NoLocation, hasPredecessor, heldIn, listNames, namesAt, needsCached, nodeRejected, tableRejected}
-use Rattle.blockcache.specs.Upstream.{AllLocationsForDifferentRefsDontOverlap, FrozenLocated, In, LocsValid, NoAddr, NoPredecessors, OutstandingWrite, SameSuccs, WFCompleteIndirectionTable, WFIndirectionTable, assignRefToLocation}
+use Rattle.blockcache.specs.Upstream.{AllLocationsForDifferentRefsDontOverlap, FrozenLocated, In, LocsValid, NoAddr, NoPredecessors, OutstandingWrite, SameSuccs, WFCompleteIndirectionTable}
+use Rattle.blockcache.specs.Upstream.{WFIndirectionTable, assignRefToLocation}
 use Rattle.blockcache.specs.declared.Tables.{Tables}
 use Rattle.blockdisk.specs.Ops.{somethingIn}
 use Rattle.blockdisk.specs.declared.Brought.{Brought}
@@ -27,7 +28,8 @@ use Rattle.sectortype.proofs.Graphs.{closed-iff, distinct-iff, holds-addr-iff, 
 use Rattle.sectortype.proofs.Maps.{graph-at, graph-bounded, graph-same, graph-some, in-graph, in-locs, locs-at, locs-bounded, locs-put, locs-some}
 use Rattle.sectortype.specs.Abstract.{graphOf, indirectionTable, locsOf}
 use Rattle.sectortype.specs.Form.{entryAt, succAt, tableForm}
-use Rattle.sectortype.specs.Graph.{LocsComplete, LocsInGraph, LocsValid as validTest, WFCompleteIndirectionTable as completeTest, WFIndirectionTable as tableTest, allocatedIn, hasSucc, locOk, locatedIn, sameSet}
+use Rattle.sectortype.specs.Graph.{LocsComplete, LocsInGraph, LocsValid as validTest, WFCompleteIndirectionTable as completeTest, WFIndirectionTable as tableTest, allocatedIn, hasSucc, locOk}
+use Rattle.sectortype.specs.Graph.{locatedIn, sameSet}
 use Rattle.sectortype.specs.declared.Entry.{Entry}
 use Rattle.sectortype.specs.declared.Node.{Node}
 use Rattle.sectortype.specs.declared.Table.{Table}
@@ -61,7 +63,8 @@ held-iff ts q p e f g a = (
     (λ y. holds-addr-iff (ts .frozen) f a .0 (k .0 .1 y)),
     write-holds-iff q g a .0 (k .1),
   )),
-  (λ (u, v, w, x). simp (or-iff, and-false-iff) (((holds-addr-iff (ts .persistent) p a .1 u, holds-addr-iff (ts .ephemeral) e a .1 v), (λ y. holds-addr-iff (ts .frozen) f a .1 (w y))), write-holds-iff q g a .1 x)),
+  (λ (u, v, w, x). simp (or-iff, and-false-iff)
+      (((holds-addr-iff (ts .persistent) p a .1 u, holds-addr-iff (ts .ephemeral) e a .1 v), (λ y. holds-addr-iff (ts .frozen) f a .1 (w y))), write-holds-iff q g a .1 x)),
 )
 
 -- THE GRAPH
@@ -90,7 +93,8 @@ pub no-location-iff : (t : Table) → tableForm t ≡ true → (NoLocation t ≡
 unfolding NoLocation
 no-location-iff t f = (
   (λ e r a. let al = sym (in-graph t r) ∙ a in
-      in-locs t r ∙ not-iff (locatedIn t r) .0 (and-false-iff (allocatedIn t r) (not (locatedIn t r)) .0 (none-at (λ r. allocatedIn t r && not (locatedIn t r)) 64 r e (graph-bounded t f r (entryAt t r .succs) (graph-at t r al))) al)),
+      let b = graph-bounded t f r (entryAt t r .succs) (graph-at t r al) in
+      in-locs t r ∙ not-iff (locatedIn t r) .0 (and-false-iff (allocatedIn t r) (not (locatedIn t r)) .0 (none-at (λ r. allocatedIn t r && not (locatedIn t r)) 64 r e b) al)),
   (λ h. some-of-none (λ r. allocatedIn t r && not (locatedIn t r)) 64
       (λ r b. and-false-iff (allocatedIn t r) (not (locatedIn t r)) .1 (λ a. not-iff (locatedIn t r) .1 (sym (in-locs t r) ∙ h r (in-graph t r ∙ a))))),
 )
@@ -101,7 +105,8 @@ needs-cached-iff ts r = (
   (λ e. let h = simp (and-false-iff, and-iff, not-iff) at e in
       flagged-each-iff (ts .isfrozen) (indirectionTable (ts .frozen)) (λ t. In r (t .graph) → In r (t .locs)) .1
       (λ y g. in-locs (ts .frozen) r ∙ h (y, sym (in-graph (ts .frozen) r) ∙ g))),
-  (λ h. simp (and-false-iff, and-iff, not-iff) (λ (y, a). sym (in-locs (ts .frozen) r) ∙ flagged-each-iff (ts .isfrozen) (indirectionTable (ts .frozen)) (λ t. In r (t .graph) → In r (t .locs)) .0 h y (in-graph (ts .frozen) r ∙ a))),
+  (λ h. let located = flagged-each-iff (ts .isfrozen) (indirectionTable (ts .frozen)) (λ t. In r (t .graph) → In r (t .locs)) .0 h in
+      simp (and-false-iff, and-iff, not-iff) (λ (y, a). sym (in-locs (ts .frozen) r) ∙ located y (in-graph (ts .frozen) r ∙ a))),
 )
 
 -- WHOLE TABLES
@@ -124,8 +129,8 @@ module _ (d : ℕ) (on : made d ≡ true) (t : Table) (f : tableForm t ≡ true)
           root = in-graph t 0 ∙ h .0 .1;
           graphClosed = closed-iff t f .0 (h .1);
         }),
-    (λ w. simp and-iff
-        (((valid-iff .1 (w .valid), all-of (λ r. not (locatedIn t r) || allocatedIn t r) 64 (λ r b. split (locatedIn t r) (λ y. rw (y, located-allocated t f r y)) (λ y. rw y))), sym (in-graph t 0) ∙ w .root), closed-iff t f .1 (w .graphClosed))),
+    (λ w. let keys = all-of (λ r. not (locatedIn t r) || allocatedIn t r) 64 (λ r b. split (locatedIn t r) (λ y. rw (y, located-allocated t f r y)) (λ y. rw y)) in
+        simp and-iff (((valid-iff .1 (w .valid), keys), sym (in-graph t 0) ∙ w .root), closed-iff t f .1 (w .graphClosed))),
   )
 
   pub complete-test-iff : (completeTest d t ≡ true) ↔ WFCompleteIndirectionTable d (indirectionTable t)

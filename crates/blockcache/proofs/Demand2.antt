@@ -12,7 +12,9 @@ use Rattle.blockcache.specs.Next.{stepNext}
 use Rattle.blockcache.specs.NextStep.{NextStep}
 use Rattle.blockcache.specs.Rows.{ownRows, stepRows, takes}
 use Rattle.blockcache.specs.Step.{cacheNext, cacheRows, nodeOf, outsideLimits}
-use Rattle.blockcache.specs.Steps.{Step, allocStep, cleanUpStep, crashStep, dirtyStep, evictStep, freezeStep, noOpStep, pageInIndirectionTableReqStep, pageInIndirectionTableRespStep, pageInNodeReqStep, pageInNodeRespStep, readStep, receiveLocStep, stepOf, steps, unallocStep, writeBackIndirectionTableReqStep, writeBackIndirectionTableRespStep, writeBackNodeReqStep, writeBackNodeRespStep}
+use Rattle.blockcache.specs.Steps.{Step, allocStep, cleanUpStep, crashStep, dirtyStep, evictStep, freezeStep, noOpStep, pageInIndirectionTableReqStep, pageInIndirectionTableRespStep}
+use Rattle.blockcache.specs.Steps.{pageInNodeReqStep, pageInNodeRespStep, readStep, receiveLocStep, stepOf, steps, unallocStep, writeBackIndirectionTableReqStep}
+use Rattle.blockcache.specs.Steps.{writeBackIndirectionTableRespStep, writeBackNodeReqStep, writeBackNodeRespStep}
 use Rattle.blockcache.specs.Upstream.{ReadStep, Variables, unready}
 use Rattle.base.proofs.Refusals.{Clear}
 use Rattle.base.proofs.Tests.{or-iff}

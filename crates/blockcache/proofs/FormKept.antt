@@ -9,7 +9,8 @@ use Rattle.base.proofs.Refusals.{Clear}
 use Rattle.base.proofs.Tests.{not-iff, split}
 use Rattle.base.specs.Refusals.{answer}
 use Rattle.blockcache.proofs.Bridge.{assigned-form}
-use Rattle.blockcache.proofs.Forms.{CacheForm, Idle, OutstandingForm, TablesForm, WellFormed, cache-form-iff, count-none-at, frozen-empty, idle-iff, loading-idle, no-reads-form, no-writes-form, read-ref-bounded, reads-insert-form, reads-remove-form, ready-form, well-formed-iff, writes-insert-form, writes-remove-form}
+use Rattle.blockcache.proofs.Forms.{CacheForm, Idle, OutstandingForm, TablesForm, WellFormed, cache-form-iff, count-none-at, frozen-empty, idle-iff, loading-idle, no-reads-form}
+use Rattle.blockcache.proofs.Forms.{no-writes-form, read-ref-bounded, reads-insert-form, reads-remove-form, ready-form, well-formed-iff, writes-insert-form, writes-remove-form}
 use Rattle.blockcache.proofs.Frames.{Open, gate-iff}
 use Rattle.blockcache.proofs.Numbers.{call-accepted-iff}
 use Rattle.blockcache.specs.Form.{awaitedForm, cacheForm, emptyCache, formIn, idle, isReady, loadingAt, loadingPhase, notWaiting, phaseForm, placesForm, readsForm, writesForm}
@@ -17,7 +18,9 @@ use Rattle.blockcache.specs.Next.{assigned, cachedSlot, stepNext, unloca
 use Rattle.blockcache.specs.Ops.{dopId, dopLoc, vopLoc}
 use Rattle.blockcache.specs.Rows.{ownRows, takes}
 use Rattle.blockcache.specs.Step.{cacheNext, cacheRows}
-use Rattle.blockcache.specs.Steps.{Step, allocStep, cleanUpStep, crashStep, dirtyStep, evictStep, freezeStep, noOpStep, pageInIndirectionTableReqStep, pageInIndirectionTableRespStep, pageInNodeReqStep, pageInNodeRespStep, readStep, receiveLocStep, unallocStep, writeBackIndirectionTableReqStep, writeBackIndirectionTableRespStep, writeBackNodeReqStep, writeBackNodeRespStep}
+use Rattle.blockcache.specs.Steps.{Step, allocStep, cleanUpStep, crashStep, dirtyStep, evictStep, freezeStep, noOpStep, pageInIndirectionTableReqStep, pageInIndirectionTableRespStep}
+use Rattle.blockcache.specs.Steps.{pageInNodeReqStep, pageInNodeRespStep, readStep, receiveLocStep, unallocStep, writeBackIndirectionTableReqStep, writeBackIndirectionTableRespStep}
+use Rattle.blockcache.specs.Steps.{writeBackNodeReqStep, writeBackNodeRespStep}
 use Rattle.blockcache.specs.declared.CacheState.{CacheState}
 use Rattle.blockcache.specs.declared.Call.{Call}
 use Rattle.blockcache.specs.declared.Awaited.{Awaited}

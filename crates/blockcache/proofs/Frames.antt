@@ -12,7 +12,9 @@ use Rattle.base.proofs.Refusals.{Clear}
 use Rattle.base.proofs.Tests.{not-iff}
 use Rattle.base.specs.Refusals.{Row}
 use Rattle.blockcache.proofs.IdleOps.{idle-kind}
-use Rattle.blockcache.proofs.OpKinds.{crash-op-iff, idle-vop-iff, unready-iff, advance-iff, clean-up-iff, freeze-iff, internal-iff, no-disk-op-iff, no-op-iff, on-loading-iff, on-ready-iff, req-read-node-iff, req-read-table-iff, req-write-node-iff, req-write-table-iff, resp-read-node-iff, resp-read-table-iff, resp-write-node-iff, resp-write-table-iff, send-frozen-iff, send-persistent-iff}
+use Rattle.blockcache.proofs.OpKinds.{crash-op-iff, idle-vop-iff, unready-iff, advance-iff, clean-up-iff, freeze-iff, internal-iff, no-disk-op-iff, no-op-iff, on-loading-iff, on-ready-iff}
+use Rattle.blockcache.proofs.OpKinds.{req-read-node-iff, req-read-table-iff, req-write-node-iff, req-write-table-iff, resp-read-node-iff, resp-read-table-iff, resp-write-node-iff}
+use Rattle.blockcache.proofs.OpKinds.{resp-write-table-iff, send-frozen-iff, send-persistent-iff}
 use Rattle.blockcache.specs.Abstract.{awaitedId, cacheVars, callOp, readyVars}
 use Rattle.blockcache.specs.Form.{isReady}
 use Rattle.blockcache.specs.Narrowings.{stepNarrowed}
@@ -20,8 +22,11 @@ use Rattle.blockcache.specs.Next.{stepNext}
 use Rattle.blockcache.specs.NextStep.{NextStep, OnBoth, OnLoading, OnReady, OnRespWriteIndirectionTable, TransactionOp}
 use Rattle.blockcache.specs.Ops.{advance, dopBrought, dopId, dopKind, dopLoc, internal, noDop, vopKind, vopLoc}
 use Rattle.blockcache.specs.Rows.{Takes, gate, ownRows, takes}
-use Rattle.blockcache.specs.Steps.{Step, allocStep, cleanUpStep, crashStep, dirtyStep, evictStep, freezeStep, noOpStep, pageInIndirectionTableReqStep, pageInIndirectionTableRespStep, pageInNodeReqStep, pageInNodeRespStep, readStep, receiveLocStep, unallocStep, writeBackIndirectionTableReqStep, writeBackIndirectionTableRespStep, writeBackNodeReqStep, writeBackNodeRespStep}
-use Rattle.blockcache.specs.Upstream.{Alloc, CleanUp, Dirty, Evict, Freeze, Init, NoOp, PageInIndirectionTableReq, PageInIndirectionTableResp, PageInNodeReq, PageInNodeResp, ReadStep, Ready, ReceiveLoc, Unalloc, Variables, WriteBackIndirectionTableReq, WriteBackIndirectionTableResp, WriteBackNodeReq, WriteBackNodeResp}
+use Rattle.blockcache.specs.Steps.{Step, allocStep, cleanUpStep, crashStep, dirtyStep, evictStep, freezeStep, noOpStep, pageInIndirectionTableReqStep, pageInIndirectionTableRespStep}
+use Rattle.blockcache.specs.Steps.{pageInNodeReqStep, pageInNodeRespStep, readStep, receiveLocStep, unallocStep, writeBackIndirectionTableReqStep, writeBackIndirectionTableRespStep}
+use Rattle.blockcache.specs.Steps.{writeBackNodeReqStep, writeBackNodeRespStep}
+use Rattle.blockcache.specs.Upstream.{Alloc, CleanUp, Dirty, Evict, Freeze, Init, NoOp, PageInIndirectionTableReq, PageInIndirectionTableResp, PageInNodeReq, PageInNodeResp, ReadStep}
+use Rattle.blockcache.specs.Upstream.{Ready, ReceiveLoc, Unalloc, Variables, WriteBackIndirectionTableReq, WriteBackIndirectionTableResp, WriteBackNodeReq, WriteBackNodeResp}
 use Rattle.blockcache.specs.declared.CacheState.{CacheState}
 use Rattle.blockcache.specs.declared.Call.{Call}
 use Rattle.blockcache.specs.declared.VersionOp.the-variants.{StatesInternalOp}
@@ -84,12 +89,18 @@ module _ (d : ℕ) (c : CacheState) (q : Call) where
   abbrev pub Next : Step → Variables → Type 0
   Next step s' = NextStep d (cacheVars c) s' (callOp q) (q .vop) (q .reference) (q .node) step
 
+  -- what the rows accept upstream allows, with the next state
+  abbrev pub Sound : Step → Type 0
+  Sound step = Open step → Clear (ownRows d c q step) → Own step (cacheVars (stepNext c q step))
+
+  -- what upstream allows the rows accept, where no narrowing applies
+  abbrev pub Complete : Step → Type 0
+  Complete step = (s' : Variables) → stepNarrowed c q step ≡ false → Own step s' → Clear (ownRows d c q step)
+
   -- what demand 2 asks of a step
   pub record Exact (step : Step) : Type 0 where
-    -- what the rows accept upstream allows, with the next state
-    pub sound : Open step → Clear (ownRows d c q step) → Own step (cacheVars (stepNext c q step))
-    -- what upstream allows the rows accept, where no narrowing applies
-    pub complete : (s' : Variables) → stepNarrowed c q step ≡ false → Own step s' → Clear (ownRows d c q step)
+    pub sound : Sound step
+    pub complete : Complete step
     -- a narrowing refuses
     pub free : Clear (ownRows d c q step) → stepNarrowed c q step ≡ false
 

@@ -10,7 +10,7 @@ use Rattle.base.proofs.Tests.{and-both, and-false-iff, and-iff, clash, none-iff
 use Rattle.base.specs.Maps.{put}
 use Rattle.blockcache.proofs.Bridge.{has-predecessor-iff, needs-cached-iff}
 use Rattle.blockcache.proofs.Forms.{CacheForm, WellFormed, reads-requests, writes-requests}
-use Rattle.blockcache.proofs.Frames.{Exact, Open, Own}
+use Rattle.blockcache.proofs.Frames.{Complete, Exact, Sound}
 use Rattle.blockcache.proofs.OpKinds.{on-ready-iff}
 use Rattle.blockcache.proofs.Waiting.{reads-iff, writes-to-iff}
 use Rattle.blockcache.specs.Abstract.{cacheVars, readyVars}
@@ -57,7 +57,7 @@ module _ (d : ℕ) (c : CacheState) (q : Call) (w : WellFormed d c q) where
 
   -- Unalloc
 
-  unalloc-sound : Open d c q unallocStep → Clear (ownRows d c q unallocStep) → Own d c q unallocStep (cacheVars (stepNext c q unallocStep))
+  unalloc-sound : Sound d c q unallocStep
   unalloc-sound taken k =
       let h = simp (not-iff, or-iff) at k in
       let ok = taken .2 in
@@ -83,7 +83,7 @@ module _ (d : ℕ) (c : CacheState) (q : Call) (w : WellFormed d c q) where
         },
       )
 
-  unalloc-complete : (s' : Variables) → stepNarrowed c q unallocStep ≡ false → Own d c q unallocStep s' → Clear (ownRows d c q unallocStep)
+  unalloc-complete : Complete d c q unallocStep
   unalloc-complete s' ns (y, e, p) =
       simp (not-iff, or-iff) (
         sym (in-graph table r) ∙ p .allocated,
@@ -98,7 +98,7 @@ module _ (d : ℕ) (c : CacheState) (q : Call) (w : WellFormed d c q) where
 
   -- Evict
 
-  evict-sound : Open d c q evictStep → Clear (ownRows d c q evictStep) → Own d c q evictStep (cacheVars (stepNext c q evictStep))
+  evict-sound : Sound d c q evictStep
   evict-sound taken k =
       let h = simp (not-iff, or-iff) at k in
       let ok = taken .2 in
@@ -111,14 +111,15 @@ module _ (d : ℕ) (c : CacheState) (q : Call) (w : WellFormed d c q) where
           located = λ a. in-locs table r ∙ not-iff (entry .located) .0 (and-false-iff (entry .allocated) (not (entry .located)) .0 (there .1) (sym (in-graph table r) ∙ a));
           not-written = λ a l e id.
               let x = locs-some table r e in
-              let y : writesTo writes r (entry .loc) ≡ false = and-false-iff (entry .allocated && entry .located) (writesTo writes r (entry .loc)) .0 away (and-both (sym (in-graph table r) ∙ a) (x .0)) in
+              let there = and-both (sym (in-graph table r) ∙ a) (x .0) in
+              let y : writesTo writes r (entry .loc) ≡ false = and-false-iff (entry .allocated && entry .located) (writesTo writes r (entry .loc)) .0 away there in
               writes-to-iff writes (writes-requests c f) r l .0 (rw (x .1) at y) id;
           frozen-located = needs-cached-iff (c .tables) r .0 (h .1 .1 .0);
           next = ap (setCache (readyVars c)) (nodes-del (c .nodes) r zeroSlot (f .nodes) (w .call .reference) refl);
         },
       )
 
-  evict-complete : (s' : Variables) → stepNarrowed c q evictStep ≡ false → Own d c q evictStep s' → Clear (ownRows d c q evictStep)
+  evict-complete : Complete d c q evictStep
   evict-complete s' ns (y, e, p) =
       simp (not-iff, or-iff) (
         (
@@ -145,7 +146,7 @@ module _ (d : ℕ) (c : CacheState) (q : Call) (w : WellFormed d c q) where
   graph-after : graphOf (withEntry table r listed) ≡ put (graphOf table) r (q .node .succs)
   graph-after = graph-put table r listed (f .tables .ephemeral) (w .call .reference) refl
 
-  dirty-sound : Open d c q dirtyStep → Clear (ownRows d c q dirtyStep) → Own d c q dirtyStep (cacheVars (stepNext c q dirtyStep))
+  dirty-sound : Sound d c q dirtyStep
   dirty-sound taken k =
       let h = simp (not-iff, or-iff) at k in
       let ok = taken .2 in
@@ -173,7 +174,7 @@ module _ (d : ℕ) (c : CacheState) (q : Call) (w : WellFormed d c q) where
         },
       )
 
-  dirty-complete : (s' : Variables) → stepNarrowed c q dirtyStep ≡ false → Own d c q dirtyStep s' → Clear (ownRows d c q dirtyStep)
+  dirty-complete : Complete d c q dirtyStep
   dirty-complete s' ns (y, e, p) =
       simp (not-iff, or-iff) (
         (sym (in-nodes (c .nodes) r) ∙ p .cached, sym (in-graph table r) ∙ p .allocated),
@@ -189,7 +190,7 @@ module _ (d : ℕ) (c : CacheState) (q : Call) (w : WellFormed d c q) where
   not-located a =
       none-iff (locsOf table r) .0 (in-locs table r ∙ split (entry .located) (λ t. clash {b = entry .allocated} (located-allocated table (f .tables .ephemeral) r t) a) (λ t. t))
 
-  alloc-sound : Open d c q allocStep → Clear (ownRows d c q allocStep) → Own d c q allocStep (cacheVars (stepNext c q allocStep))
+  alloc-sound : Sound d c q allocStep
   alloc-sound taken k =
       let h = simp (not-iff, or-iff) at k in
       let ok = taken .2 in
@@ -216,7 +217,7 @@ module _ (d : ℕ) (c : CacheState) (q : Call) (w : WellFormed d c q) where
         },
       )
 
-  alloc-complete : (s' : Variables) → stepNarrowed c q allocStep ≡ false → Own d c q allocStep s' → Clear (ownRows d c q allocStep)
+  alloc-complete : Complete d c q allocStep
   alloc-complete s' ns (y, e, p) =
       simp (not-iff, or-iff) (
         (sym (in-nodes (c .nodes) r) ∙ none-iff (nodesMap (c .nodes) r) .1 (p .not-cached), sym (in-graph table r) ∙ none-iff (graphOf table r) .1 (p .not-allocated)),
@@ -234,10 +235,10 @@ module _ (d : ℕ) (c : CacheState) (q : Call) (w : WellFormed d c q) where
       let h = simp (not-iff, or-iff) at k in
       record { allocated = in-graph table r ∙ h .0 .0; cached = nodes-at (c .nodes) r (h .0 .1) }
 
-  read-sound : Open d c q readStep → Clear (ownRows d c q readStep) → Own d c q readStep (cacheVars (stepNext c q readStep))
+  read-sound : Sound d c q readStep
   read-sound taken k = (refl, (slot .node, read-cached k))
 
-  read-complete : (s' : Variables) → stepNarrowed c q readStep ≡ false → Own d c q readStep s' → Clear (ownRows d c q readStep)
+  read-complete : Complete d c q readStep
   read-complete s' ns (e, (n, p)) = simp (not-iff, or-iff) ((sym (in-graph table r) ∙ p .allocated, nodes-some (c .nodes) r (p .cached) .0), tt)
 
   pub read-exact : Exact d c q readStep

@@ -17,7 +17,8 @@ use Rattle.blockcache.specs.Upstream.{AwaitsNodeWrite, AwaitsTableWrite,
 use Rattle.blockcache.specs.declared.CacheState.{CacheState}
 use Rattle.blockdisk.specs.Upstream.{opOf}
 use Rattle.blockdisk.specs.declared.DiskOp.{DiskOp}
-use Rattle.blockdisk.specs.declared.DiskOp.the-variants.{NoDiskOp, ReqReadIndirectionTableOp, ReqReadNodeOp, ReqWriteIndirectionTableOp, ReqWriteNodeOp, RespReadIndirectionTableOp, RespReadNodeOp, RespWriteIndirectionTableOp, RespWriteNodeOp}
+use Rattle.blockdisk.specs.declared.DiskOp.the-variants.{NoDiskOp, ReqReadIndirectionTableOp, ReqReadNodeOp, ReqWriteIndirectionTableOp, ReqWriteNodeOp, RespReadIndirectionTableOp}
+use Rattle.blockdisk.specs.declared.DiskOp.the-variants.{RespReadNodeOp, RespWriteIndirectionTableOp, RespWriteNodeOp}
 use Rattle.queue.specs.Queue.{hasOf}
 use Rattle.sectortype.specs.declared.Node.{Node}
 use Rattle.sectortype.specs.declared.Table.{Table}

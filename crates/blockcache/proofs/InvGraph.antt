@@ -18,7 +18,8 @@ use Rattle.sectortype.specs.declared.Node.{Node}
 use Rattle.sectortype.specs.declared.Succs.{Succs}
 
 -- what a frozen table has in its graph stays in the cache or has a location
-frozen-uncached : (d : ℕ) (t : IndirectionTable) (cache : Map Node) (writes : Map OutstandingWrite) (ref : ℕ) → (In ref (t .graph) → In ref (t .locs)) → InvFrozen d t cache writes → InvFrozen d t (del cache ref) writes
+frozen-uncached : (d : ℕ) (t : IndirectionTable) (cache : Map Node) (writes : Map OutstandingWrite) (ref : ℕ) → (In ref (t .graph) → In ref (t .locs)) →
+    InvFrozen d t cache writes → InvFrozen d t (del cache ref) writes
 frozen-uncached d t cache writes ref located i =
     record {
       wf = i .wf;
@@ -124,7 +125,8 @@ module _ (d : ℕ) (s s' : Ready) (ref : ℕ) (v : InvReady d s) (u : Evict s s'
 
 -- DIRTY AND ALLOC: the reference's list is in the graph, its node cached, and it has no location
 
-module _ (d : ℕ) (s : Ready) (ref : ℕ) (list : Succs) (block : Node) (v : InvReady d s) (points : BlockPointsToValidReferences block (s .ephemeralIndirectionTable .graph)) (succs : SameSuccs list block) where
+module _ (d : ℕ) (s : Ready) (ref : ℕ) (list : Succs) (block : Node) (v : InvReady d s)
+    (points : BlockPointsToValidReferences block (s .ephemeralIndirectionTable .graph)) (succs : SameSuccs list block) where
   abbrev locs' : Map Location
   locs' = s .ephemeralIndirectionTable .locs
 
@@ -190,6 +192,7 @@ pub alloc-fixed : (d : ℕ) (s s' : Ready) (ref : ℕ) (block : Node) → InvRea
     s' ≡ setEphemeral s (record { locs = del (s .ephemeralIndirectionTable .locs) ref; graph = put (s .ephemeralIndirectionTable .graph) ref (u .list) }) (put (s .cache) ref block)
 alloc-fixed d s s' ref block v u =
     let locs = s .ephemeralIndirectionTable .locs in
-    let absent : locs ref ≡ none = none-iff (locs ref) .0 (split (isSome (locs ref)) (λ t. clash {b = isSome (s .ephemeralIndirectionTable .graph ref)} (v .ephemeral .wf .keys ref t) (ap isSome (u .not-allocated))) (λ t. t)) in
+    let absent : locs ref ≡ none = none-iff (locs ref) .0
+    (split (isSome (locs ref)) (λ t. clash {b = isSome (s .ephemeralIndirectionTable .graph ref)} (v .ephemeral .wf .keys ref t) (ap isSome (u .not-allocated))) (λ t. t)) in
     ready-ext (u .persistentIndirectionTable') (u .frozenIndirectionTable') (table-is (u .locs' ∙ sym (del-absent locs ref absent)) (u .graph')) (u .persistentIndirectionTableLoc')
     (u .frozenIndirectionTableLoc') (u .outstandingIndirectionTableWrite') (u .outstandingBlockWrites') (u .outstandingBlockReads') (u .cache')

@@ -11,8 +11,11 @@ use Rattle.blockcache.specs.Abstract.{cacheVars, callOp}
 use Rattle.blockcache.specs.Form.{emptyCache}
 use Rattle.blockcache.specs.NextStep.{NextStep, OnBoth}
 use Rattle.blockcache.specs.Step.{cacheNext, cacheRows}
-use Rattle.blockcache.specs.Steps.{Step, allocStep, cleanUpStep, crashStep, dirtyStep, evictStep, freezeStep, noOpStep, pageInIndirectionTableReqStep, pageInIndirectionTableRespStep, pageInNodeReqStep, pageInNodeRespStep, readStep, receiveLocStep, unallocStep, writeBackIndirectionTableReqStep, writeBackIndirectionTableRespStep, writeBackNodeReqStep, writeBackNodeRespStep}
-use Rattle.blockcache.specs.Upstream.{Alloc, CleanUp, Dirty, Evict, Freeze, Init, PageInNodeReq, PageInNodeResp, Ready, Unalloc, Variables, WriteBackIndirectionTableReq, WriteBackIndirectionTableResp, WriteBackNodeReq, WriteBackNodeResp}
+use Rattle.blockcache.specs.Steps.{Step, allocStep, cleanUpStep, crashStep, dirtyStep, evictStep, freezeStep, noOpStep, pageInIndirectionTableReqStep, pageInIndirectionTableRespStep}
+use Rattle.blockcache.specs.Steps.{pageInNodeReqStep, pageInNodeRespStep, readStep, receiveLocStep, unallocStep, writeBackIndirectionTableReqStep, writeBackIndirectionTableRespStep}
+use Rattle.blockcache.specs.Steps.{writeBackNodeReqStep, writeBackNodeRespStep}
+use Rattle.blockcache.specs.Upstream.{Alloc, CleanUp, Dirty, Evict, Freeze, Init, PageInNodeReq, PageInNodeResp, Ready, Unalloc, Variables, WriteBackIndirectionTableReq}
+use Rattle.blockcache.specs.Upstream.{WriteBackIndirectionTableResp, WriteBackNodeReq, WriteBackNodeResp}
 use Rattle.blockcache.specs.UpstreamInv.{Inv, InvReady}
 use Rattle.blockcache.specs.declared.CacheState.{CacheState}
 use Rattle.blockcache.specs.declared.Call.{Call}

@@ -9,7 +9,8 @@ use Rattle.base.proofs.Tests.{never}
 use Rattle.base.specs.Maps.{Map, del, empty, put}
 use Rattle.blockcache.proofs.InvLaws.{in-put, put-none, ready-ext}
 use Rattle.blockcache.specs.Form.{idle}
-use Rattle.blockcache.specs.Upstream.{AllLocationsForDifferentRefsDontOverlap, CleanUp, PageInIndirectionTableResp, PageInNodeReq, PageInNodeResp, Ready, WFCompleteIndirectionTable, setCache, setLocs, setReads, setTables}
+use Rattle.blockcache.specs.Upstream.{AllLocationsForDifferentRefsDontOverlap, CleanUp, PageInIndirectionTableResp, PageInNodeReq, PageInNodeResp, Ready, WFCompleteIndirectionTable}
+use Rattle.blockcache.specs.Upstream.{setCache, setLocs, setReads, setTables}
 use Rattle.blockcache.specs.UpstreamInv.{CacheConsistentWithSuccessors, InvFrozen, InvReady, OutstandingReadRefsUnique}
 use Rattle.disklayout.specs.Device.{deviceOf}
 use Rattle.disklayout.specs.Layout.{ValidIndirectionTableLocation}
@@ -105,7 +106,8 @@ loaded-fixed d at read s' id o u =
     ready-ext (u .persistentIndirectionTable') (u .frozenIndirectionTable') (u .ephemeralIndirectionTable') (u .persistentIndirectionTableLoc')
     (u .frozenIndirectionTableLoc') (u .outstandingIndirectionTableWrite') (u .outstandingBlockWrites') (u .outstandingBlockReads') (u .cache')
 
-pub loaded-inv : (d : ℕ) (t : IndirectionTable) (at : Location) → WFCompleteIndirectionTable d t → AllLocationsForDifferentRefsDontOverlap t → ValidIndirectionTableLocation (deviceOf d) at ≡ true → InvReady d (loaded t at)
+pub loaded-inv : (d : ℕ) (t : IndirectionTable) (at : Location) → WFCompleteIndirectionTable d t → AllLocationsForDifferentRefsDontOverlap t →
+    ValidIndirectionTableLocation (deviceOf d) at ≡ true → InvReady d (loaded t at)
 loaded-inv d t at w h ok =
     record {
       persistent = record {

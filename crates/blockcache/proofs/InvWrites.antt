@@ -65,7 +65,8 @@ module _ (d : ℕ) (s s' : Ready) (id : ℕ) (loc : Location) (n : Node) (ref : 
   writes-apart-after i j w x m k a =
       ⊎-elim
       (λ p. ⊎-elim (λ q. p .0 ∙ sym (q .0)) (λ q. absurd (u .free .writes j x (q .1) (sym a ∙ ap (λ (z : OutstandingWrite). z .loc .addr) (sym (p .1))))) (put-some writes id new j k))
-      (λ p. ⊎-elim (λ q. absurd (u .free .writes i w (p .1) (a ∙ ap (λ (z : OutstandingWrite). z .loc .addr) (sym (q .1))))) (λ q. v .outstanding .writes-apart i j w x (p .1) (q .1) a) (put-some writes id new j k))
+      (λ p. ⊎-elim (λ q. absurd (u .free .writes i w (p .1) (a ∙ ap (λ (z : OutstandingWrite). z .loc .addr) (sym (q .1)))))
+      (λ q. v .outstanding .writes-apart i j w x (p .1) (q .1) a) (put-some writes id new j k))
       (put-some writes id new i m)
 
   frozen-kept : (t : IndirectionTable) → s .frozenIndirectionTable ≡ some t → InvFrozen d (assignRefToLocation t ref loc) (s .cache) (put writes id new)
@@ -95,7 +96,8 @@ module _ (d : ℕ) (s s' : Ready) (id : ℕ) (loc : Location) (n : Node) (ref : 
           overlapping = assign-overlapping table ref loc writes id (u .free .ephemeral) (u .free .writes) (v .ephemeral .overlapping);
           distinct = assign-distinct table ref loc (u .free .ephemeral) (v .ephemeral .distinct);
         };
-        frozen = λ t e. let x = map-eq-some-iff (λ t. assignRefToLocation t ref loc) (s .frozenIndirectionTable) .0 e in subst (λ z. InvFrozen d z (s .cache) (put writes id new)) (x .2) (frozen-kept (x .0) (x .1));
+        frozen = λ t e. let x = map-eq-some-iff (λ t. assignRefToLocation t ref loc) (s .frozenIndirectionTable) .0 e in
+            subst (λ z. InvFrozen d z (s .cache) (put writes id new)) (x .2) (frozen-kept (x .0) (x .1));
         outstanding = record {
           reads-unique = v .outstanding .reads-unique;
           writes-valid = λ i w m. ⊎-elim (λ x. rw (ap (λ (z : OutstandingWrite). z .loc) (x .1)) at (u .valid)) (λ x. v .outstanding .writes-valid i w (x .1)) (put-some writes id new i m);

@@ -10,19 +10,23 @@ use lib.Dec.{eqb}
 use Rattle.base.specs.Maps.{flagged}
 use Rattle.blockcache.specs.Abstract.{awaitedId, cacheVars, readyVars, varsIn}
 use Rattle.blockcache.specs.Form.{isReady, loadingPhase, readyPhase, unreadyPhase}
-use Rattle.blockcache.specs.NextStep.{IdleVop, OnLoading, OnReady, OnReqReadIndirectionTable, OnReqReadNode, OnReqWriteIndirectionTable, OnReqWriteNode, OnRespReadIndirectionTable, OnRespReadNode, OnRespWriteIndirectionTable, OnRespWriteNode}
+use Rattle.blockcache.specs.NextStep.{IdleVop, OnLoading, OnReady, OnReqReadIndirectionTable, OnReqReadNode, OnReqWriteIndirectionTable, OnReqWriteNode, OnRespReadIndirectionTable}
+use Rattle.blockcache.specs.NextStep.{OnRespReadNode, OnRespWriteIndirectionTable, OnRespWriteNode}
 use Rattle.blockcache.specs.Ops.{dopBrought, dopId, dopKind, dopLoc, vopKind, vopLoc, vopNoOp}
 use Rattle.blockcache.specs.Upstream.{Ready, loadingIndirectionTable, ready, unready}
 use Rattle.blockcache.specs.declared.CacheState.{CacheState}
 use Rattle.blockcache.specs.declared.Phase.{Phase}
 use Rattle.blockcache.specs.declared.Phase.the-variants.{Loading as PhaseLoading, Ready as PhaseReady, Unready as PhaseUnready}
 use Rattle.blockcache.specs.declared.VersionOp.{VersionOp}
-use Rattle.blockcache.specs.declared.VersionOp.the-variants.{AdvanceOp, CleanUpOp, CrashOp, FreezeOp, JournalInternalOp, PopSyncOp, PushSyncOp, SendFrozenLocOp, SendPersistentLocOp, StatesInternalOp}
+use Rattle.blockcache.specs.declared.VersionOp.the-variants.{AdvanceOp, CleanUpOp, CrashOp, FreezeOp, JournalInternalOp, PopSyncOp, PushSyncOp, SendFrozenLocOp, SendPersistentLocOp}
+use Rattle.blockcache.specs.declared.VersionOp.the-variants.{StatesInternalOp}
 use Rattle.blockdisk.specs.Ops.{somethingIn}
-use Rattle.blockdisk.specs.Upstream.{Dop, noDiskOp, opOf, reqReadIndirectionTable, reqReadNode, reqWriteIndirectionTable, reqWriteNode, respReadIndirectionTable, respReadNode, respWriteIndirectionTable, respWriteNode}
+use Rattle.blockdisk.specs.Upstream.{Dop, noDiskOp, opOf, reqReadIndirectionTable, reqReadNode, reqWriteIndirectionTable, reqWriteNode, respReadIndirectionTable, respReadNode}
+use Rattle.blockdisk.specs.Upstream.{respWriteIndirectionTable, respWriteNode}
 use Rattle.blockdisk.specs.declared.Brought.{Brought}
 use Rattle.blockdisk.specs.declared.DiskOp.{DiskOp}
-use Rattle.blockdisk.specs.declared.DiskOp.the-variants.{NoDiskOp, ReqReadIndirectionTableOp, ReqReadNodeOp, ReqWriteIndirectionTableOp, ReqWriteNodeOp, RespReadIndirectionTableOp, RespReadNodeOp, RespWriteIndirectionTableOp, RespWriteNodeOp}
+use Rattle.blockdisk.specs.declared.DiskOp.the-variants.{NoDiskOp, ReqReadIndirectionTableOp, ReqReadNodeOp, ReqWriteIndirectionTableOp, ReqWriteNodeOp, RespReadIndirectionTableOp}
+use Rattle.blockdisk.specs.declared.DiskOp.the-variants.{RespReadNodeOp, RespWriteIndirectionTableOp, RespWriteNodeOp}
 use Rattle.disklayout.specs.declared.Location.{Location}
 use Rattle.sectortype.specs.Abstract.{IndirectionTable, indirectionTable}
 use Rattle.sectortype.specs.declared.Node.{Node}

@@ -10,7 +10,7 @@ use Rattle.base.proofs.Refusals.{Clear}
 use Rattle.base.proofs.Tests.{and-both, and-iff, and-left, and-right, clash, eqb-iff, not-iff, or-iff, split}
 use Rattle.blockcache.proofs.Bridge.{flagged-is-iff, flagged-none-iff}
 use Rattle.blockcache.proofs.Forms.{CacheForm, WellFormed}
-use Rattle.blockcache.proofs.Frames.{Exact, Open, Own}
+use Rattle.blockcache.proofs.Frames.{Complete, Exact, Sound}
 use Rattle.blockcache.proofs.IdleOps.{idle-kind, idle-op}
 use Rattle.blockcache.proofs.OpKinds.{crash-op-iff, idle-vop-iff, on-ready-iff}
 use Rattle.blockcache.proofs.Waiting.{writes-has}
@@ -24,7 +24,8 @@ use Rattle.blockcache.specs.declared.CacheState.{CacheState}
 use Rattle.blockcache.specs.declared.Call.{Call}
 use Rattle.blockdisk.specs.Upstream.{opOf}
 use Rattle.blockdisk.specs.declared.DiskOp.{DiskOp}
-use Rattle.blockdisk.specs.declared.DiskOp.the-variants.{NoDiskOp, ReqReadIndirectionTableOp, ReqReadNodeOp, ReqWriteIndirectionTableOp, ReqWriteNodeOp, RespReadIndirectionTableOp, RespReadNodeOp, RespWriteIndirectionTableOp, RespWriteNodeOp}
+use Rattle.blockdisk.specs.declared.DiskOp.the-variants.{NoDiskOp, ReqReadIndirectionTableOp, ReqReadNodeOp, ReqWriteIndirectionTableOp, ReqWriteNodeOp, RespReadIndirectionTableOp}
+use Rattle.blockdisk.specs.declared.DiskOp.the-variants.{RespReadNodeOp, RespWriteIndirectionTableOp, RespWriteNodeOp}
 use Rattle.disklayout.specs.Device.{made}
 use Rattle.queue.specs.Queue.{hasOf}
 use Rattle.sectortype.specs.Abstract.{indirectionTable}
@@ -40,12 +41,12 @@ module _ (d : ℕ) (c : CacheState) (q : Call) (w : WellFormed d c q) where
 
   -- Freeze
 
-  freeze-sound : Open d c q freezeStep → Clear (ownRows d c q freezeStep) → Own d c q freezeStep (cacheVars (stepNext c q freezeStep))
+  freeze-sound : Sound d c q freezeStep
   freeze-sound taken k =
       on-ready-iff (stepNext c q freezeStep) (λ y. Freeze (readyVars c) y) .1
       (taken .2, record { no-table-write = flagged-none-iff (c .awaited .waiting) (c .awaited .id) .0 (k .0); next = refl })
 
-  freeze-complete : (s' : Variables) → stepNarrowed c q freezeStep ≡ false → Own d c q freezeStep s' → Clear (ownRows d c q freezeStep)
+  freeze-complete : Complete d c q freezeStep
   freeze-complete s' ns (y, e, p) = (flagged-none-iff (c .awaited .waiting) (c .awaited .id) .1 (p .no-table-write), tt)
 
   pub freeze-exact : Exact d c q freezeStep
@@ -53,7 +54,7 @@ module _ (d : ℕ) (c : CacheState) (q : Call) (w : WellFormed d c q) where
 
   -- CleanUp
 
-  clean-up-sound : Open d c q cleanUpStep → Clear (ownRows d c q cleanUpStep) → Own d c q cleanUpStep (cacheVars (stepNext c q cleanUpStep))
+  clean-up-sound : Sound d c q cleanUpStep
   clean-up-sound taken k =
       let h = simp (not-iff, or-iff) at k in
       let there = h .1 .0 in
@@ -69,11 +70,17 @@ module _ (d : ℕ) (c : CacheState) (q : Call) (w : WellFormed d c q) where
         },
       )
 
-  clean-up-complete : (s' : Variables) → stepNarrowed c q cleanUpStep ≡ false → Own d c q cleanUpStep s' → Clear (ownRows d c q cleanUpStep)
+  clean-up-complete : Complete d c q cleanUpStep
   clean-up-complete s' ns (y, e, p) =
       simp (not-iff, or-iff) (
         flagged-none-iff (c .awaited .waiting) (c .awaited .id) .1 (p .no-table-write),
-        ((flagged-is-iff (c .places .isfrozen) (c .places .frozen) (p .loc) .0 (p .frozen-loc) .0, flagged-is-iff (c .tables .isfrozen) (indirectionTable (c .tables .frozen)) (p .table) .0 (p .frozen) .0), tt),
+        (
+          (
+            flagged-is-iff (c .places .isfrozen) (c .places .frozen) (p .loc) .0 (p .frozen-loc) .0,
+            flagged-is-iff (c .tables .isfrozen) (indirectionTable (c .tables .frozen)) (p .table) .0 (p .frozen) .0,
+          ),
+          tt,
+        ),
       )
 
   pub clean-up-exact : Exact d c q cleanUpStep
@@ -81,10 +88,10 @@ module _ (d : ℕ) (c : CacheState) (q : Call) (w : WellFormed d c q) where
 
   -- NoOp
 
-  no-op-sound : Open d c q noOpStep → Clear (ownRows d c q noOpStep) → Own d c q noOpStep (cacheVars (stepNext c q noOpStep))
+  no-op-sound : Sound d c q noOpStep
   no-op-sound taken k = record { op = idle-op c (q .node) (q .table) (q .dop) (taken .1) (k .0); next = refl }
 
-  no-op-complete : (s' : Variables) → stepNarrowed c q noOpStep ≡ false → Own d c q noOpStep s' → Clear (ownRows d c q noOpStep)
+  no-op-complete : Complete d c q noOpStep
   no-op-complete s' ns p = (idle-kind c (q .node) (q .table) (q .dop) (p .op) .1, tt)
 
   pub no-op-exact : Exact d c q noOpStep
@@ -92,10 +99,10 @@ module _ (d : ℕ) (c : CacheState) (q : Call) (w : WellFormed d c q) where
 
   -- Crash, the cache's half
 
-  crash-sound : Open d c q crashStep → Clear (ownRows d c q crashStep) → Own d c q crashStep (cacheVars (stepNext c q crashStep))
+  crash-sound : Sound d c q crashStep
   crash-sound taken k = refl
 
-  crash-complete : (s' : Variables) → stepNarrowed c q crashStep ≡ false → Own d c q crashStep s' → Clear (ownRows d c q crashStep)
+  crash-complete : Complete d c q crashStep
   crash-complete s' ns i = tt
 
   pub crash-exact : Exact d c q crashStep

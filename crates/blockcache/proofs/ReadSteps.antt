@@ -10,7 +10,7 @@ use Rattle.base.proofs.Tests.{and-both, and-false-iff, and-iff, and-right, none
 use Rattle.base.specs.Maps.{flagged, isSome}
 use Rattle.blockcache.proofs.Bridge.{flagged-is-iff, flagged-none-iff, node-rejected-iff, table-rejected-iff}
 use Rattle.blockcache.proofs.Forms.{CacheForm, WellFormed, loading-idle, no-nodes-map, read-ref-bounded, reads-requests, writes-requests}
-use Rattle.blockcache.proofs.Frames.{Exact, Open, Own}
+use Rattle.blockcache.proofs.Frames.{Complete, Exact, Sound}
 use Rattle.blockcache.proofs.OpKinds.{loading-is, on-ready-iff, unready-iff}
 use Rattle.blockcache.proofs.Waiting.{not-read-iff, reads-at, reads-empty-iff, reads-has, reads-insert, reads-remove, writes-empty-iff}
 use Rattle.blockcache.specs.Abstract.{cacheVars, readyVars}
@@ -71,7 +71,7 @@ module _ (d : ℕ) (c : CacheState) (q : Call) (w : WellFormed d c q) where
 
   -- PageInNodeReq
 
-  page-in-node-req-sound : Open d c q pageInNodeReqStep → Clear (ownRows d c q pageInNodeReqStep) → Own d c q pageInNodeReqStep (cacheVars (stepNext c q pageInNodeReqStep))
+  page-in-node-req-sound : Sound d c q pageInNodeReqStep
   page-in-node-req-sound taken k =
       let h = simp (not-iff, or-iff) at k in
       let ok = taken .2 in
@@ -89,7 +89,7 @@ module _ (d : ℕ) (c : CacheState) (q : Call) (w : WellFormed d c q) where
         },
       )
 
-  page-in-node-req-complete : (s' : Variables) → stepNarrowed c q pageInNodeReqStep ≡ false → Own d c q pageInNodeReqStep s' → Clear (ownRows d c q pageInNodeReqStep)
+  page-in-node-req-complete : Complete d c q pageInNodeReqStep
   page-in-node-req-complete s' ns (y, e, p) =
       let n = simp or-iff at ns in
       let l = locs-some table r (p .located) in
@@ -125,7 +125,7 @@ module _ (d : ℕ) (c : CacheState) (q : Call) (w : WellFormed d c q) where
   abbrev unwanted : Bool
   unwanted = slotAt (c .nodes) ref .present || not (wanted .allocated)
 
-  page-in-node-resp-sound : Open d c q pageInNodeRespStep → Clear (ownRows d c q pageInNodeRespStep) → Own d c q pageInNodeRespStep (cacheVars (stepNext c q pageInNodeRespStep))
+  page-in-node-resp-sound : Sound d c q pageInNodeRespStep
   page-in-node-resp-sound taken k =
       let h = simp not-iff at k in
       let ok = taken .2 in
@@ -151,7 +151,7 @@ module _ (d : ℕ) (c : CacheState) (q : Call) (w : WellFormed d c q) where
         },
       )
 
-  page-in-node-resp-complete : (s' : Variables) → stepNarrowed c q pageInNodeRespStep ≡ false → Own d c q pageInNodeRespStep s' → Clear (ownRows d c q pageInNodeRespStep)
+  page-in-node-resp-complete : Complete d c q pageInNodeRespStep
   page-in-node-resp-complete s' ns (y, e, p) =
       let there : known ≡ true = sym (reads-has reading id) ∙ ap isSome (p .there) in
       let one : some (p .ref) ≡ some ref = sym (p .there) ∙ reads-at reading id there in
@@ -173,7 +173,7 @@ module _ (d : ℕ) (c : CacheState) (q : Call) (w : WellFormed d c q) where
 
   -- PageInIndirectionTableReq
 
-  page-in-table-req-sound : Open d c q pageInIndirectionTableReqStep → Clear (ownRows d c q pageInIndirectionTableReqStep) → Own d c q pageInIndirectionTableReqStep (cacheVars (stepNext c q pageInIndirectionTableReqStep))
+  page-in-table-req-sound : Sound d c q pageInIndirectionTableReqStep
   page-in-table-req-sound taken k =
       let h = simp not-iff at k in
       record {
@@ -182,7 +182,7 @@ module _ (d : ℕ) (c : CacheState) (q : Call) (w : WellFormed d c q) where
         next = loading-is (stepNext c q pageInIndirectionTableReqStep) (taken .2);
       }
 
-  page-in-table-req-complete : (s' : Variables) → stepNarrowed c q pageInIndirectionTableReqStep ≡ false → Own d c q pageInIndirectionTableReqStep s' → Clear (ownRows d c q pageInIndirectionTableReqStep)
+  page-in-table-req-complete : Complete d c q pageInIndirectionTableReqStep
   page-in-table-req-complete s' ns p =
       simp not-iff
       (same-loc-iff loc (c .places .persistent) .1 (p .place), (flagged-none-iff (c .awaited .waiting) (c .awaited .id) .1 (p .no-read), tt))
@@ -192,7 +192,7 @@ module _ (d : ℕ) (c : CacheState) (q : Call) (w : WellFormed d c q) where
 
   -- PageInIndirectionTableResp
 
-  page-in-table-resp-sound : Open d c q pageInIndirectionTableRespStep → Clear (ownRows d c q pageInIndirectionTableRespStep) → Own d c q pageInIndirectionTableRespStep (cacheVars (stepNext c q pageInIndirectionTableRespStep))
+  page-in-table-resp-sound : Sound d c q pageInIndirectionTableRespStep
   page-in-table-resp-sound taken k =
       let h = simp not-iff at k in
       let wait = and-iff (c .awaited .waiting) (eqb (c .awaited .id) id) .0 (h .0) in
@@ -218,7 +218,7 @@ module _ (d : ℕ) (c : CacheState) (q : Call) (w : WellFormed d c q) where
         },
       )
 
-  page-in-table-resp-complete : (s' : Variables) → stepNarrowed c q pageInIndirectionTableRespStep ≡ false → Own d c q pageInIndirectionTableRespStep s' → Clear (ownRows d c q pageInIndirectionTableRespStep)
+  page-in-table-resp-complete : Complete d c q pageInIndirectionTableRespStep
   page-in-table-resp-complete s' ns (y, e, p) =
       let wait = flagged-is-iff (c .awaited .waiting) (c .awaited .id) id .0 (p .awaited) in
       let something = flagged-is-iff (somethingIn brings) (indirectionTable (q .table)) (p .t) .0 (p .table) in
@@ -235,7 +235,7 @@ module _ (d : ℕ) (c : CacheState) (q : Call) (w : WellFormed d c q) where
 
   -- ReceiveLoc
 
-  receive-loc-sound : Open d c q receiveLocStep → Clear (ownRows d c q receiveLocStep) → Own d c q receiveLocStep (cacheVars (stepNext c q receiveLocStep))
+  receive-loc-sound : Sound d c q receiveLocStep
   receive-loc-sound taken k =
       let h = simp not-iff at k in
       record {
@@ -244,7 +244,7 @@ module _ (d : ℕ) (c : CacheState) (q : Call) (w : WellFormed d c q) where
         next = refl;
       }
 
-  receive-loc-complete : (s' : Variables) → stepNarrowed c q receiveLocStep ≡ false → Own d c q receiveLocStep s' → Clear (ownRows d c q receiveLocStep)
+  receive-loc-complete : Complete d c q receiveLocStep
   receive-loc-complete s' ns p = simp not-iff (and-both (w .on) (p .valid), tt)
 
   pub receive-loc-exact : Exact d c q receiveLocStep

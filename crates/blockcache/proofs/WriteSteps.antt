@@ -10,7 +10,7 @@ use Rattle.base.proofs.Refusals.{Clear}
 use Rattle.base.proofs.Tests.{and-both, and-false-iff, and-iff, and-right, not-iff, or-iff}
 use Rattle.blockcache.proofs.Bridge.{assigned-is, flagged-each-iff, flagged-is-iff, flagged-none-iff, held-iff, no-location-iff}
 use Rattle.blockcache.proofs.Forms.{CacheForm, WellFormed, writes-requests}
-use Rattle.blockcache.proofs.Frames.{Exact, Open, Own}
+use Rattle.blockcache.proofs.Frames.{Complete, Exact, Sound}
 use Rattle.blockcache.proofs.OpKinds.{on-ready-iff}
 use Rattle.blockcache.proofs.Waiting.{writes-empty-iff, writes-has, writes-insert, writes-remove}
 use Rattle.blockcache.specs.Abstract.{cacheVars, readyVars}
@@ -20,7 +20,8 @@ use Rattle.blockcache.specs.Ops.{dopId, dopLoc, vopLoc}
 use Rattle.blockcache.specs.Rows.{ownRows}
 use Rattle.blockcache.specs.Scan.{heldIn}
 use Rattle.blockcache.specs.Steps.{writeBackIndirectionTableReqStep, writeBackIndirectionTableRespStep, writeBackNodeReqStep, writeBackNodeRespStep}
-use Rattle.blockcache.specs.Upstream.{NoAddr, ValidAllocation, Variables, WriteBackIndirectionTableReq, WriteBackIndirectionTableResp, WriteBackNodeReq, WriteBackNodeResp, assignRefToLocation, setWrites}
+use Rattle.blockcache.specs.Upstream.{NoAddr, ValidAllocation, Variables, WriteBackIndirectionTableReq, WriteBackIndirectionTableResp, WriteBackNodeReq, WriteBackNodeResp}
+use Rattle.blockcache.specs.Upstream.{assignRefToLocation, setWrites}
 use Rattle.blockcache.specs.declared.CacheState.{CacheState}
 use Rattle.blockcache.specs.declared.Call.{Call}
 use Rattle.disklayout.specs.Device.{deviceOf, made}
@@ -71,7 +72,7 @@ module _ (d : ℕ) (c : CacheState) (q : Call) (w : WellFormed d c q) where
 
   -- WriteBackNodeReq
 
-  write-back-node-req-sound : Open d c q writeBackNodeReqStep → Clear (ownRows d c q writeBackNodeReqStep) → Own d c q writeBackNodeReqStep (cacheVars (stepNext c q writeBackNodeReqStep))
+  write-back-node-req-sound : Sound d c q writeBackNodeReqStep
   write-back-node-req-sound taken k =
       let h = simp (not-iff, or-iff, and-false-iff) at k in
       let ready = taken .2 in
@@ -105,7 +106,7 @@ module _ (d : ℕ) (c : CacheState) (q : Call) (w : WellFormed d c q) where
         },
       )
 
-  write-back-node-req-complete : (s' : Variables) → stepNarrowed c q writeBackNodeReqStep ≡ false → Own d c q writeBackNodeReqStep s' → Clear (ownRows d c q writeBackNodeReqStep)
+  write-back-node-req-complete : Complete d c q writeBackNodeReqStep
   write-back-node-req-complete s' ns (y, e, p) =
       let n = simp or-iff at ns in
       let there = nodes-some (c .nodes) r (p .cached) in
@@ -131,7 +132,7 @@ module _ (d : ℕ) (c : CacheState) (q : Call) (w : WellFormed d c q) where
 
   -- WriteBackNodeResp
 
-  write-back-node-resp-sound : Open d c q writeBackNodeRespStep → Clear (ownRows d c q writeBackNodeRespStep) → Own d c q writeBackNodeRespStep (cacheVars (stepNext c q writeBackNodeRespStep))
+  write-back-node-resp-sound : Sound d c q writeBackNodeRespStep
   write-back-node-resp-sound taken k =
       let h = simp not-iff at k in
       on-ready-iff (stepNext c q writeBackNodeRespStep) (λ y. WriteBackNodeResp (readyVars c) y id) .1 (
@@ -139,7 +140,7 @@ module _ (d : ℕ) (c : CacheState) (q : Call) (w : WellFormed d c q) where
         record { there = writes-has writes id ∙ h .0; next = ap (setWrites (readyVars c)) (writes-remove writes (writes-requests c f) id (h .0)) },
       )
 
-  write-back-node-resp-complete : (s' : Variables) → stepNarrowed c q writeBackNodeRespStep ≡ false → Own d c q writeBackNodeRespStep s' → Clear (ownRows d c q writeBackNodeRespStep)
+  write-back-node-resp-complete : Complete d c q writeBackNodeRespStep
   write-back-node-resp-complete s' ns (y, e, p) = simp not-iff (sym (writes-has writes id) ∙ p .there, tt)
 
   pub write-back-node-resp-exact : Exact d c q writeBackNodeRespStep
@@ -147,7 +148,7 @@ module _ (d : ℕ) (c : CacheState) (q : Call) (w : WellFormed d c q) where
 
   -- WriteBackIndirectionTableReq
 
-  write-back-table-req-sound : Open d c q writeBackIndirectionTableReqStep → Clear (ownRows d c q writeBackIndirectionTableReqStep) → Own d c q writeBackIndirectionTableReqStep (cacheVars (stepNext c q writeBackIndirectionTableReqStep))
+  write-back-table-req-sound : Sound d c q writeBackIndirectionTableReqStep
   write-back-table-req-sound taken k =
       let h = simp (not-iff, or-iff, and-false-iff) at k in
       let ready = taken .2 in
@@ -167,7 +168,7 @@ module _ (d : ℕ) (c : CacheState) (q : Call) (w : WellFormed d c q) where
         },
       )
 
-  write-back-table-req-complete : (s' : Variables) → stepNarrowed c q writeBackIndirectionTableReqStep ≡ false → Own d c q writeBackIndirectionTableReqStep s' → Clear (ownRows d c q writeBackIndirectionTableReqStep)
+  write-back-table-req-complete : Complete d c q writeBackIndirectionTableReqStep
   write-back-table-req-complete s' ns (y, e, p) =
       let z = flagged-is-iff (c .tables .isfrozen) (indirectionTable frozen) (indirectionTable (q .table)) .0 (p .frozen) in
       let same : frozen ≡ q .table = table-abstract frozen (q .table) (f .tables .frozen) (w .call .table) .0 (z .1) in
@@ -190,7 +191,7 @@ module _ (d : ℕ) (c : CacheState) (q : Call) (w : WellFormed d c q) where
   abbrev vloc : Location
   vloc = vopLoc (q .vop)
 
-  write-back-table-resp-sound : Open d c q writeBackIndirectionTableRespStep → Clear (ownRows d c q writeBackIndirectionTableRespStep) → Own d c q writeBackIndirectionTableRespStep (cacheVars (stepNext c q writeBackIndirectionTableRespStep))
+  write-back-table-resp-sound : Sound d c q writeBackIndirectionTableRespStep
   write-back-table-resp-sound taken k =
       let h = simp not-iff at k in
       let ready = taken .2 in
@@ -205,7 +206,7 @@ module _ (d : ℕ) (c : CacheState) (q : Call) (w : WellFormed d c q) where
         },
       )
 
-  write-back-table-resp-complete : (s' : Variables) → stepNarrowed c q writeBackIndirectionTableRespStep ≡ false → Own d c q writeBackIndirectionTableRespStep s' → Clear (ownRows d c q writeBackIndirectionTableRespStep)
+  write-back-table-resp-complete : Complete d c q writeBackIndirectionTableRespStep
   write-back-table-resp-complete s' ns (y, e, p) =
       let wait = flagged-is-iff (c .awaited .waiting) (c .awaited .id) id .0 (p .awaited) in
       let place = flagged-is-iff (c .places .isfrozen) (c .places .frozen) vloc .0 (sym (p .frozen-loc)) in

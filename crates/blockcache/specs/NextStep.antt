@@ -4,11 +4,17 @@ use mathlib.Core.Bool.{Bool, true}
 use mathlib.Core.Logic.{_⊎_}
 use mathlib.Core.Option.{Option}
 use mathlib.Core.Path.{_≡_}
-use Rattle.blockcache.specs.Steps.{Step, allocStep, cleanUpStep, crashStep, dirtyStep, evictStep, freezeStep, noOpStep, pageInIndirectionTableReqStep, pageInIndirectionTableRespStep, pageInNodeReqStep, pageInNodeRespStep, readStep, receiveLocStep, unallocStep, writeBackIndirectionTableReqStep, writeBackIndirectionTableRespStep, writeBackNodeReqStep, writeBackNodeRespStep}
-use Rattle.blockcache.specs.Upstream.{Alloc, CleanUp, Dirty, Evict, Freeze, Init, NoOp, PageInIndirectionTableReq, PageInIndirectionTableResp, PageInNodeReq, PageInNodeResp, ReadStep, Ready, ReceiveLoc, Unalloc, Variables, WriteBackIndirectionTableReq, WriteBackIndirectionTableResp, WriteBackNodeReq, WriteBackNodeResp, loadingIndirectionTable, ready}
+use Rattle.blockcache.specs.Steps.{Step, allocStep, cleanUpStep, crashStep, dirtyStep, evictStep, freezeStep, noOpStep, pageInIndirectionTableReqStep, pageInIndirectionTableRespStep}
+use Rattle.blockcache.specs.Steps.{pageInNodeReqStep, pageInNodeRespStep, readStep, receiveLocStep, unallocStep, writeBackIndirectionTableReqStep, writeBackIndirectionTableRespStep}
+use Rattle.blockcache.specs.Steps.{writeBackNodeReqStep, writeBackNodeRespStep}
+use Rattle.blockcache.specs.Upstream.{Alloc, CleanUp, Dirty, Evict, Freeze, Init, NoOp, PageInIndirectionTableReq, PageInIndirectionTableResp, PageInNodeReq, PageInNodeResp, ReadStep}
+use Rattle.blockcache.specs.Upstream.{Ready, ReceiveLoc, Unalloc, Variables, WriteBackIndirectionTableReq, WriteBackIndirectionTableResp, WriteBackNodeReq, WriteBackNodeResp}
+use Rattle.blockcache.specs.Upstream.{loadingIndirectionTable, ready}
 use Rattle.blockcache.specs.declared.VersionOp.{VersionOp}
-use Rattle.blockcache.specs.declared.VersionOp.the-variants.{AdvanceOp, CleanUpOp, CrashOp, FreezeOp, JournalInternalOp, PopSyncOp, PushSyncOp, SendFrozenLocOp, SendPersistentLocOp, StatesInternalOp}
-use Rattle.blockdisk.specs.Upstream.{Dop, noDiskOp, reqReadIndirectionTable, reqReadNode, reqWriteIndirectionTable, reqWriteNode, respReadIndirectionTable, respReadNode, respWriteIndirectionTable, respWriteNode}
+use Rattle.blockcache.specs.declared.VersionOp.the-variants.{AdvanceOp, CleanUpOp, CrashOp, FreezeOp, JournalInternalOp, PopSyncOp, PushSyncOp, SendFrozenLocOp, SendPersistentLocOp}
+use Rattle.blockcache.specs.declared.VersionOp.the-variants.{StatesInternalOp}
+use Rattle.blockdisk.specs.Upstream.{Dop, noDiskOp, reqReadIndirectionTable, reqReadNode, reqWriteIndirectionTable, reqWriteNode, respReadIndirectionTable, respReadNode}
+use Rattle.blockdisk.specs.Upstream.{respWriteIndirectionTable, respWriteNode}
 use Rattle.disklayout.specs.declared.Location.{Location}
 use Rattle.sectortype.specs.Abstract.{IndirectionTable}
 use Rattle.sectortype.specs.declared.Node.{Node}

@@ -3,11 +3,13 @@ use Prim.Native.Nat.{ℕ}
 use mathlib.Core.Bool.{Bool, false}
 use Rattle.disklayout.specs.Calls.{zeroLoc}
 use Rattle.blockcache.specs.declared.VersionOp.{VersionOp}
-use Rattle.blockcache.specs.declared.VersionOp.the-variants.{AdvanceOp, CleanUpOp, CrashOp, FreezeOp, JournalInternalOp, PopSyncOp, PushSyncOp, SendFrozenLocOp, SendPersistentLocOp, StatesInternalOp}
+use Rattle.blockcache.specs.declared.VersionOp.the-variants.{AdvanceOp, CleanUpOp, CrashOp, FreezeOp, JournalInternalOp, PopSyncOp, PushSyncOp, SendFrozenLocOp, SendPersistentLocOp}
+use Rattle.blockcache.specs.declared.VersionOp.the-variants.{StatesInternalOp}
 use Rattle.blockdisk.specs.declared.Brought.{Brought}
 use Rattle.blockdisk.specs.declared.Brought.the-variants.{Nothing}
 use Rattle.blockdisk.specs.declared.DiskOp.{DiskOp}
-use Rattle.blockdisk.specs.declared.DiskOp.the-variants.{NoDiskOp, ReqReadIndirectionTableOp, ReqReadNodeOp, ReqWriteIndirectionTableOp, ReqWriteNodeOp, RespReadIndirectionTableOp, RespReadNodeOp, RespWriteIndirectionTableOp, RespWriteNodeOp}
+use Rattle.blockdisk.specs.declared.DiskOp.the-variants.{NoDiskOp, ReqReadIndirectionTableOp, ReqReadNodeOp, ReqWriteIndirectionTableOp, ReqWriteNodeOp, RespReadIndirectionTableOp}
+use Rattle.blockdisk.specs.declared.DiskOp.the-variants.{RespReadNodeOp, RespWriteIndirectionTableOp, RespWriteNodeOp}
 use Rattle.disklayout.specs.declared.Location.{Location}
 
 -- THE KINDS

@@ -5,9 +5,12 @@ use mathlib.Core.List.{List, [], _∷_}
 use lib.Dec.{eqb, leb}
 use Rattle.base.specs.Refusals.{Row, _when_}
 use Rattle.blockcache.specs.Form.{isReady, loadingPhase, readyPhase, unreadyPhase}
-use Rattle.blockcache.specs.Ops.{advance, cleanUp, crash, dopBrought, dopId, dopKind, dopLoc, freeze, internal, journalInternal, noDop, nodeReadReq, nodeReadResp, nodeWriteReq, nodeWriteResp, popSync, pushSync, sendFrozenLoc, sendPersistentLoc, tableReadReq, tableReadResp, tableWriteReq, tableWriteResp, vopKind, vopLoc, vopNoOp}
+use Rattle.blockcache.specs.Ops.{advance, cleanUp, crash, dopBrought, dopId, dopKind, dopLoc, freeze, internal, journalInternal, noDop, nodeReadReq, nodeReadResp, nodeWriteReq}
+use Rattle.blockcache.specs.Ops.{nodeWriteResp, popSync, pushSync, sendFrozenLoc, sendPersistentLoc, tableReadReq, tableReadResp, tableWriteReq, tableWriteResp, vopKind, vopLoc, vopNoOp}
 use Rattle.blockcache.specs.Scan.{NoLocation, hasPredecessor, heldIn, needsCached, nodeRejected, reads, tableRejected, writesTo}
-use Rattle.blockcache.specs.Steps.{Step, allocStep, cleanUpStep, crashStep, dirtyStep, evictStep, freezeStep, noOpStep, pageInIndirectionTableReqStep, pageInIndirectionTableRespStep, pageInNodeReqStep, pageInNodeRespStep, readStep, receiveLocStep, unallocStep, writeBackIndirectionTableReqStep, writeBackIndirectionTableRespStep, writeBackNodeReqStep, writeBackNodeRespStep}
+use Rattle.blockcache.specs.Steps.{Step, allocStep, cleanUpStep, crashStep, dirtyStep, evictStep, freezeStep, noOpStep, pageInIndirectionTableReqStep, pageInIndirectionTableRespStep}
+use Rattle.blockcache.specs.Steps.{pageInNodeReqStep, pageInNodeRespStep, readStep, receiveLocStep, unallocStep, writeBackIndirectionTableReqStep, writeBackIndirectionTableRespStep}
+use Rattle.blockcache.specs.Steps.{writeBackNodeReqStep, writeBackNodeRespStep}
 use Rattle.blockcache.specs.declared.CacheState.{CacheState}
 use Rattle.blockcache.specs.declared.Call.{Call}
 use Rattle.blockcache.specs.declared.Phase.{Phase}

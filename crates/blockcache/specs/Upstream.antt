@@ -7,7 +7,8 @@ use mathlib.Core.Option.{Option, none, some}
 use mathlib.Core.Path.{_≡_}
 use Rattle.blockcache.specs.Scan.{reads}
 use Rattle.base.specs.Maps.{Map, del, empty, isSome, put}
-use Rattle.blockdisk.specs.Upstream.{Dop, noDiskOp, reqReadIndirectionTable, reqReadNode, reqWriteIndirectionTable, reqWriteNode, respReadIndirectionTable, respReadNode, respWriteIndirectionTable, respWriteNode}
+use Rattle.blockdisk.specs.Upstream.{Dop, noDiskOp, reqReadIndirectionTable, reqReadNode, reqWriteIndirectionTable, reqWriteNode, respReadIndirectionTable, respReadNode}
+use Rattle.blockdisk.specs.Upstream.{respWriteIndirectionTable, respWriteNode}
 use Rattle.disklayout.specs.Device.{deviceOf}
 use Rattle.disklayout.specs.Layout.{ValidIndirectionTableLocation, ValidNodeLocation, overlap}
 use Rattle.disklayout.specs.declared.Location.{Location}

@@ -5,7 +5,8 @@ use mathlib.Core.Logic.{_⊎_}
 use mathlib.Core.Option.{Option, none, some}
 use mathlib.Core.Path.{_≡_}
 use Rattle.base.specs.Maps.{Map, isSome}
-use Rattle.blockcache.specs.Upstream.{AllLocationsForDifferentRefsDontOverlap, In, OutstandingWrite, Ready, SameSuccs, Variables, WFCompleteIndirectionTable, WFIndirectionTable, loadingIndirectionTable, ready, unready}
+use Rattle.blockcache.specs.Upstream.{AllLocationsForDifferentRefsDontOverlap, In, OutstandingWrite, Ready, SameSuccs, Variables, WFCompleteIndirectionTable, WFIndirectionTable}
+use Rattle.blockcache.specs.Upstream.{loadingIndirectionTable, ready, unready}
 use Rattle.disklayout.specs.Device.{deviceOf}
 use Rattle.disklayout.specs.Layout.{ValidIndirectionTableLocation, ValidNodeLocation, overlap}
 use Rattle.disklayout.specs.declared.Location.{Location}

@@ -17,7 +17,9 @@ use Rattle.blockcache.specs.Abstract.{cacheVars, callOp}
 use Rattle.blockcache.specs.NextStep.{IdleVop, NextStep}
 use Rattle.blockcache.specs.Ops.{vopKind, vopLoc}
 use Rattle.blockcache.specs.Step.{cacheNext}
-use Rattle.blockcache.specs.Steps.{Step, allocStep, cleanUpStep, crashStep, dirtyStep, evictStep, freezeStep, isCrash, isRead, isStart, noOpStep, pageInIndirectionTableReqStep, pageInIndirectionTableRespStep, pageInNodeReqStep, pageInNodeRespStep, readStep, receiveLocStep, stepOf, steps, unallocStep, writeBackIndirectionTableReqStep, writeBackIndirectionTableRespStep, writeBackNodeReqStep, writeBackNodeRespStep}
+use Rattle.blockcache.specs.Steps.{Step, allocStep, cleanUpStep, crashStep, dirtyStep, evictStep, freezeStep, isCrash, isRead, isStart, noOpStep, pageInIndirectionTableReqStep}
+use Rattle.blockcache.specs.Steps.{pageInIndirectionTableRespStep, pageInNodeReqStep, pageInNodeRespStep, readStep, receiveLocStep, stepOf, steps, unallocStep, writeBackIndirectionTableReqStep}
+use Rattle.blockcache.specs.Steps.{writeBackIndirectionTableRespStep, writeBackNodeReqStep, writeBackNodeRespStep}
 use Rattle.blockcache.specs.Upstream.{Variables as MVariables, unready}
 use Rattle.blockcache.specs.declared.CacheState.{CacheState}
 use Rattle.blockcache.specs.declared.Call.{Call}

@@ -7,7 +7,8 @@ use mathlib.Core.Path.{_≡_}
 use Rattle.base.specs.Maps.{Map, flagged, isSome}
 use Rattle.blockcache.specs.Abstract.{cacheVars}
 use Rattle.blockcache.specs.Form.{cacheForm}
-use Rattle.blockcache.specs.Upstream.{AllLocationsForDifferentRefsDontOverlap, In, NoAddr, OutstandingWrite, Ready, SameSuccs, Variables, WFCompleteIndirectionTable, loadingIndirectionTable, ready, unready}
+use Rattle.blockcache.specs.Upstream.{AllLocationsForDifferentRefsDontOverlap, In, NoAddr, OutstandingWrite, Ready, SameSuccs, Variables, WFCompleteIndirectionTable, loadingIndirectionTable}
+use Rattle.blockcache.specs.Upstream.{ready, unready}
 use Rattle.blockcache.specs.UpstreamInv.{Inv}
 use Rattle.blockdisk.specs.Form.{diskForm}
 use Rattle.blockdisk.specs.Upstream.{Imap, Variables as DVariables, diskVars}

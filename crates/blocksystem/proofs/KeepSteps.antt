@@ -5,8 +5,11 @@ use mathlib.Core.Path.{_∙_, _≡_, sym}
 use Rattle.base.proofs.Tests.{clash}
 use Rattle.base.specs.Maps.{Map, del, put}
 use Rattle.blockcache.specs.NextStep.{NextStep, OnBoth}
-use Rattle.blockcache.specs.Steps.{Step, allocStep, cleanUpStep, dirtyStep, evictStep, freezeStep, noOpStep, pageInIndirectionTableReqStep, pageInIndirectionTableRespStep, pageInNodeReqStep, pageInNodeRespStep, readStep, receiveLocStep, unallocStep, writeBackIndirectionTableReqStep, writeBackIndirectionTableRespStep, writeBackNodeReqStep, writeBackNodeRespStep}
-use Rattle.blockcache.specs.Upstream.{Alloc, CleanUp, Dirty, Evict, Freeze, PageInNodeReq, PageInNodeResp, Ready, Unalloc, Variables, WriteBackIndirectionTableReq, WriteBackIndirectionTableResp, WriteBackNodeReq, WriteBackNodeResp, ready}
+use Rattle.blockcache.specs.Steps.{Step, allocStep, cleanUpStep, dirtyStep, evictStep, freezeStep, noOpStep, pageInIndirectionTableReqStep, pageInIndirectionTableRespStep, pageInNodeReqStep}
+use Rattle.blockcache.specs.Steps.{pageInNodeRespStep, readStep, receiveLocStep, unallocStep, writeBackIndirectionTableReqStep, writeBackIndirectionTableRespStep, writeBackNodeReqStep}
+use Rattle.blockcache.specs.Steps.{writeBackNodeRespStep}
+use Rattle.blockcache.specs.Upstream.{Alloc, CleanUp, Dirty, Evict, Freeze, PageInNodeReq, PageInNodeResp, Ready, Unalloc, Variables, WriteBackIndirectionTableReq, WriteBackIndirectionTableResp}
+use Rattle.blockcache.specs.Upstream.{WriteBackNodeReq, WriteBackNodeResp, ready}
 use Rattle.blockcache.specs.UpstreamInv.{Inv}
 use Rattle.blockcache.specs.declared.VersionOp.{VersionOp}
 use Rattle.blockcache.specs.declared.VersionOp.the-variants.{SendFrozenLocOp, SendPersistentLocOp}

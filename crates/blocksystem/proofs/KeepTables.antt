@@ -42,7 +42,8 @@ frozen-of-ephemeral d x v t w =
     record {
       pictured = p .pictured;
       cached = λ ref g e.
-          ⊎-elim (λ c. let n = some-of (x .cache) ref c in (n .0, n .1, p .cached ref (n .0) g (n .1))) (λ l. not-both (x .ephemeralIndirectionTable .locs) ref l e) (w .inv .ephemeral .consistent ref g);
+          ⊎-elim (λ c. let n = some-of (x .cache) ref c in (n .0, n .1, p .cached ref (n .0) g (n .1)))
+          (λ l. not-both (x .ephemeralIndirectionTable .locs) ref l e) (w .inv .ephemeral .consistent ref g);
     }
 
 pub keep-freeze : (d : ℕ) (x y : Ready) (v : DVariables) (t : PictureMaps) (blank : Map Node) →

@@ -12,7 +12,9 @@ use Rattle.blockcache.specs.Abstract.{callOp}
 use Rattle.blockcache.specs.Next.{cachedSlot}
 use Rattle.blockcache.specs.NextStep.{NextStep}
 use Rattle.blockcache.specs.Ops.{vopLoc}
-use Rattle.blockcache.specs.Steps.{Step, allocStep, cleanUpStep, crashStep, dirtyStep, evictStep, freezeStep, isCrash, isStart, noOpStep, numberOf, pageInIndirectionTableReqStep, pageInIndirectionTableRespStep, pageInNodeReqStep, pageInNodeRespStep, readStep, receiveLocStep, unallocStep, writeBackIndirectionTableReqStep, writeBackIndirectionTableRespStep, writeBackNodeReqStep, writeBackNodeRespStep}
+use Rattle.blockcache.specs.Steps.{Step, allocStep, cleanUpStep, crashStep, dirtyStep, evictStep, freezeStep, isCrash, isStart, noOpStep, numberOf, pageInIndirectionTableReqStep}
+use Rattle.blockcache.specs.Steps.{pageInIndirectionTableRespStep, pageInNodeReqStep, pageInNodeRespStep, readStep, receiveLocStep, unallocStep, writeBackIndirectionTableReqStep}
+use Rattle.blockcache.specs.Steps.{writeBackIndirectionTableRespStep, writeBackNodeReqStep, writeBackNodeRespStep}
 use Rattle.blockcache.specs.Upstream.{Variables}
 use Rattle.blockcache.specs.UpstreamInv.{Inv}
 use Rattle.blockcache.specs.declared.Call.{Call}
@@ -28,7 +30,9 @@ use Rattle.sectortype.specs.Same.{sameLoc}
 use Rattle.sectortype.specs.declared.Nodes.{Nodes}
 use Rattle.blocksystem.proofs.Invariant.{PictureMaps, PicturesForm, Whole, pictureMaps}
 use Rattle.blocksystem.proofs.KeepQueues.{Started}
-use Rattle.blocksystem.proofs.KeepSteps.{alloc-kept, clean-up-kept, dirty-kept, evict-kept, freeze-kept, no-op-kept, page-in-node-req-kept, page-in-node-resp-kept, page-in-table-req-kept, page-in-table-resp-kept, read-kept, receive-loc-kept, unalloc-kept, write-back-node-req-kept, write-back-node-resp-kept, write-back-table-req-kept, write-back-table-resp-kept}
+use Rattle.blocksystem.proofs.KeepSteps.{alloc-kept, clean-up-kept, dirty-kept, evict-kept, freeze-kept, no-op-kept, page-in-node-req-kept, page-in-node-resp-kept, page-in-table-req-kept}
+use Rattle.blocksystem.proofs.KeepSteps.{page-in-table-resp-kept, read-kept, receive-loc-kept, unalloc-kept, write-back-node-req-kept, write-back-node-resp-kept, write-back-table-req-kept}
+use Rattle.blocksystem.proofs.KeepSteps.{write-back-table-resp-kept}
 use Rattle.blocksystem.specs.Joined.{diskCall}
 use Rattle.blocksystem.specs.Names.{names, pictureOf, startedAt, stepPictures}
 use Rattle.blocksystem.specs.declared.Pictures.{Pictures}
@@ -64,7 +68,8 @@ pub record KeptAfter (d : ℕ) (s : Variables) (v : DVariables) (t : Pictures) :
   pub named : t .first .present ≡ true
   pub whole : Whole d s v (pictureMaps t)
 
-module _ (d : ℕ) (q : Call) (s s' : Variables) (v v' : DVariables) (t : Pictures) (w : Whole d s v (pictureMaps t)) (f : PicturesForm t) (named : t .first .present ≡ true) (i : Inv d s') (bound : q .reference < 64) (formed : nodeForm (q .node) ≡ true) where
+module _ (d : ℕ) (q : Call) (s s' : Variables) (v v' : DVariables) (t : Pictures) (w : Whole d s v (pictureMaps t)) (f : PicturesForm t)
+    (named : t .first .present ≡ true) (i : Inv d s') (bound : q .reference < 64) (formed : nodeForm (q .node) ≡ true) where
   -- an accepted step other than a crash
   pub record Moves (step : Step) : Type 0 where
     pub cache : NextStep d s s' (callOp q) (q .vop) (q .reference) (q .node) step
@@ -103,7 +108,8 @@ module _ (d : ℕ) (q : Call) (s s' : Variables) (v v' : DVariables) (t : Pictur
       record {
         form = with-working-form (withSlot (t .working) (q .reference) zeroSlot) (with-slot-form (t .working) (q .reference) zeroSlot (f .working) bound zero-slot-form);
         named = named;
-        whole = rw (nodes-del (t .working) (q .reference) zeroSlot (f .working) bound refl) (unalloc-kept d s s' v v' (callOp q) (q .vop) (q .reference) (q .node) maps w i (m .disk) (m .move) (m .cache));
+        whole = rw (nodes-del (t .working) (q .reference) zeroSlot (f .working) bound refl)
+            (unalloc-kept d s s' v v' (callOp q) (q .vop) (q .reference) (q .node) maps w i (m .disk) (m .move) (m .cache));
       }
   step-kept pageInNodeReqStep e m = same (page-in-node-req-kept d s s' v v' (callOp q) (q .vop) (q .reference) (q .node) maps w i (m .disk) (m .move) (m .cache))
   step-kept pageInNodeRespStep e m = same (page-in-node-resp-kept d s s' v v' (callOp q) (q .vop) (q .reference) (q .node) maps w i (m .disk) (m .move) (m .cache))
@@ -117,7 +123,8 @@ module _ (d : ℕ) (q : Call) (s s' : Variables) (v v' : DVariables) (t : Pictur
       record {
         form = record { first = picture-form t (vopLoc (q .vop)) f; second = empty-nodes-form; working = picture-form t (vopLoc (q .vop)) f; frozen = f .frozen };
         named = refl;
-        whole = receive-loc-kept d s s' v v' (callOp q) (q .vop) (q .reference) (q .node) maps w i (m .disk) (m .move) l (pictureMaps to) (m .cache .1 .1) (subst (Started maps (pictureMaps to)) a n) (m .cache);
+        whole = receive-loc-kept d s s' v v' (callOp q) (q .vop) (q .reference) (q .node) maps w i (m .disk) (m .move) l (pictureMaps to)
+            (m .cache .1 .1) (subst (Started maps (pictureMaps to)) a n) (m .cache);
       }
   step-kept evictStep e m = same (evict-kept d s s' v v' (callOp q) (q .vop) (q .reference) (q .node) maps w i (m .disk) (m .move) (m .cache))
   step-kept freezeStep e m =

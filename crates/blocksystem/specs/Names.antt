@@ -4,7 +4,9 @@ use mathlib.Core.Option.{Option, none, some}
 use mathlib.Core.Bool.{Bool, _&&_, cond, false, true}
 use Rattle.blockcache.specs.Next.{cachedSlot}
 use Rattle.blockcache.specs.Ops.{vopLoc}
-use Rattle.blockcache.specs.Steps.{Step, allocStep, cleanUpStep, crashStep, dirtyStep, evictStep, freezeStep, noOpStep, pageInIndirectionTableReqStep, pageInIndirectionTableRespStep, pageInNodeReqStep, pageInNodeRespStep, readStep, receiveLocStep, stepOf, unallocStep, writeBackIndirectionTableReqStep, writeBackIndirectionTableRespStep, writeBackNodeReqStep, writeBackNodeRespStep}
+use Rattle.blockcache.specs.Steps.{Step, allocStep, cleanUpStep, crashStep, dirtyStep, evictStep, freezeStep, noOpStep, pageInIndirectionTableReqStep, pageInIndirectionTableRespStep}
+use Rattle.blockcache.specs.Steps.{pageInNodeReqStep, pageInNodeRespStep, readStep, receiveLocStep, stepOf, unallocStep, writeBackIndirectionTableReqStep, writeBackIndirectionTableRespStep}
+use Rattle.blockcache.specs.Steps.{writeBackNodeReqStep, writeBackNodeRespStep}
 use Rattle.blockcache.specs.declared.Call.{Call}
 use Rattle.disklayout.specs.Calls.{place, zeroLoc}
 use Rattle.disklayout.specs.declared.Location.{Location}

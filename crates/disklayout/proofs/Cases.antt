@@ -11,7 +11,8 @@ use Rattle.disklayout.specs.declared.Location.{Location}
 use Rattle.disklayout.specs.Calls.{numberIf}
 use Rattle.disklayout.specs.Device.{deviceOf, devices}
 use Rattle.disklayout.specs.Blocks.{FirstNodeAddr, NodeBlocksEnd}
-use Rattle.disklayout.specs.Layout.{IndirectionTable1Addr, IndirectionTable2Addr, JournalEndAddr, JournalStartAddr, ValidIndirectionTableAddr, ValidIndirectionTableLocation, ValidNodeAddr, ValidNodeLocation, ValidJournalLocation, overlap}
+use Rattle.disklayout.specs.Layout.{IndirectionTable1Addr, IndirectionTable2Addr, JournalEndAddr, JournalStartAddr, ValidIndirectionTableAddr, ValidIndirectionTableLocation, ValidNodeAddr}
+use Rattle.disklayout.specs.Layout.{ValidNodeLocation, ValidJournalLocation, overlap}
 use Rattle.disklayout.specs.Journal.{JournalFrontLocation, JournalBackLocation, JournalPosAdd}
 
 abbrev pub loc : ℕ → ℕ → Location

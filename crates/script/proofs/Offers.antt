@@ -29,7 +29,8 @@ pub small-mod : (s : List ℕ) (n : ℕ) → smallOf s 127 ≡ Value n → n % 1
 unfolding smallOf
 small-mod s n e = let h : n ≤ 127 = at-most-le 127 (numberOf s) n e in let l : n < 128 = omega (arith, h) in mod-eq-of-lt l
 
-pub blocks-turn : (r : List ℕ) (at : ℕ) (o : Offer) {o' x : Offer} → at < length r → o' ≡ withWord o (take (findOf (drop (at + 1) r) 32) (drop (at + 1) r)) → blocksFrom o (wordsOf (drop at r)) ≡ x → blocksFrom o' (wordsOf (drop (at + 1 + findOf (drop (at + 1) r) 32) r)) ≡ x
+pub blocks-turn : (r : List ℕ) (at : ℕ) (o : Offer) {o' x : Offer} → at < length r → o' ≡ withWord o (take (findOf (drop (at + 1) r) 32) (drop (at + 1) r)) →
+    blocksFrom o (wordsOf (drop at r)) ≡ x → blocksFrom o' (wordsOf (drop (at + 1 + findOf (drop (at + 1) r) 32) r)) ≡ x
 blocks-turn r at o b e h = rw e (rw (words-turn r at b) at h)
 
 pub blocks-end : (r : List ℕ) (at : ℕ) (o : Offer) {x : Offer} → length r ≤ at → blocksFrom o (wordsOf (drop at r)) ≡ x → o ≡ x

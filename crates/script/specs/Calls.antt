@@ -11,7 +11,8 @@ use Rattle.blockdisk.specs.declared.DiskState.{DiskState}
 use Rattle.blockdisk.specs.declared.Brought.{Brought}
 use Rattle.blockdisk.specs.declared.Brought.the-variants as brought
 use Rattle.blockdisk.specs.declared.DiskOp.{DiskOp}
-use Rattle.blockdisk.specs.declared.DiskOp.the-variants.{NoDiskOp, ReqReadIndirectionTableOp, ReqReadNodeOp, ReqWriteIndirectionTableOp, ReqWriteNodeOp, RespReadIndirectionTableOp, RespReadNodeOp, RespWriteIndirectionTableOp, RespWriteNodeOp}
+use Rattle.blockdisk.specs.declared.DiskOp.the-variants.{NoDiskOp, ReqReadIndirectionTableOp, ReqReadNodeOp, ReqWriteIndirectionTableOp, ReqWriteNodeOp, RespReadIndirectionTableOp}
+use Rattle.blockdisk.specs.declared.DiskOp.the-variants.{RespReadNodeOp, RespWriteIndirectionTableOp, RespWriteNodeOp}
 use Rattle.blockcache.specs.Form.{isReady}
 use Rattle.blockcache.specs.declared.CacheState.{CacheState}
 use Rattle.blockcache.specs.declared.Call.{Call}

@@ -5,7 +5,8 @@ use mathlib.Core.List.{List, [], _∷_}
 use lib.Dec.{eqb}
 use lib.ListN.{length, drop}
 use Rattle.disklayout.specs.declared.Location.{Location}
-use Rattle.blockdisk.specs.declared.DiskOp.the-variants.{NoDiskOp, ReqReadIndirectionTableOp, ReqReadNodeOp, ReqWriteIndirectionTableOp, ReqWriteNodeOp, RespReadIndirectionTableOp, RespReadNodeOp, RespWriteIndirectionTableOp, RespWriteNodeOp}
+use Rattle.blockdisk.specs.declared.DiskOp.the-variants.{NoDiskOp, ReqReadIndirectionTableOp, ReqReadNodeOp, ReqWriteIndirectionTableOp, ReqWriteNodeOp, RespReadIndirectionTableOp}
+use Rattle.blockdisk.specs.declared.DiskOp.the-variants.{RespReadNodeOp, RespWriteIndirectionTableOp, RespWriteNodeOp}
 use Rattle.blockdisk.specs.declared.Brought.the-variants.{Nothing}
 use Rattle.blockcache.specs.declared.VersionOp.the-variants.{AdvanceOp, CleanUpOp, CrashOp, FreezeOp, JournalInternalOp, PopSyncOp, PushSyncOp, SendFrozenLocOp, SendPersistentLocOp, StatesInternalOp}
 use Rattle.words.specs.Bytes.{sameOf}
@@ -47,9 +48,11 @@ versionOf w loc noop =
 -- RespReadIndirectionTableOp, RespReadNodeOp, RespWriteIndirectionTableOp, RespWriteNodeOp, NoDiskOp; what a read answer brings is known when the call is made
 unfoldable pub answerOf : List ℕ → ℕ → DiskRead
 answerOf w id =
-    cond (sameOf w (82 ∷ 101 ∷ 115 ∷ 112 ∷ 82 ∷ 101 ∷ 97 ∷ 100 ∷ 73 ∷ 110 ∷ 100 ∷ 105 ∷ 114 ∷ 101 ∷ 99 ∷ 116 ∷ 105 ∷ 111 ∷ 110 ∷ 84 ∷ 97 ∷ 98 ∷ 108 ∷ 101 ∷ 79 ∷ 112 ∷ [])) (diskop.Op (RespReadIndirectionTableOp id Nothing))
+    cond (sameOf w (82 ∷ 101 ∷ 115 ∷ 112 ∷ 82 ∷ 101 ∷ 97 ∷ 100 ∷ 73 ∷ 110 ∷ 100 ∷ 105 ∷ 114 ∷ 101 ∷ 99 ∷ 116 ∷ 105 ∷ 111 ∷ 110 ∷ 84 ∷ 97 ∷ 98 ∷ 108 ∷ 101 ∷ 79 ∷ 112 ∷ []))
+    (diskop.Op (RespReadIndirectionTableOp id Nothing))
     (cond (sameOf w (82 ∷ 101 ∷ 115 ∷ 112 ∷ 82 ∷ 101 ∷ 97 ∷ 100 ∷ 78 ∷ 111 ∷ 100 ∷ 101 ∷ 79 ∷ 112 ∷ [])) (diskop.Op (RespReadNodeOp id Nothing))
-    (cond (sameOf w (82 ∷ 101 ∷ 115 ∷ 112 ∷ 87 ∷ 114 ∷ 105 ∷ 116 ∷ 101 ∷ 73 ∷ 110 ∷ 100 ∷ 105 ∷ 114 ∷ 101 ∷ 99 ∷ 116 ∷ 105 ∷ 111 ∷ 110 ∷ 84 ∷ 97 ∷ 98 ∷ 108 ∷ 101 ∷ 79 ∷ 112 ∷ [])) (diskop.Op (RespWriteIndirectionTableOp id))
+    (cond (sameOf w (82 ∷ 101 ∷ 115 ∷ 112 ∷ 87 ∷ 114 ∷ 105 ∷ 116 ∷ 101 ∷ 73 ∷ 110 ∷ 100 ∷ 105 ∷ 114 ∷ 101 ∷ 99 ∷ 116 ∷ 105 ∷ 111 ∷ 110 ∷ 84 ∷ 97 ∷ 98 ∷ 108 ∷ 101 ∷ 79 ∷ 112 ∷ []))
+    (diskop.Op (RespWriteIndirectionTableOp id))
     (cond (sameOf w (82 ∷ 101 ∷ 115 ∷ 112 ∷ 87 ∷ 114 ∷ 105 ∷ 116 ∷ 101 ∷ 78 ∷ 111 ∷ 100 ∷ 101 ∷ 79 ∷ 112 ∷ [])) (diskop.Op (RespWriteNodeOp id))
     (cond (sameOf w (78 ∷ 111 ∷ 68 ∷ 105 ∷ 115 ∷ 107 ∷ 79 ∷ 112 ∷ [])) (diskop.Op NoDiskOp)
     diskop.Bad))))
@@ -57,9 +60,11 @@ answerOf w id =
 -- ReqReadIndirectionTableOp, ReqReadNodeOp, ReqWriteIndirectionTableOp, ReqWriteNodeOp, with id and location; or an answer
 unfoldable pub diskOf : List ℕ → ℕ → Location → DiskRead
 diskOf w id loc =
-    cond (sameOf w (82 ∷ 101 ∷ 113 ∷ 82 ∷ 101 ∷ 97 ∷ 100 ∷ 73 ∷ 110 ∷ 100 ∷ 105 ∷ 114 ∷ 101 ∷ 99 ∷ 116 ∷ 105 ∷ 111 ∷ 110 ∷ 84 ∷ 97 ∷ 98 ∷ 108 ∷ 101 ∷ 79 ∷ 112 ∷ [])) (diskop.Op (ReqReadIndirectionTableOp id loc))
+    cond (sameOf w (82 ∷ 101 ∷ 113 ∷ 82 ∷ 101 ∷ 97 ∷ 100 ∷ 73 ∷ 110 ∷ 100 ∷ 105 ∷ 114 ∷ 101 ∷ 99 ∷ 116 ∷ 105 ∷ 111 ∷ 110 ∷ 84 ∷ 97 ∷ 98 ∷ 108 ∷ 101 ∷ 79 ∷ 112 ∷ []))
+    (diskop.Op (ReqReadIndirectionTableOp id loc))
     (cond (sameOf w (82 ∷ 101 ∷ 113 ∷ 82 ∷ 101 ∷ 97 ∷ 100 ∷ 78 ∷ 111 ∷ 100 ∷ 101 ∷ 79 ∷ 112 ∷ [])) (diskop.Op (ReqReadNodeOp id loc))
-    (cond (sameOf w (82 ∷ 101 ∷ 113 ∷ 87 ∷ 114 ∷ 105 ∷ 116 ∷ 101 ∷ 73 ∷ 110 ∷ 100 ∷ 105 ∷ 114 ∷ 101 ∷ 99 ∷ 116 ∷ 105 ∷ 111 ∷ 110 ∷ 84 ∷ 97 ∷ 98 ∷ 108 ∷ 101 ∷ 79 ∷ 112 ∷ [])) (diskop.Op (ReqWriteIndirectionTableOp id loc))
+    (cond (sameOf w (82 ∷ 101 ∷ 113 ∷ 87 ∷ 114 ∷ 105 ∷ 116 ∷ 101 ∷ 73 ∷ 110 ∷ 100 ∷ 105 ∷ 114 ∷ 101 ∷ 99 ∷ 116 ∷ 105 ∷ 111 ∷ 110 ∷ 84 ∷ 97 ∷ 98 ∷ 108 ∷ 101 ∷ 79 ∷ 112 ∷ []))
+    (diskop.Op (ReqWriteIndirectionTableOp id loc))
     (cond (sameOf w (82 ∷ 101 ∷ 113 ∷ 87 ∷ 114 ∷ 105 ∷ 116 ∷ 101 ∷ 78 ∷ 111 ∷ 100 ∷ 101 ∷ 79 ∷ 112 ∷ [])) (diskop.Op (ReqWriteNodeOp id loc))
     (answerOf w id))))
 

@@ -1,6 +1,7 @@
 // What a step line asks for, before it is known what the cache and the disk hold.
 ghost use mathlib.Core.Path.{_≡_};
-ghost use Rattle.script.specs.Requests.{nodeFrom, nodeWritten, nodeWordOf, nodeWord, tableFrom, tableWritten, tableWordOf, tableWord, stepWordsFit, noOperations, operationsOf, requestFrom, requestOf};
+ghost use Rattle.script.specs.Requests.{nodeFrom, nodeWritten, nodeWordOf, nodeWord, tableFrom, tableWritten, tableWordOf, tableWord, stepWordsFit, noOperations, operationsOf, requestFrom};
+ghost use Rattle.script.specs.Requests.{requestOf};
 use crate::operations::DiskRead;
 use crate::operations::Uiop;
 use crate::operations::VersionRead;

@@ -11,7 +11,8 @@ use Rattle.base.proofs.Scan.{all-at, all-iff, all-of}
 use Rattle.base.proofs.Tests.{and-iff, clash, eqb-iff, leb-iff, split, tests}
 use Rattle.base.specs.Scan.{allBelow, countBelow}
 use Rattle.sectortype.proofs.Rows.{rows-blank, rows-ext, rows-iff, rows-set, set-at-place}
-use Rattle.sectortype.specs.Form.{allocatedAt, emptyNodes, emptyTable, entryAt, entryForm, defaultEntry, defaultSlot, nodeForm, nodesForm, placesZero, presentAt, slotAt, slotForm, succAt, succOk, succsForm, tableForm, withEntry, withSlot, zeroEntry, zeroNode, zeroSlot, zeroSuccs}
+use Rattle.sectortype.specs.Form.{allocatedAt, emptyNodes, emptyTable, entryAt, entryForm, defaultEntry, defaultSlot, nodeForm, nodesForm, placesZero, presentAt, slotAt, slotForm, succAt}
+use Rattle.sectortype.specs.Form.{succOk, succsForm, tableForm, withEntry, withSlot, zeroEntry, zeroNode, zeroSlot, zeroSuccs}
 use Rattle.sectortype.specs.declared.Entry.{Entry}
 use Rattle.sectortype.specs.declared.Nodes.{Nodes}
 use Rattle.sectortype.specs.declared.Slot.{Slot}

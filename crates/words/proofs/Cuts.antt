@@ -52,11 +52,13 @@ unfolding wordsOf wordsFrom
 words-end r at b = rw (drop-of-length-le r b)
 
 -- the word with a key is here
-pub word-hit : (r key : List ℕ) (at : ℕ) {w : List ℕ} → at < length r → firstWith key (wordsOf (drop at r)) ≡ wordOf r key → w ≡ take (findOf (drop (at + 1) r) 32) (drop (at + 1) r) → startsOf w key ≡ true → w ≡ wordOf r key
+pub word-hit : (r key : List ℕ) (at : ℕ) {w : List ℕ} → at < length r → firstWith key (wordsOf (drop at r)) ≡ wordOf r key → w ≡ take (findOf (drop (at + 1) r) 32) (drop (at + 1) r) →
+    startsOf w key ≡ true → w ≡ wordOf r key
 word-hit r key at b e h t = rw (words-turn r at b, ← h, t) at e
 
 -- or further on
-pub word-miss : (r key : List ℕ) (at : ℕ) {w : List ℕ} → at < length r → firstWith key (wordsOf (drop at r)) ≡ wordOf r key → w ≡ take (findOf (drop (at + 1) r) 32) (drop (at + 1) r) → startsOf w key ≡ false → firstWith key (wordsOf (drop (at + 1 + findOf (drop (at + 1) r) 32) r)) ≡ wordOf r key
+pub word-miss : (r key : List ℕ) (at : ℕ) {w : List ℕ} → at < length r → firstWith key (wordsOf (drop at r)) ≡ wordOf r key → w ≡ take (findOf (drop (at + 1) r) 32) (drop (at + 1) r) →
+    startsOf w key ≡ false → firstWith key (wordsOf (drop (at + 1 + findOf (drop (at + 1) r) 32) r)) ≡ wordOf r key
 word-miss r key at b e h t = rw (words-turn r at b, ← h, t) at e
 
 pub word-none : (r key : List ℕ) (at : ℕ) → length r ≤ at → firstWith key (wordsOf (drop at r)) ≡ wordOf r key → [] ≡ wordOf r key
@@ -67,7 +69,9 @@ regroup true true c d e = refl
 regroup true false c d e = refl
 regroup false b c d e = refl
 
-pub fit-turn : (r : List ℕ) (f l at k : ℕ) (seen : List Bool) (good : Bool) {x : Bool} → at < length r → k ≡ keyOf (take (findOf (drop (at + 1) r) 32) (drop (at + 1) r)) → (good && fitFrom seen f l (wordsOf (drop at r))) ≡ x → ((((good && leb f k) && leb k l) && not (getD seen k false && not (eqb k 12))) && fitFrom (set seen k true) f l (wordsOf (drop (at + 1 + findOf (drop (at + 1) r) 32) r))) ≡ x
+pub fit-turn : (r : List ℕ) (f l at k : ℕ) (seen : List Bool) (good : Bool) {x : Bool} → at < length r → k ≡ keyOf (take (findOf (drop (at + 1) r) 32) (drop (at + 1) r)) →
+    (good && fitFrom seen f l (wordsOf (drop at r))) ≡ x →
+    ((((good && leb f k) && leb k l) && not (getD seen k false && not (eqb k 12))) && fitFrom (set seen k true) f l (wordsOf (drop (at + 1 + findOf (drop (at + 1) r) 32) r))) ≡ x
 fit-turn r f l at k seen good b e h =
     regroup good (leb f k) (leb k l) _ _ ∙ (rw (words-turn r at b, ← e) at h)
 
@@ -113,7 +117,8 @@ pieces-more b (x ∷ s) h =
 
 module _ {A : Type 0} (ok : A → Bool) (step : A → List ℕ → A) (none : A) where
   -- a piece that is not right
-  pub fold-bad : (b : ℕ) (w : List ℕ) (from : ℕ) (a : A) {a' x : A} → a' ≡ step a (take (findOf (drop from w) b) (drop from w)) → foldFrom ok step none a (piecesOf b (drop from w)) ≡ x → ok a' ≡ false → none ≡ x
+  pub fold-bad : (b : ℕ) (w : List ℕ) (from : ℕ) (a : A) {a' x : A} → a' ≡ step a (take (findOf (drop from w) b) (drop from w)) → foldFrom ok step none a (piecesOf b (drop from w)) ≡ x →
+      ok a' ≡ false → none ≡ x
   fold-bad b w from a e h t =
       let u = rw e at t in
       split (eqb (findOf (drop from w) b) (length (drop from w)))
@@ -121,14 +126,17 @@ module _ {A : Type 0} (ok : A → Bool) (step : A → List ℕ → A) (none : A)
       (λ y. rw (pieces-more b (drop from w) (eqb-false _ _ y), u) at h)
 
   -- the last piece
-  pub fold-last : (b : ℕ) (w : List ℕ) (from n : ℕ) (a : A) {a' x : A} → n ≡ findOf (drop from w) b → a' ≡ step a (take (findOf (drop from w) b) (drop from w)) → foldFrom ok step none a (piecesOf b (drop from w)) ≡ x → ok a' ≡ true → n ≡ length (drop from w) → a' ≡ x
+  pub fold-last : (b : ℕ) (w : List ℕ) (from n : ℕ) (a : A) {a' x : A} → n ≡ findOf (drop from w) b → a' ≡ step a (take (findOf (drop from w) b) (drop from w)) →
+      foldFrom ok step none a (piecesOf b (drop from w)) ≡ x → ok a' ≡ true → n ≡ length (drop from w) → a' ≡ x
   fold-last b w from n a k e h t l =
       let u = rw e at t in
       e ∙ (rw (pieces-last b (drop from w) (sym k ∙ l), u) at h)
 
   -- a piece with another behind it
-  pub fold-turn : (b : ℕ) (w : List ℕ) (from n : ℕ) (a : A) {a' x : A} → n ≡ findOf (drop from w) b → a' ≡ step a (take (findOf (drop from w) b) (drop from w)) → foldFrom ok step none a (piecesOf b (drop from w)) ≡ x → ok a' ≡ true → (n ≡ length (drop from w) → ⊥) → foldFrom ok step none a' (piecesOf b (drop (from + n + 1) w)) ≡ x
+  pub fold-turn : (b : ℕ) (w : List ℕ) (from n : ℕ) (a : A) {a' x : A} → n ≡ findOf (drop from w) b → a' ≡ step a (take (findOf (drop from w) b) (drop from w)) →
+      foldFrom ok step none a (piecesOf b (drop from w)) ≡ x → ok a' ≡ true → (n ≡ length (drop from w) → ⊥) → foldFrom ok step none a' (piecesOf b (drop (from + n + 1) w)) ≡ x
   fold-turn b w from n a k e h t l =
       let u = rw e at t in
-      let d : drop (findOf (drop from w) b + 1) (drop from w) ≡ drop (from + n + 1) w = drop-drop (findOf (drop from w) b + 1) from w ∙ ap (λ (i : ℕ). drop i w) (let q : from + (findOf (drop from w) b + 1) ≡ from + n + 1 = omega (arith, k) in q) in
+      let q : from + (findOf (drop from w) b + 1) ≡ from + n + 1 = omega (arith, k) in
+      let d : drop (findOf (drop from w) b + 1) (drop from w) ≡ drop (from + n + 1) w = drop-drop (findOf (drop from w) b + 1) from w ∙ ap (λ (i : ℕ). drop i w) q in
       rw e (rw (pieces-more b (drop from w) (λ y. l (k ∙ y)), u, d) at h)

@@ -76,7 +76,8 @@ value-grows s k (suc n) b =
     (λ e. rw e (let h : valueOf s (suc n) ≤ valueOf s (suc n) = omega arith in h))
 
 -- one byte more
-pub number-turn : (s : List ℕ) (i n d m : ℕ) → n ≡ valueOf s i → d ≡ worthOf (getD s i 0) → true ≡ allBelow (λ k. digit (getD s k 0)) i → appendedOf n d ≡ Value m → (m ≡ valueOf s (i + 1)) × (m < 2 ^ 64) × (true ≡ allBelow (λ k. digit (getD s k 0)) (i + 1))
+pub number-turn : (s : List ℕ) (i n d m : ℕ) → n ≡ valueOf s i → d ≡ worthOf (getD s i 0) → true ≡ allBelow (λ k. digit (getD s k 0)) i → appendedOf n d ≡ Value m →
+    (m ≡ valueOf s (i + 1)) × (m < 2 ^ 64) × (true ≡ allBelow (λ k. digit (getD s k 0)) (i + 1))
 number-turn s i n d m e f g h =
     let x = appended-value n d m h in
     let y = worth-digit (getD s i 0) (rw f at (x .0)) in
@@ -99,7 +100,8 @@ number-stop s i b e =
     (λ t. simp (all-fails (λ k. digit (getD s k 0)) (length s) i b t))
 
 -- where all are taken it is
-pub number-good : (s : List ℕ) (i n : ℕ) → i ≤ length s → length s ≤ i → n ≡ valueOf s i → n < 2 ^ 64 → true ≡ allBelow (λ k. digit (getD s k 0)) i → (length s ≡ 0 → ⊥) → (ltb 1 (length s) && eqb (getD s 0 0) 48) ≡ false → Value n ≡ numberOf s
+pub number-good : (s : List ℕ) (i n : ℕ) → i ≤ length s → length s ≤ i → n ≡ valueOf s i → n < 2 ^ 64 → true ≡ allBelow (λ k. digit (getD s k 0)) i → (length s ≡ 0 → ⊥) →
+    (ltb 1 (length s) && eqb (getD s 0 0) 48) ≡ false → Value n ≡ numberOf s
 unfolding numberOf
 number-good s i n a b e f g h k =
     let p : 0 < length s = omega arith in

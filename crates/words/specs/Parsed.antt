@@ -131,7 +131,8 @@ formatFrom Bad c = line.Bad
 -- device= and contents=, in either order
 unfoldable pub formatOf : List ℕ → Line
 formatOf r =
-    cond ((not (fitOf r 13 14) || eqb (length (wordOf r (100 ∷ 101 ∷ 118 ∷ 105 ∷ 99 ∷ 101 ∷ 61 ∷ []))) 0) || eqb (length (wordOf r (99 ∷ 111 ∷ 110 ∷ 116 ∷ 101 ∷ 110 ∷ 116 ∷ 115 ∷ 61 ∷ []))) 0) line.Bad
+    cond ((not (fitOf r 13 14) || eqb (length (wordOf r (100 ∷ 101 ∷ 118 ∷ 105 ∷ 99 ∷ 101 ∷ 61 ∷ []))) 0)
+    || eqb (length (wordOf r (99 ∷ 111 ∷ 110 ∷ 116 ∷ 101 ∷ 110 ∷ 116 ∷ 115 ∷ 61 ∷ []))) 0) line.Bad
     (formatFrom (numberWord r (100 ∷ 101 ∷ 118 ∷ 105 ∷ 99 ∷ 101 ∷ 61 ∷ [])) (numberWord r (99 ∷ 111 ∷ 110 ∷ 116 ∷ 101 ∷ 110 ∷ 116 ∷ 115 ∷ 61 ∷ [])))
 
 -- audit and show

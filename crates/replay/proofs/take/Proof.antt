@@ -44,7 +44,11 @@ loop-less : tie.Need-loop-less Inv-loop μ-loop
 loop-less c = search needs
 
 loop-again : tie.Need-loop-again Inv-loop μ-loop
-loop-again c = (search needs, omega (arith, c .before .before .before .before .before .before .gather, c .before .before .before .before .before .line, c .before .before .before .before .before .before .before .before .before .before .before .before .loop .inv .1))
+loop-again c =
+    let c1 = c .before .before .before .before .before in
+    let c2 = c1 .before in
+    let c3 = c2 .before .before .before .before .before .before in
+    (search needs, omega (arith, c2 .gather, c1 .line, c3 .loop .inv .1))
 
 loop-less-2 : tie.Need-loop-less-2 Inv-loop μ-loop
 loop-less-2 c = search needs

@@ -1,6 +1,7 @@
+-- Arm by arm, by what the step's method ensures; the rest is no step's number. Assumes nothing.
+use borrow.Author.Needs.{needs}
 use Rattle.blockcache.proofs.Numbers.{no-step}
 use Rattle.blockcache.specs.Steps.{stepOf, steps}
-use borrow.Author.Needs.{needs}
 use Rattle.cache.proofs.Cache.dispatch.Statement.{statement}
 use Rattle.cache.proofs.Cache.dispatch.Tie as tie
 

@@ -1,5 +1,6 @@
-use Rattle.base.specs.Refusals.{answer}
+-- By what the callees ensure, row by row. Assumes nothing.
 use borrow.Author.Needs.{needs}
+use Rattle.base.specs.Refusals.{answer}
 use Rattle.cache.proofs.Cache.evict_refusal.Statement.{statement}
 use Rattle.cache.proofs.Cache.evict_refusal.Tie as tie
 

@@ -1,8 +1,9 @@
-use native.Mathlib.Nat.{mod-eq-of-lt}
-use borrow.Author.Tests.{eq-eqb, ne-eqb}
+-- Refused: the cache as it was. Accepted: by what the callees ensure. Assumes nothing.
 use mathlib.Core.Path.{_∙_, sym}
-use Rattle.blockcache.specs.Step.{pastGate}
+use native.Mathlib.Nat.{mod-eq-of-lt}
 use borrow.Author.Needs.{needs}
+use borrow.Author.Tests.{eq-eqb, ne-eqb}
+use Rattle.blockcache.specs.Step.{pastGate}
 use Rattle.cache.proofs.Cache.page_in_node_req.Statement.{statement}
 use Rattle.cache.proofs.Cache.page_in_node_req.Tie as tie
 

@@ -1,5 +1,6 @@
-use Rattle.base.specs.Refusals.{answer}
+-- By what the callees ensure, row by row. Assumes nothing.
 use borrow.Author.Needs.{needs}
+use Rattle.base.specs.Refusals.{answer}
 use Rattle.cache.proofs.Cache.page_in_node_req_refusal.Statement.{statement}
 use Rattle.cache.proofs.Cache.page_in_node_req_refusal.Tie as tie
 
@@ -57,7 +58,18 @@ returns c =
     let c7 = c6 .before in
     let c8 = c7 .before .before .before .before .before .before .before .before .before in
     let c9 = c8 .before in
-    simp (c .first-of5 .ensures, c1 .first-of4 .ensures, c2 .first-of3 .ensures, c3 .first-of2 .ensures, c4 .first-of .ensures, c5 .reads-of .ensures, c6 .same-loc .ensures, c7 .has .ensures, c8 .dop-loc .ensures, c9 .dop-id .ensures)
+    simp (
+      c .first-of5 .ensures,
+      c1 .first-of4 .ensures,
+      c2 .first-of3 .ensures,
+      c3 .first-of2 .ensures,
+      c4 .first-of .ensures,
+      c5 .reads-of .ensures,
+      c6 .same-loc .ensures,
+      c7 .has .ensures,
+      c8 .dop-loc .ensures,
+      c9 .dop-id .ensures,
+    )
 
 pub page-in-node-req-refusal-spec : {M : Type 1} → statement M
 page-in-node-req-refusal-spec =

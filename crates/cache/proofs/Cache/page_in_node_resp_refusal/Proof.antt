@@ -1,6 +1,7 @@
+-- By what the callees ensure, row by row. Assumes nothing.
 use Prim.Native.Nat.{_<_}
-use Rattle.base.specs.Refusals.{answer}
 use borrow.Author.Needs.{needs}
+use Rattle.base.specs.Refusals.{answer}
 use Rattle.cache.proofs.Cache.page_in_node_resp_refusal.Statement.{statement}
 use Rattle.cache.proofs.Cache.page_in_node_resp_refusal.Tie as tie
 
@@ -62,7 +63,17 @@ returns c =
     let c6 = c5 .before in
     let c7 = c6 .before .before .before in
     let c8 = c7 .before in
-    simp (c .first-of3 .ensures, c1 .first-of2 .ensures, c2 .first-of .ensures, c3 .node-rejected .ensures, c4 .index .ensures, c5 .entry .ensures, c6 .has .ensures, c7 .dop-brought .ensures, c8 .dop-id .ensures)
+    simp (
+      c .first-of3 .ensures,
+      c1 .first-of2 .ensures,
+      c2 .first-of .ensures,
+      c3 .node-rejected .ensures,
+      c4 .index .ensures,
+      c5 .entry .ensures,
+      c6 .has .ensures,
+      c7 .dop-brought .ensures,
+      c8 .dop-id .ensures,
+    )
 
 pub page-in-node-resp-refusal-spec : {M : Type 1} → statement M
 page-in-node-resp-refusal-spec =

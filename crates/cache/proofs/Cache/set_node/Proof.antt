@@ -1,6 +1,7 @@
-use Rattle.blockcache.specs.Step.{pastGate}
-use Rattle.base.specs.Refusals.{answer}
+-- By what the callees ensure. Assumes nothing.
 use borrow.Author.Needs.{needs}
+use Rattle.base.specs.Refusals.{answer}
+use Rattle.blockcache.specs.Step.{pastGate}
 use Rattle.cache.proofs.Cache.set_node.Statement.{statement}
 use Rattle.cache.proofs.Cache.set_node.Tie as tie
 

@@ -1,9 +1,10 @@
+-- Not in its written form: 1. Else what V, D and phase refuse; past them, what the step does. Assumes nothing.
 use mathlib.Core.Path.{_∙_, sym}
+use borrow.Author.Needs.{needs}
 use Rattle.base.proofs.Tests.{not-iff, not-true-iff}
 use Rattle.blockcache.proofs.Bounds.{read-reference}
 use Rattle.blockcache.proofs.Forms.{cache-form-iff, well-formed-iff}
 use Rattle.blockcache.proofs.Gate.{step-open, step-shut, step-unformed}
-use borrow.Author.Needs.{needs}
 use Rattle.cache.proofs.Cache.step.Statement.{statement}
 use Rattle.cache.proofs.Cache.step.Tie as tie
 

@@ -1,8 +1,9 @@
-use native.Mathlib.Nat.{mod-eq-of-lt}
-use borrow.Author.Tests.{eq-eqb, ne-eqb}
+-- Refused: the cache as it was. Accepted: by what the callees ensure. Assumes nothing.
 use mathlib.Core.Path.{_∙_, sym}
-use Rattle.blockcache.specs.Step.{pastGate}
+use native.Mathlib.Nat.{mod-eq-of-lt}
 use borrow.Author.Needs.{needs}
+use borrow.Author.Tests.{eq-eqb, ne-eqb}
+use Rattle.blockcache.specs.Step.{pastGate}
 use Rattle.cache.proofs.Cache.write_back_node_req.Statement.{statement}
 use Rattle.cache.proofs.Cache.write_back_node_req.Tie as tie
 
@@ -51,7 +52,17 @@ returns-2 c =
     let c6 = c5 .before in
     let c7 = c6 .before .before in
     let e = sym (c7 .write-back-node-req-refusal .ensures) ∙ c6 .if1 .left in
-    simp (eq-eqb _ _ e, e, mod-eq-of-lt (c7 .before .pre), c .answered2 .ensures, c1 .insert .ensures, c2 .assign-ref-to-location2 .ensures, c3 .assign-ref-to-location .ensures, c4 .dop-loc .ensures, c5 .dop-id .ensures)
+    simp (
+      eq-eqb _ _ e,
+      e,
+      mod-eq-of-lt (c7 .before .pre),
+      c .answered2 .ensures,
+      c1 .insert .ensures,
+      c2 .assign-ref-to-location2 .ensures,
+      c3 .assign-ref-to-location .ensures,
+      c4 .dop-loc .ensures,
+      c5 .dop-id .ensures,
+    )
 
 pub write-back-node-req-spec : {M : Type 1} → statement M
 write-back-node-req-spec =

@@ -24,7 +24,13 @@ phase-form-requires c κs = search needs
 
 returns : tie.Need-returns
 unfolding cacheForm
-returns c = simp (c .phase-form .ensures, c .before .nodes-form .ensures, c .before .before .outstanding-form .ensures, c .before .before .before .awaited-form .ensures, c .before .before .before .before .places-form .ensures, c .before .before .before .before .before .tables-form .ensures)
+returns c =
+    let c1 = c .before in
+    let c2 = c1 .before in
+    let c3 = c2 .before in
+    let c4 = c3 .before in
+    let c5 = c4 .before in
+    simp (c .phase-form .ensures, c1 .nodes-form .ensures, c2 .outstanding-form .ensures, c3 .awaited-form .ensures, c4 .places-form .ensures, c5 .tables-form .ensures)
 
 pub cache-form-spec : {M : Type 1} → statement M
 cache-form-spec =

@@ -25,7 +25,14 @@ empty-nodes-requires : tie.Need-empty-nodes-requires
 empty-nodes-requires c κs = search needs
 
 returns : tie.Need-returns
-returns c = simp (c .empty-nodes .ensures, c .before .empty2 .ensures, c .before .before .empty .ensures, c .before .before .before .zero-loc .ensures, c .before .before .before .before .empty-table3 .ensures, c .before .before .before .before .before .empty-table2 .ensures, c .before .before .before .before .before .before .empty-table .ensures)
+returns c =
+    let c1 = c .before in
+    let c2 = c1 .before in
+    let c3 = c2 .before in
+    let c4 = c3 .before in
+    let c5 = c4 .before in
+    let c6 = c5 .before in
+    simp (c .empty-nodes .ensures, c1 .empty2 .ensures, c2 .empty .ensures, c3 .zero-loc .ensures, c4 .empty-table3 .ensures, c5 .empty-table2 .ensures, c6 .empty-table .ensures)
 
 pub loading-spec : {M : Type 1} → statement M
 loading-spec =

@@ -1,7 +1,8 @@
+-- Arm by arm: what the step takes, by what its kinds and the phase's tests ensure; the rest is no step's number. Assumes nothing.
+use borrow.Author.Needs.{needs}
 use Rattle.blockcache.proofs.Numbers.{no-step}
 use Rattle.blockcache.specs.Step.{gated}
 use Rattle.blockcache.specs.Steps.{stepOf, steps}
-use borrow.Author.Needs.{needs}
 use Rattle.cache.proofs.gate.gate.Statement.{statement}
 use Rattle.cache.proofs.gate.gate.Tie as tie
 

@@ -1,5 +1,6 @@
-use Rattle.base.specs.Refusals.{answer}
+-- By the tests that led to each answer. Assumes nothing.
 use borrow.Author.Needs.{needs}
+use Rattle.base.specs.Refusals.{answer}
 use Rattle.cache.proofs.gate.taken.Statement.{statement}
 use Rattle.cache.proofs.gate.taken.Tie as tie
 

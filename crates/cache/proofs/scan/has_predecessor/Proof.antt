@@ -47,7 +47,10 @@ loop-less : tie.Need-loop-less Inv-loop μ-loop Inv-search μ-search
 loop-less c = search needs
 
 loop-again : tie.Need-loop-again Inv-loop μ-loop Inv-search μ-search
-loop-again c = (search needs, c .before .before .before .before .loop .inv .1, some-turn _ _ (c .before .before .before .before .loop .inv .2) (sym (rw (c .before .names-at .ensures) at (c .if1 .left))))
+loop-again c =
+    let c1 = c .before in
+    let c2 = c1 .before .before .before in
+    (search needs, c2 .loop .inv .1, some-turn _ _ (c2 .loop .inv .2) (sym (rw (c1 .names-at .ensures) at (c .if1 .left))))
 
 add-i : tie.Need-add-i Inv-loop μ-loop Inv-search μ-search
 add-i c = search needs
@@ -56,7 +59,10 @@ search-less : tie.Need-search-less Inv-loop μ-loop Inv-search μ-search
 search-less c = search needs
 
 search-again : tie.Need-search-again Inv-loop μ-loop Inv-search μ-search
-search-again c = (search needs, c .before .loop .inv .1, some-turn _ _ (c .before .before .before .before .before .search .inv .2) (some-end _ (c .before .loop .inv .2) (c .before .loop .inv .0) (c .loop-test .left)))
+search-again c =
+    let c1 = c .before in
+    let c2 = c1 .before .before .before .before in
+    (search needs, c1 .loop .inv .1, some-turn _ _ (c2 .search .inv .2) (some-end _ (c1 .loop .inv .2) (c1 .loop .inv .0) (c .loop-test .left)))
 
 returns : tie.Need-returns Inv-loop μ-loop Inv-search μ-search
 unfolding hasPredecessor
@@ -64,7 +70,13 @@ returns c = c .before .search .inv .1 ∙ some-end _ (c .before .search .inv .2)
 
 returns-2 : tie.Need-returns-2 Inv-loop μ-loop Inv-search μ-search
 unfolding hasPredecessor
-returns-2 c = sym (some-at _ 64 (c .before .before .before .before .before .before .before .before .search .i) (c .before .before .before .before .before .before .before .search-test .taken) (some-at _ 8 (c .before .before .before .before .loop .j) (c .before .before .before .loop-test .taken) (rw (c .before .names-at .ensures) at (c .if1 .taken))))
+returns-2 c =
+    let c1 = c .before in
+    let c2 = c1 .before .before in
+    let c3 = c2 .before in
+    let c4 = c3 .before .before .before in
+    let c5 = c4 .before in
+    sym (some-at _ 64 (c5 .search .i) (c4 .search-test .taken) (some-at _ 8 (c3 .loop .j) (c2 .loop-test .taken) (rw (c1 .names-at .ensures) at (c .if1 .taken))))
 
 pub has-predecessor-spec : {M : Type 1} → statement M
 has-predecessor-spec =

@@ -1,3 +1,4 @@
+-- By the tests on the way, what the callees ensure and the laws of the layout. Assumes nothing.
 use Rattle.disklayout.proofs.Facts.{journal-short}
 use Rattle.layout.proofs.areas.is_journal.Statement.{statement}
 use Rattle.layout.proofs.areas.is_journal.Tie as tie

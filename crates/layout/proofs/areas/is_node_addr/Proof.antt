@@ -1,3 +1,4 @@
+-- By the tests on the way, what the callees ensure and the laws of the layout. Assumes nothing.
 use Rattle.disklayout.specs.Layout.{ValidNodeAddr}
 use borrow.Author.Needs.{needs}
 use Rattle.layout.proofs.areas.is_node_addr.Statement.{statement}

@@ -1,3 +1,4 @@
+-- Its five kinds, by what the callees ensure. Assumes nothing.
 use Rattle.disklayout.specs.Layout.{ValidLocation, ValidSuperblock1Location, ValidSuperblock2Location}
 use Rattle.layout.proofs.areas.is_place.Statement.{statement}
 use Rattle.layout.proofs.areas.is_place.Tie as tie
@@ -20,7 +21,11 @@ is-node-requires c κs = c .before .before .before .before .pre
 returns : tie.Need-returns
 unfolding ValidLocation ValidSuperblock1Location ValidSuperblock2Location
 returns c =
-    rw (c .is-node .ensures, c .before .is-table .ensures, c .before .before .is-journal .ensures, c .before .before .before .same-location2 .ensures, c .before .before .before .before .same-location .ensures)
+    let c1 = c .before in
+    let c2 = c1 .before in
+    let c3 = c2 .before in
+    let c4 = c3 .before in
+    rw (c .is-node .ensures, c1 .is-table .ensures, c2 .is-journal .ensures, c3 .same-location2 .ensures, c4 .same-location .ensures)
 
 pub is-place-spec : {M : Type 1} → statement M
 is-place-spec =

@@ -1,3 +1,4 @@
+-- By the tests on the way, what the callees ensure and the laws of the layout. Assumes nothing.
 use Rattle.disklayout.specs.Layout.{ValidIndirectionTableAddr}
 use Rattle.layout.proofs.areas.is_table_addr.Statement.{statement}
 use Rattle.layout.proofs.areas.is_table_addr.Tie as tie

@@ -1,3 +1,4 @@
+-- By the tests on the way, what the callees ensure and the laws of the layout. Assumes nothing.
 use Rattle.layout.proofs.areas.other_table.Statement.{statement}
 use Rattle.layout.proofs.areas.other_table.Tie as tie
 

@@ -1,3 +1,4 @@
+-- By the tests on the way, what the callees ensure and the laws of the layout. Assumes nothing.
 use native.Mathlib.Omega.{arith}
 use Rattle.disklayout.proofs.TableAreas.{area-fits}
 use borrow.Author.Needs.{needs}

@@ -1,3 +1,4 @@
+-- By the tests on the way, what the callees ensure and the laws of the layout. Assumes nothing.
 use mathlib.Core.Path.{sym, _∙_}
 use Rattle.disklayout.proofs.NodeBlocks.{first-le, block-found, block-far, block-invalid}
 use borrow.Author.Needs.{needs}

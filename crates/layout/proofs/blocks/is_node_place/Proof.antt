@@ -1,3 +1,4 @@
+-- By the tests on the way, what the callees ensure and the laws of the layout. Assumes nothing.
 use Rattle.disklayout.specs.Blocks.{NodePlace}
 use Rattle.layout.proofs.blocks.is_node_place.Statement.{statement}
 use Rattle.layout.proofs.blocks.is_node_place.Tie as tie

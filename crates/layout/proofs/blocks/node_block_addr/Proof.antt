@@ -1,3 +1,4 @@
+-- On a device that is made by what the callee ensures on its row, on any other 1. Assumes nothing.
 use Rattle.base.proofs.Tests.{tests}
 use native.Mathlib.Omega.{arith}
 use Rattle.layout.proofs.blocks.node_block_addr.Statement.{statement}

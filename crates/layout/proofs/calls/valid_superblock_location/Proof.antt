@@ -1,3 +1,4 @@
+-- On a device that is made by what the callee ensures on its row, on any other 1. Assumes nothing.
 use Rattle.disklayout.specs.Layout.{ValidSuperblockLocation}
 use Rattle.layout.proofs.calls.valid_superblock_location.Statement.{statement}
 use Rattle.layout.proofs.calls.valid_superblock_location.Tie as tie

@@ -1,3 +1,4 @@
+-- By the tests on the way, what the callees ensure and the laws of the layout. Assumes nothing.
 use Rattle.disklayout.proofs.Ranges.{back-none, back-part}
 use borrow.Author.Needs.{needs}
 use Rattle.layout.proofs.journal.back.Statement.{statement}

@@ -1,3 +1,4 @@
+-- Whether the range goes round the journal's end: a law of the layout for each. Assumes nothing.
 use Rattle.disklayout.proofs.Ranges.{contained-whole, contained-round}
 use borrow.Author.Needs.{needs}
 use Rattle.layout.proofs.journal.contained.Statement.{statement}
@@ -40,8 +41,14 @@ lies-in-requires-3 c κs = tt
 
 returns-2 : tie.Need-returns-2
 returns-2 c =
-    rw (c .lies-in3 .ensures, c .before .lies-in2 .ensures, c .before .before .point3 .ensures, c .before .before .before .table1 .ensures, c .before .before .before .before .before .before .point .ensures)
-    (contained-round _ _ _ _ (c .before .before .before .before .before .before .before .pre .1 .0) (c .before .before .before .before .if1 .left))
+    let c1 = c .before in
+    let c2 = c1 .before in
+    let c3 = c2 .before in
+    let c4 = c3 .before in
+    let c5 = c4 .before .before in
+    let c6 = c5 .before in
+    rw (c .lies-in3 .ensures, c1 .lies-in2 .ensures, c2 .point3 .ensures, c3 .table1 .ensures, c5 .point .ensures)
+    (contained-round _ _ _ _ (c6 .pre .1 .0) (c4 .if1 .left))
 
 pub contained-spec : {M : Type 1} → statement M
 contained-spec =

@@ -1,3 +1,4 @@
+-- On a device that is made by what the callee ensures on its row, on any other 1. Assumes nothing.
 use mathlib.Core.Path.{sym, _∙_}
 use Rattle.base.proofs.Tests.{tests}
 use Rattle.disklayout.proofs.Facts.{journal-iff}

@@ -1,3 +1,4 @@
+-- The constant table is the definition's, entry by entry. Assumes nothing.
 use native.Mathlib.Omega.{arith}
 use Rattle.disklayout.specs.Device.{devices}
 use Rattle.disklayout.proofs.Devices.{read-within, read-past}

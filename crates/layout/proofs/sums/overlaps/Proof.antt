@@ -1,3 +1,4 @@
+-- By the tests on the way, what the callees ensure and the laws of the layout. Assumes nothing.
 use Rattle.disklayout.specs.Layout.{overlap}
 use Rattle.layout.proofs.sums.overlaps.Statement.{statement}
 use Rattle.layout.proofs.sums.overlaps.Tie as tie

@@ -1,3 +1,4 @@
+-- By the tests on the way, what the callees ensure and the laws of the layout. Assumes nothing.
 use Rattle.disklayout.proofs.Compare.{within-gap, within-rest, within-short, within-room}
 use borrow.Author.Needs.{needs}
 use Rattle.layout.proofs.sums.sum_within.Statement.{statement}

@@ -18,14 +18,24 @@ some-node-requires c κs = search needs
 
 returns : tie.Need-returns
 unfolding storedNode
-returns c = simp (rw (c .before .before .before .has .ensures, c .before .before .before .before .node-at .ensures, c .before .before .before .before .before .before .entry .ensures) at (c .before .if1 .taken), c .some-node .ensures, c .before .before .before .before .node-at .ensures, c .before .before .before .before .before .before .entry .ensures)
+returns c =
+    let c1 = c .before in
+    let c2 = c1 .before .before in
+    let c3 = c2 .before in
+    let c4 = c3 .before .before in
+    simp (rw (c2 .has .ensures, c3 .node-at .ensures, c4 .entry .ensures) at (c1 .if1 .taken), c .some-node .ensures, c3 .node-at .ensures, c4 .entry .ensures)
 
 nothing-node-requires : tie.Need-nothing-node-requires
 nothing-node-requires c κs = search needs
 
 returns-2 : tie.Need-returns-2
 unfolding storedNode
-returns-2 c = simp (rw (c .before .before .before .has .ensures, c .before .before .before .before .node-at .ensures, c .before .before .before .before .before .before .entry .ensures) at (c .before .if1 .left)) (c .nothing-node .ensures)
+returns-2 c =
+    let c1 = c .before in
+    let c2 = c1 .before .before in
+    let c3 = c2 .before in
+    let c4 = c3 .before .before in
+    simp (rw (c2 .has .ensures, c3 .node-at .ensures, c4 .entry .ensures) at (c1 .if1 .left)) (c .nothing-node .ensures)
 
 pub answered-node-spec : {M : Type 1} → statement M
 answered-node-spec =

@@ -23,7 +23,20 @@ refused-requires c κs = search needs
 
 returns-2 : tie.Need-returns-2
 unfolding withArea
-returns-2 c = simp (ne-eqb _ _ (rw (c .before .before .before .before .before .before .word .ensures) at (c .before .before .before .before .before .if1 .left)), rw (c .before .before .before .area .ensures, c .before .before .before .before .after .ensures .0, c .before .before .before .before .before .before .word .ensures) at (not-true (c .before .before .before .area .result .ok) (c .before .if2 .taken))) (c .refused .ensures)
+returns-2 c =
+    let c1 = c .before in
+    let c2 = c1 .before .before in
+    let c3 = c2 .before in
+    let c4 = c3 .before in
+    let c5 = c4 .before in
+    simp (
+      ne-eqb _ _ (rw (c5 .word .ensures) at (c4 .if1 .left)),
+      rw (
+        c2 .area .ensures,
+        c3 .after .ensures .0,
+        c5 .word .ensures,
+      ) at (not-true (c2 .area .result .ok) (c1 .if2 .taken)),
+    ) (c .refused .ensures)
 
 mul-held : tie.Need-mul-held
 mul-held c = search needs
@@ -33,7 +46,17 @@ element-set-from-held c = search needs
 
 returns-3 : tie.Need-returns-3
 unfolding withArea
-returns-3 c = simp (ne-eqb _ _ (rw (c .before .before .before .before .before .before .before .word .ensures) at (c .before .before .before .before .before .before .if1 .left)), rw (c .before .before .before .before .area .ensures, c .before .before .before .before .before .after .ensures .0, c .before .before .before .before .before .before .before .word .ensures) at (not-false (c .before .before .before .before .area .result .ok) (c .before .before .if2 .left)), rw (c .before .before .before .before .before .after .ensures .0, c .before .before .before .before .before .before .before .word .ensures) at (c .before .before .before .before .area .ensures))
+returns-3 c =
+    let c1 = c .before .before in
+    let c2 = c1 .before .before in
+    let c3 = c2 .before in
+    let c4 = c3 .before in
+    let c5 = c4 .before in
+    simp (
+      ne-eqb _ _ (rw (c5 .word .ensures) at (c4 .if1 .left)),
+      rw (c2 .area .ensures, c3 .after .ensures .0, c5 .word .ensures) at (not-false (c2 .area .result .ok) (c1 .if2 .left)),
+      rw (c3 .after .ensures .0, c5 .word .ensures) at (c2 .area .ensures),
+    )
 
 pub with-area-spec : {M : Type 1} → statement M
 with-area-spec =

@@ -34,7 +34,13 @@ refused-requires-2 c κs = search needs
 
 returns-2 : tie.Need-returns-2
 unfolding withBlock
-returns-2 c = simp (ne-eqb _ _ (rw (c .before .before .before .before .before .before .find .ensures .0) at (c .before .before .before .before .before .if1 .left)), rw (c .before .before .before .before .front .ensures, c .before .before .before .before .before .before .find .ensures .0) at (sym (c .before .before .before .small .ensures) ∙ c .before .enum-told .given .1)) (c .refused2 .ensures)
+returns-2 c =
+    let c1 = c .before in
+    let c2 = c1 .before .before in
+    let c3 = c2 .before in
+    let c4 = c3 .before in
+    let c5 = c4 .before in
+    simp (ne-eqb _ _ (rw (c5 .find .ensures .0) at (c4 .if1 .left)), rw (c3 .front .ensures, c5 .find .ensures .0) at (sym (c2 .small .ensures) ∙ c1 .enum-told .given .1)) (c .refused2 .ensures)
 
 add-after : tie.Need-add-after
 add-after c = search needs
@@ -54,8 +60,25 @@ refused-requires-3 c κs = search needs
 returns-3 : tie.Need-returns-3
 unfolding withBlock
 returns-3 c =
-    let e = rw (c .before .before .before .before .before .before .before .before .before .before .front .ensures, c .before .before .before .before .before .before .before .before .before .before .before .before .find .ensures .0) at (sym (c .before .before .before .before .before .before .before .before .before .small .ensures) ∙ c .before .before .before .before .before .before .before .n .given .1) in
-    simp (ne-eqb _ _ (rw (c .before .before .before .before .before .before .before .before .before .before .before .before .find .ensures .0) at (c .before .before .before .before .before .before .before .before .before .before .before .if1 .left)), e, rw (c .before .before .before .before .block .ensures, c .before .before .before .before .before .after .ensures .0, c .before .before .before .before .before .before .before .before .before .before .before .before .find .ensures .0, small-mod _ _ e) at (c .before .if2 .taken)) (c .refused3 .ensures)
+    let c1 = c .before in
+    let c2 = c1 .before .before .before in
+    let c3 = c2 .before in
+    let c4 = c3 .before .before in
+    let c5 = c4 .before .before in
+    let c6 = c5 .before in
+    let c7 = c6 .before in
+    let c8 = c7 .before in
+    let e = rw (c6 .front .ensures, c8 .find .ensures .0) at (sym (c5 .small .ensures) ∙ c4 .n .given .1) in
+    simp (
+      ne-eqb _ _ (rw (c8 .find .ensures .0) at (c7 .if1 .left)),
+      e,
+      rw (
+        c2 .block .ensures,
+        c3 .after .ensures .0,
+        c8 .find .ensures .0,
+        small-mod _ _ e,
+      ) at (c1 .if2 .taken),
+    ) (c .refused3 .ensures)
 
 mul-held : tie.Need-mul-held
 mul-held c = search needs
@@ -69,8 +92,22 @@ element-write-next c = search needs
 returns-4 : tie.Need-returns-4
 unfolding withBlock
 returns-4 c =
-    let e = rw (c .before .before .before .before .before .before .before .before .before .before .before .front .ensures, c .before .before .before .before .before .before .before .before .before .before .before .before .before .find .ensures .0) at (sym (c .before .before .before .before .before .before .before .before .before .before .small .ensures) ∙ c .before .before .before .before .before .before .before .before .n .given .1) in
-    simp (ne-eqb _ _ (rw (c .before .before .before .before .before .before .before .before .before .before .before .before .before .find .ensures .0) at (c .before .before .before .before .before .before .before .before .before .before .before .before .if1 .left)), e, rw (c .before .before .before .before .before .block .ensures, c .before .before .before .before .before .before .after .ensures .0, c .before .before .before .before .before .before .before .before .before .before .before .before .before .find .ensures .0, small-mod _ _ e) at (c .before .before .if2 .left), small-mod _ _ e, rw (c .before .before .before .before .before .before .after .ensures .0, c .before .before .before .before .before .before .before .before .before .before .before .before .before .find .ensures .0) at (c .before .before .before .before .before .block .ensures))
+    let c1 = c .before .before in
+    let c2 = c1 .before .before .before in
+    let c3 = c2 .before in
+    let c4 = c3 .before .before in
+    let c5 = c4 .before .before in
+    let c6 = c5 .before in
+    let c7 = c6 .before in
+    let c8 = c7 .before in
+    let e = rw (c6 .front .ensures, c8 .find .ensures .0) at (sym (c5 .small .ensures) ∙ c4 .n .given .1) in
+    simp (
+      ne-eqb _ _ (rw (c8 .find .ensures .0) at (c7 .if1 .left)),
+      e,
+      rw (c2 .block .ensures, c3 .after .ensures .0, c8 .find .ensures .0, small-mod _ _ e) at (c1 .if2 .left),
+      small-mod _ _ e,
+      rw (c3 .after .ensures .0, c8 .find .ensures .0) at (c2 .block .ensures),
+    )
 
 pub with-block-spec : {M : Type 1} → statement M
 with-block-spec =

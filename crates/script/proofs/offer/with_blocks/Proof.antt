@@ -44,13 +44,19 @@ loop-less : tie.Need-loop-less Inv-loop μ-loop
 loop-less c = search needs
 
 loop-again : tie.Need-loop-again Inv-loop μ-loop
-loop-again c = (
-  search needs,
-  rw (c .before .before .find .ensures .0, c .before .before .before .after .ensures .0)
-      (blocks-turn ((c .before .before .before .before .before .before .before .args .rest) .now) (c .before .before .before .before .before .loop .at) (c .before .before .before .before .before .loop .next) (c .before .before .before .before .loop-test .taken)
-      (rw (c .before .front .ensures, c .before .before .find .ensures .0, c .before .before .before .after .ensures .0) at (c .with-word .ensures))
-      (c .before .before .before .before .before .loop .inv .1)),
-)
+loop-again c =
+    let c1 = c .before in
+    let c2 = c1 .before in
+    let c3 = c2 .before in
+    let c4 = c3 .before in
+    let c5 = c4 .before in
+    let c6 = c5 .before .before in (
+      search needs,
+      rw (c2 .find .ensures .0, c3 .after .ensures .0)
+          (blocks-turn ((c6 .args .rest) .now) (c5 .loop .at) (c5 .loop .next) (c4 .loop-test .taken)
+          (rw (c1 .front .ensures, c2 .find .ensures .0, c3 .after .ensures .0) at (c .with-word .ensures))
+          (c5 .loop .inv .1)),
+    )
 
 returns : tie.Need-returns Inv-loop μ-loop
 returns c = blocks-end ((c .before .before .before .args .rest) .now) (c .before .loop .at) (c .before .loop .next) (c .loop-test .left) (c .before .loop .inv .1)

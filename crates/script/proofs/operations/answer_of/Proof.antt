@@ -33,7 +33,13 @@ same-requires-3 c κs = search needs
 
 returns-3 : tie.Need-returns-3
 unfolding answerOf
-returns-3 c = simp (sym (c .before .same3 .ensures) ∙ c .if3 .taken, sym (c .before .before .before .before .same2 .ensures) ∙ c .before .before .before .if2 .left, sym (c .before .before .before .before .before .before .before .same .ensures) ∙ c .before .before .before .before .before .before .if1 .left)
+returns-3 c =
+    let c1 = c .before in
+    let c2 = c1 .before .before in
+    let c3 = c2 .before in
+    let c4 = c3 .before .before in
+    let c5 = c4 .before in
+    simp (sym (c1 .same3 .ensures) ∙ c .if3 .taken, sym (c3 .same2 .ensures) ∙ c2 .if2 .left, sym (c5 .same .ensures) ∙ c4 .if1 .left)
 
 slice-aggregate-same-4 : tie.Need-slice-aggregate-same-4
 slice-aggregate-same-4 c = search needs
@@ -43,7 +49,15 @@ same-requires-4 c κs = search needs
 
 returns-4 : tie.Need-returns-4
 unfolding answerOf
-returns-4 c = simp (sym (c .before .same4 .ensures) ∙ c .if4 .taken, sym (c .before .before .before .before .same3 .ensures) ∙ c .before .before .before .if3 .left, sym (c .before .before .before .before .before .before .before .same2 .ensures) ∙ c .before .before .before .before .before .before .if2 .left, sym (c .before .before .before .before .before .before .before .before .before .before .same .ensures) ∙ c .before .before .before .before .before .before .before .before .before .if1 .left)
+returns-4 c =
+    let c1 = c .before in
+    let c2 = c1 .before .before in
+    let c3 = c2 .before in
+    let c4 = c3 .before .before in
+    let c5 = c4 .before in
+    let c6 = c5 .before .before in
+    let c7 = c6 .before in
+    simp (sym (c1 .same4 .ensures) ∙ c .if4 .taken, sym (c3 .same3 .ensures) ∙ c2 .if3 .left, sym (c5 .same2 .ensures) ∙ c4 .if2 .left, sym (c7 .same .ensures) ∙ c6 .if1 .left)
 
 slice-aggregate-same-5 : tie.Need-slice-aggregate-same-5
 slice-aggregate-same-5 c = search needs
@@ -53,11 +67,43 @@ same-requires-5 c κs = search needs
 
 returns-5 : tie.Need-returns-5
 unfolding answerOf
-returns-5 c = simp (sym (c .before .same5 .ensures) ∙ c .if5 .taken, sym (c .before .before .before .before .same4 .ensures) ∙ c .before .before .before .if4 .left, sym (c .before .before .before .before .before .before .before .same3 .ensures) ∙ c .before .before .before .before .before .before .if3 .left, sym (c .before .before .before .before .before .before .before .before .before .before .same2 .ensures) ∙ c .before .before .before .before .before .before .before .before .before .if2 .left, sym (c .before .before .before .before .before .before .before .before .before .before .before .before .before .same .ensures) ∙ c .before .before .before .before .before .before .before .before .before .before .before .before .if1 .left)
+returns-5 c =
+    let c1 = c .before in
+    let c2 = c1 .before .before in
+    let c3 = c2 .before in
+    let c4 = c3 .before .before in
+    let c5 = c4 .before in
+    let c6 = c5 .before .before in
+    let c7 = c6 .before in
+    let c8 = c7 .before .before in
+    let c9 = c8 .before in
+    simp (
+      sym (c1 .same5 .ensures) ∙ c .if5 .taken,
+      sym (c3 .same4 .ensures) ∙ c2 .if4 .left,
+      sym (c5 .same3 .ensures) ∙ c4 .if3 .left,
+      sym (c7 .same2 .ensures) ∙ c6 .if2 .left,
+      sym (c9 .same .ensures) ∙ c8 .if1 .left,
+    )
 
 returns-6 : tie.Need-returns-6
 unfolding answerOf
-returns-6 c = simp (sym (c .before .same5 .ensures) ∙ c .if5 .left, sym (c .before .before .before .before .same4 .ensures) ∙ c .before .before .before .if4 .left, sym (c .before .before .before .before .before .before .before .same3 .ensures) ∙ c .before .before .before .before .before .before .if3 .left, sym (c .before .before .before .before .before .before .before .before .before .before .same2 .ensures) ∙ c .before .before .before .before .before .before .before .before .before .if2 .left, sym (c .before .before .before .before .before .before .before .before .before .before .before .before .before .same .ensures) ∙ c .before .before .before .before .before .before .before .before .before .before .before .before .if1 .left)
+returns-6 c =
+    let c1 = c .before in
+    let c2 = c1 .before .before in
+    let c3 = c2 .before in
+    let c4 = c3 .before .before in
+    let c5 = c4 .before in
+    let c6 = c5 .before .before in
+    let c7 = c6 .before in
+    let c8 = c7 .before .before in
+    let c9 = c8 .before in
+    simp (
+      sym (c1 .same5 .ensures) ∙ c .if5 .left,
+      sym (c3 .same4 .ensures) ∙ c2 .if4 .left,
+      sym (c5 .same3 .ensures) ∙ c4 .if3 .left,
+      sym (c7 .same2 .ensures) ∙ c6 .if2 .left,
+      sym (c9 .same .ensures) ∙ c8 .if1 .left,
+    )
 
 pub answer-of-spec : {M : Type 1} → statement M
 answer-of-spec =

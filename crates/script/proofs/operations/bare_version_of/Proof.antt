@@ -33,7 +33,13 @@ same-requires-3 c κs = search needs
 
 returns-3 : tie.Need-returns-3
 unfolding bareVersionOf
-returns-3 c = simp (sym (c .before .same3 .ensures) ∙ c .if3 .taken, sym (c .before .before .before .before .same2 .ensures) ∙ c .before .before .before .if2 .left, sym (c .before .before .before .before .before .before .before .same .ensures) ∙ c .before .before .before .before .before .before .if1 .left)
+returns-3 c =
+    let c1 = c .before in
+    let c2 = c1 .before .before in
+    let c3 = c2 .before in
+    let c4 = c3 .before .before in
+    let c5 = c4 .before in
+    simp (sym (c1 .same3 .ensures) ∙ c .if3 .taken, sym (c3 .same2 .ensures) ∙ c2 .if2 .left, sym (c5 .same .ensures) ∙ c4 .if1 .left)
 
 slice-aggregate-same-4 : tie.Need-slice-aggregate-same-4
 slice-aggregate-same-4 c = search needs
@@ -43,7 +49,15 @@ same-requires-4 c κs = search needs
 
 returns-4 : tie.Need-returns-4
 unfolding bareVersionOf
-returns-4 c = simp (sym (c .before .same4 .ensures) ∙ c .if4 .taken, sym (c .before .before .before .before .same3 .ensures) ∙ c .before .before .before .if3 .left, sym (c .before .before .before .before .before .before .before .same2 .ensures) ∙ c .before .before .before .before .before .before .if2 .left, sym (c .before .before .before .before .before .before .before .before .before .before .same .ensures) ∙ c .before .before .before .before .before .before .before .before .before .if1 .left)
+returns-4 c =
+    let c1 = c .before in
+    let c2 = c1 .before .before in
+    let c3 = c2 .before in
+    let c4 = c3 .before .before in
+    let c5 = c4 .before in
+    let c6 = c5 .before .before in
+    let c7 = c6 .before in
+    simp (sym (c1 .same4 .ensures) ∙ c .if4 .taken, sym (c3 .same3 .ensures) ∙ c2 .if3 .left, sym (c5 .same2 .ensures) ∙ c4 .if2 .left, sym (c7 .same .ensures) ∙ c6 .if1 .left)
 
 slice-aggregate-same-5 : tie.Need-slice-aggregate-same-5
 slice-aggregate-same-5 c = search needs
@@ -53,7 +67,23 @@ same-requires-5 c κs = search needs
 
 returns-5 : tie.Need-returns-5
 unfolding bareVersionOf
-returns-5 c = simp (sym (c .before .same5 .ensures) ∙ c .if5 .taken, sym (c .before .before .before .before .same4 .ensures) ∙ c .before .before .before .if4 .left, sym (c .before .before .before .before .before .before .before .same3 .ensures) ∙ c .before .before .before .before .before .before .if3 .left, sym (c .before .before .before .before .before .before .before .before .before .before .same2 .ensures) ∙ c .before .before .before .before .before .before .before .before .before .if2 .left, sym (c .before .before .before .before .before .before .before .before .before .before .before .before .before .same .ensures) ∙ c .before .before .before .before .before .before .before .before .before .before .before .before .if1 .left)
+returns-5 c =
+    let c1 = c .before in
+    let c2 = c1 .before .before in
+    let c3 = c2 .before in
+    let c4 = c3 .before .before in
+    let c5 = c4 .before in
+    let c6 = c5 .before .before in
+    let c7 = c6 .before in
+    let c8 = c7 .before .before in
+    let c9 = c8 .before in
+    simp (
+      sym (c1 .same5 .ensures) ∙ c .if5 .taken,
+      sym (c3 .same4 .ensures) ∙ c2 .if4 .left,
+      sym (c5 .same3 .ensures) ∙ c4 .if3 .left,
+      sym (c7 .same2 .ensures) ∙ c6 .if2 .left,
+      sym (c9 .same .ensures) ∙ c8 .if1 .left,
+    )
 
 slice-aggregate-same-6 : tie.Need-slice-aggregate-same-6
 slice-aggregate-same-6 c = search needs
@@ -63,7 +93,26 @@ same-requires-6 c κs = search needs
 
 returns-6 : tie.Need-returns-6
 unfolding bareVersionOf
-returns-6 c = simp (sym (c .before .same6 .ensures) ∙ c .if6 .taken, sym (c .before .before .before .before .same5 .ensures) ∙ c .before .before .before .if5 .left, sym (c .before .before .before .before .before .before .before .same4 .ensures) ∙ c .before .before .before .before .before .before .if4 .left, sym (c .before .before .before .before .before .before .before .before .before .before .same3 .ensures) ∙ c .before .before .before .before .before .before .before .before .before .if3 .left, sym (c .before .before .before .before .before .before .before .before .before .before .before .before .before .same2 .ensures) ∙ c .before .before .before .before .before .before .before .before .before .before .before .before .if2 .left, sym (c .before .before .before .before .before .before .before .before .before .before .before .before .before .before .before .before .same .ensures) ∙ c .before .before .before .before .before .before .before .before .before .before .before .before .before .before .before .if1 .left)
+returns-6 c =
+    let c1 = c .before in
+    let c2 = c1 .before .before in
+    let c3 = c2 .before in
+    let c4 = c3 .before .before in
+    let c5 = c4 .before in
+    let c6 = c5 .before .before in
+    let c7 = c6 .before in
+    let c8 = c7 .before .before in
+    let c9 = c8 .before in
+    let c10 = c9 .before .before in
+    let c11 = c10 .before in
+    simp (
+      sym (c1 .same6 .ensures) ∙ c .if6 .taken,
+      sym (c3 .same5 .ensures) ∙ c2 .if5 .left,
+      sym (c5 .same4 .ensures) ∙ c4 .if4 .left,
+      sym (c7 .same3 .ensures) ∙ c6 .if3 .left,
+      sym (c9 .same2 .ensures) ∙ c8 .if2 .left,
+      sym (c11 .same .ensures) ∙ c10 .if1 .left,
+    )
 
 slice-aggregate-same-7 : tie.Need-slice-aggregate-same-7
 slice-aggregate-same-7 c = search needs
@@ -73,11 +122,55 @@ same-requires-7 c κs = search needs
 
 returns-7 : tie.Need-returns-7
 unfolding bareVersionOf
-returns-7 c = simp (sym (c .before .same7 .ensures) ∙ c .if7 .taken, sym (c .before .before .before .before .same6 .ensures) ∙ c .before .before .before .if6 .left, sym (c .before .before .before .before .before .before .before .same5 .ensures) ∙ c .before .before .before .before .before .before .if5 .left, sym (c .before .before .before .before .before .before .before .before .before .before .same4 .ensures) ∙ c .before .before .before .before .before .before .before .before .before .if4 .left, sym (c .before .before .before .before .before .before .before .before .before .before .before .before .before .same3 .ensures) ∙ c .before .before .before .before .before .before .before .before .before .before .before .before .if3 .left, sym (c .before .before .before .before .before .before .before .before .before .before .before .before .before .before .before .before .same2 .ensures) ∙ c .before .before .before .before .before .before .before .before .before .before .before .before .before .before .before .if2 .left, sym (c .before .before .before .before .before .before .before .before .before .before .before .before .before .before .before .before .before .before .before .same .ensures) ∙ c .before .before .before .before .before .before .before .before .before .before .before .before .before .before .before .before .before .before .if1 .left)
+returns-7 c =
+    let c1 = c .before in
+    let c2 = c1 .before .before in
+    let c3 = c2 .before in
+    let c4 = c3 .before .before in
+    let c5 = c4 .before in
+    let c6 = c5 .before .before in
+    let c7 = c6 .before in
+    let c8 = c7 .before .before in
+    let c9 = c8 .before in
+    let c10 = c9 .before .before in
+    let c11 = c10 .before in
+    let c12 = c11 .before .before in
+    let c13 = c12 .before in
+    simp (
+      sym (c1 .same7 .ensures) ∙ c .if7 .taken,
+      sym (c3 .same6 .ensures) ∙ c2 .if6 .left,
+      sym (c5 .same5 .ensures) ∙ c4 .if5 .left,
+      sym (c7 .same4 .ensures) ∙ c6 .if4 .left,
+      sym (c9 .same3 .ensures) ∙ c8 .if3 .left,
+      sym (c11 .same2 .ensures) ∙ c10 .if2 .left,
+      sym (c13 .same .ensures) ∙ c12 .if1 .left,
+    )
 
 returns-8 : tie.Need-returns-8
 unfolding bareVersionOf
-returns-8 c = simp (sym (c .before .same7 .ensures) ∙ c .if7 .left, sym (c .before .before .before .before .same6 .ensures) ∙ c .before .before .before .if6 .left, sym (c .before .before .before .before .before .before .before .same5 .ensures) ∙ c .before .before .before .before .before .before .if5 .left, sym (c .before .before .before .before .before .before .before .before .before .before .same4 .ensures) ∙ c .before .before .before .before .before .before .before .before .before .if4 .left, sym (c .before .before .before .before .before .before .before .before .before .before .before .before .before .same3 .ensures) ∙ c .before .before .before .before .before .before .before .before .before .before .before .before .if3 .left, sym (c .before .before .before .before .before .before .before .before .before .before .before .before .before .before .before .before .same2 .ensures) ∙ c .before .before .before .before .before .before .before .before .before .before .before .before .before .before .before .if2 .left, sym (c .before .before .before .before .before .before .before .before .before .before .before .before .before .before .before .before .before .before .before .same .ensures) ∙ c .before .before .before .before .before .before .before .before .before .before .before .before .before .before .before .before .before .before .if1 .left)
+returns-8 c =
+    let c1 = c .before in
+    let c2 = c1 .before .before in
+    let c3 = c2 .before in
+    let c4 = c3 .before .before in
+    let c5 = c4 .before in
+    let c6 = c5 .before .before in
+    let c7 = c6 .before in
+    let c8 = c7 .before .before in
+    let c9 = c8 .before in
+    let c10 = c9 .before .before in
+    let c11 = c10 .before in
+    let c12 = c11 .before .before in
+    let c13 = c12 .before in
+    simp (
+      sym (c1 .same7 .ensures) ∙ c .if7 .left,
+      sym (c3 .same6 .ensures) ∙ c2 .if6 .left,
+      sym (c5 .same5 .ensures) ∙ c4 .if5 .left,
+      sym (c7 .same4 .ensures) ∙ c6 .if4 .left,
+      sym (c9 .same3 .ensures) ∙ c8 .if3 .left,
+      sym (c11 .same2 .ensures) ∙ c10 .if2 .left,
+      sym (c13 .same .ensures) ∙ c12 .if1 .left,
+    )
 
 pub bare-version-of-spec : {M : Type 1} → statement M
 bare-version-of-spec =

@@ -33,7 +33,13 @@ same-requires-3 c κs = search needs
 
 returns-3 : tie.Need-returns-3
 unfolding diskOf
-returns-3 c = simp (sym (c .before .same3 .ensures) ∙ c .if3 .taken, sym (c .before .before .before .before .same2 .ensures) ∙ c .before .before .before .if2 .left, sym (c .before .before .before .before .before .before .before .same .ensures) ∙ c .before .before .before .before .before .before .if1 .left)
+returns-3 c =
+    let c1 = c .before in
+    let c2 = c1 .before .before in
+    let c3 = c2 .before in
+    let c4 = c3 .before .before in
+    let c5 = c4 .before in
+    simp (sym (c1 .same3 .ensures) ∙ c .if3 .taken, sym (c3 .same2 .ensures) ∙ c2 .if2 .left, sym (c5 .same .ensures) ∙ c4 .if1 .left)
 
 slice-aggregate-same-4 : tie.Need-slice-aggregate-same-4
 slice-aggregate-same-4 c = search needs
@@ -43,14 +49,31 @@ same-requires-4 c κs = search needs
 
 returns-4 : tie.Need-returns-4
 unfolding diskOf
-returns-4 c = simp (sym (c .before .same4 .ensures) ∙ c .if4 .taken, sym (c .before .before .before .before .same3 .ensures) ∙ c .before .before .before .if3 .left, sym (c .before .before .before .before .before .before .before .same2 .ensures) ∙ c .before .before .before .before .before .before .if2 .left, sym (c .before .before .before .before .before .before .before .before .before .before .same .ensures) ∙ c .before .before .before .before .before .before .before .before .before .if1 .left)
+returns-4 c =
+    let c1 = c .before in
+    let c2 = c1 .before .before in
+    let c3 = c2 .before in
+    let c4 = c3 .before .before in
+    let c5 = c4 .before in
+    let c6 = c5 .before .before in
+    let c7 = c6 .before in
+    simp (sym (c1 .same4 .ensures) ∙ c .if4 .taken, sym (c3 .same3 .ensures) ∙ c2 .if3 .left, sym (c5 .same2 .ensures) ∙ c4 .if2 .left, sym (c7 .same .ensures) ∙ c6 .if1 .left)
 
 answer-of-requires : tie.Need-answer-of-requires
 answer-of-requires c κs = search needs
 
 returns-5 : tie.Need-returns-5
 unfolding diskOf
-returns-5 c = simp (sym (c .before .before .same4 .ensures) ∙ c .before .if4 .left, sym (c .before .before .before .before .before .same3 .ensures) ∙ c .before .before .before .before .if3 .left, sym (c .before .before .before .before .before .before .before .before .same2 .ensures) ∙ c .before .before .before .before .before .before .before .if2 .left, sym (c .before .before .before .before .before .before .before .before .before .before .before .same .ensures) ∙ c .before .before .before .before .before .before .before .before .before .before .if1 .left) (c .answer-of .ensures)
+returns-5 c =
+    let c1 = c .before in
+    let c2 = c1 .before in
+    let c3 = c2 .before .before in
+    let c4 = c3 .before in
+    let c5 = c4 .before .before in
+    let c6 = c5 .before in
+    let c7 = c6 .before .before in
+    let c8 = c7 .before in
+    simp (sym (c2 .same4 .ensures) ∙ c1 .if4 .left, sym (c4 .same3 .ensures) ∙ c3 .if3 .left, sym (c6 .same2 .ensures) ∙ c5 .if2 .left, sym (c8 .same .ensures) ∙ c7 .if1 .left) (c .answer-of .ensures)
 
 pub disk-of-spec : {M : Type 1} → statement M
 disk-of-spec =

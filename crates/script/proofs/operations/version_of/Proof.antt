@@ -33,14 +33,27 @@ same-requires-3 c κs = search needs
 
 returns-3 : tie.Need-returns-3
 unfolding versionOf
-returns-3 c = simp (sym (c .before .same3 .ensures) ∙ c .if3 .taken, sym (c .before .before .before .before .same2 .ensures) ∙ c .before .before .before .if2 .left, sym (c .before .before .before .before .before .before .before .same .ensures) ∙ c .before .before .before .before .before .before .if1 .left)
+returns-3 c =
+    let c1 = c .before in
+    let c2 = c1 .before .before in
+    let c3 = c2 .before in
+    let c4 = c3 .before .before in
+    let c5 = c4 .before in
+    simp (sym (c1 .same3 .ensures) ∙ c .if3 .taken, sym (c3 .same2 .ensures) ∙ c2 .if2 .left, sym (c5 .same .ensures) ∙ c4 .if1 .left)
 
 bare-version-of-requires : tie.Need-bare-version-of-requires
 bare-version-of-requires c κs = search needs
 
 returns-4 : tie.Need-returns-4
 unfolding versionOf
-returns-4 c = simp (sym (c .before .before .same3 .ensures) ∙ c .before .if3 .left, sym (c .before .before .before .before .before .same2 .ensures) ∙ c .before .before .before .before .if2 .left, sym (c .before .before .before .before .before .before .before .before .same .ensures) ∙ c .before .before .before .before .before .before .before .if1 .left) (c .bare-version-of .ensures)
+returns-4 c =
+    let c1 = c .before in
+    let c2 = c1 .before in
+    let c3 = c2 .before .before in
+    let c4 = c3 .before in
+    let c5 = c4 .before .before in
+    let c6 = c5 .before in
+    simp (sym (c2 .same3 .ensures) ∙ c1 .if3 .left, sym (c4 .same2 .ensures) ∙ c3 .if2 .left, sym (c6 .same .ensures) ∙ c5 .if1 .left) (c .bare-version-of .ensures)
 
 pub version-of-spec : {M : Type 1} → statement M
 version-of-spec =

@@ -29,7 +29,12 @@ node-from-requires-2 c κs = search needs
 
 returns-2 : tie.Need-returns-2
 unfolding nodeWordOf
-returns-2 c = simp (sym (c .before .before .same2 .ensures) ∙ c .before .if2 .taken, sym (c .before .before .before .before .before .same .ensures) ∙ c .before .before .before .before .if1 .left) (c .node-from2 .ensures)
+returns-2 c =
+    let c1 = c .before in
+    let c2 = c1 .before in
+    let c3 = c2 .before .before in
+    let c4 = c3 .before in
+    simp (sym (c2 .same2 .ensures) ∙ c1 .if2 .taken, sym (c4 .same .ensures) ∙ c3 .if1 .left) (c .node-from2 .ensures)
 
 slice-aggregate-same-3 : tie.Need-slice-aggregate-same-3
 slice-aggregate-same-3 c = search needs
@@ -42,14 +47,28 @@ node-from-requires-3 c κs = search needs
 
 returns-3 : tie.Need-returns-3
 unfolding nodeWordOf
-returns-3 c = simp (sym (c .before .before .same3 .ensures) ∙ c .before .if3 .taken, sym (c .before .before .before .before .before .same2 .ensures) ∙ c .before .before .before .before .if2 .left, sym (c .before .before .before .before .before .before .before .before .same .ensures) ∙ c .before .before .before .before .before .before .before .if1 .left) (c .node-from3 .ensures)
+returns-3 c =
+    let c1 = c .before in
+    let c2 = c1 .before in
+    let c3 = c2 .before .before in
+    let c4 = c3 .before in
+    let c5 = c4 .before .before in
+    let c6 = c5 .before in
+    simp (sym (c2 .same3 .ensures) ∙ c1 .if3 .taken, sym (c4 .same2 .ensures) ∙ c3 .if2 .left, sym (c6 .same .ensures) ∙ c5 .if1 .left) (c .node-from3 .ensures)
 
 node-written-requires : tie.Need-node-written-requires
 node-written-requires c κs = search needs
 
 returns-4 : tie.Need-returns-4
 unfolding nodeWordOf
-returns-4 c = simp (sym (c .before .before .same3 .ensures) ∙ c .before .if3 .left, sym (c .before .before .before .before .before .same2 .ensures) ∙ c .before .before .before .before .if2 .left, sym (c .before .before .before .before .before .before .before .before .same .ensures) ∙ c .before .before .before .before .before .before .before .if1 .left) (c .node-written .ensures)
+returns-4 c =
+    let c1 = c .before in
+    let c2 = c1 .before in
+    let c3 = c2 .before .before in
+    let c4 = c3 .before in
+    let c5 = c4 .before .before in
+    let c6 = c5 .before in
+    simp (sym (c2 .same3 .ensures) ∙ c1 .if3 .left, sym (c4 .same2 .ensures) ∙ c3 .if2 .left, sym (c6 .same .ensures) ∙ c5 .if1 .left) (c .node-written .ensures)
 
 pub node-of-spec : {M : Type 1} → statement M
 node-of-spec =

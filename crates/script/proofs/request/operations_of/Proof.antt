@@ -41,7 +41,12 @@ no-operations-requires-2 c κs = search needs
 
 returns-2 : tie.Need-returns-2
 unfolding operationsOf
-returns-2 c = simp (sym (c .before .before .before .before .before .before .before .before .number-word .ensures) ∙ c .before .before .before .before .before .before .id .given .1, sym (c .before .before .before .place-word .ensures) ∙ c .before .enum-told2 .given .1) (c .no-operations2 .ensures)
+returns-2 c =
+    let c1 = c .before in
+    let c2 = c1 .before .before in
+    let c3 = c2 .before .before .before in
+    let c4 = c3 .before .before in
+    simp (sym (c4 .number-word .ensures) ∙ c3 .id .given .1, sym (c2 .place-word .ensures) ∙ c1 .enum-told2 .given .1) (c .no-operations2 .ensures)
 
 slice-aggregate-place-word-2 : tie.Need-slice-aggregate-place-word-2
 slice-aggregate-place-word-2 c = search needs
@@ -60,7 +65,14 @@ no-operations-requires-3 c κs = search needs
 
 returns-3 : tie.Need-returns-3
 unfolding operationsOf
-returns-3 c = simp (sym (c .before .before .before .before .before .before .before .before .before .before .before .before .before .number-word .ensures) ∙ c .before .before .before .before .before .before .before .before .before .before .before .id .given .1, sym (c .before .before .before .before .before .before .before .before .place-word .ensures) ∙ c .before .before .before .before .before .before .vloc .given .1, sym (c .before .before .before .place-word2 .ensures) ∙ c .before .enum-told3 .given .1) (c .no-operations3 .ensures)
+returns-3 c =
+    let c1 = c .before in
+    let c2 = c1 .before .before in
+    let c3 = c2 .before .before .before in
+    let c4 = c3 .before .before in
+    let c5 = c4 .before .before .before in
+    let c6 = c5 .before .before in
+    simp (sym (c6 .number-word .ensures) ∙ c5 .id .given .1, sym (c4 .place-word .ensures) ∙ c3 .vloc .given .1, sym (c2 .place-word2 .ensures) ∙ c1 .enum-told3 .given .1) (c .no-operations3 .ensures)
 
 uiop-word-requires : tie.Need-uiop-word-requires
 uiop-word-requires c κs = search needs
@@ -76,7 +88,21 @@ no-operations-requires-4 c κs = search needs
 
 returns-4 : tie.Need-returns-4
 unfolding operationsOf
-returns-4 c = simp (sym (c .before .before .before .before .before .before .before .before .before .before .before .before .before .before .before .before .before .number-word .ensures) ∙ c .before .before .before .before .before .before .before .before .before .before .before .before .before .before .before .id .given .1, sym (c .before .before .before .before .before .before .before .before .before .before .before .before .place-word .ensures) ∙ c .before .before .before .before .before .before .before .before .before .before .vloc .given .1, sym (c .before .before .before .before .before .before .before .place-word2 .ensures) ∙ c .before .before .before .before .before .loc .given .1, sym (c .before .before .before .uiop-word .ensures) ∙ c .before .enum-told4 .given .1) (c .no-operations4 .ensures)
+returns-4 c =
+    let c1 = c .before in
+    let c2 = c1 .before .before in
+    let c3 = c2 .before .before in
+    let c4 = c3 .before .before in
+    let c5 = c4 .before .before .before in
+    let c6 = c5 .before .before in
+    let c7 = c6 .before .before .before in
+    let c8 = c7 .before .before in
+    simp (
+      sym (c8 .number-word .ensures) ∙ c7 .id .given .1,
+      sym (c6 .place-word .ensures) ∙ c5 .vloc .given .1,
+      sym (c4 .place-word2 .ensures) ∙ c3 .loc .given .1,
+      sym (c2 .uiop-word .ensures) ∙ c1 .enum-told4 .given .1,
+    ) (c .no-operations4 .ensures)
 
 version-word-requires : tie.Need-version-word-requires
 version-word-requires c κs = search needs
@@ -92,7 +118,24 @@ no-operations-requires-5 c κs = search needs
 
 returns-5 : tie.Need-returns-5
 unfolding operationsOf
-returns-5 c = simp (sym (c .before .before .before .before .before .before .before .before .before .before .before .before .before .before .before .before .before .before .before .before .before .number-word .ensures) ∙ c .before .before .before .before .before .before .before .before .before .before .before .before .before .before .before .before .before .before .before .id .given .1, sym (c .before .before .before .before .before .before .before .before .before .before .before .before .before .before .before .before .place-word .ensures) ∙ c .before .before .before .before .before .before .before .before .before .before .before .before .before .before .vloc .given .1, sym (c .before .before .before .before .before .before .before .before .before .before .before .place-word2 .ensures) ∙ c .before .before .before .before .before .before .before .before .before .loc .given .1, sym (c .before .before .before .before .before .before .before .uiop-word .ensures) ∙ c .before .before .before .before .before .noop .given .1, sym (c .before .before .before .version-word .ensures) ∙ c .before .enum-told5 .given .1) (c .no-operations5 .ensures)
+returns-5 c =
+    let c1 = c .before in
+    let c2 = c1 .before .before in
+    let c3 = c2 .before .before in
+    let c4 = c3 .before .before in
+    let c5 = c4 .before .before in
+    let c6 = c5 .before .before in
+    let c7 = c6 .before .before .before in
+    let c8 = c7 .before .before in
+    let c9 = c8 .before .before .before in
+    let c10 = c9 .before .before in
+    simp (
+      sym (c10 .number-word .ensures) ∙ c9 .id .given .1,
+      sym (c8 .place-word .ensures) ∙ c7 .vloc .given .1,
+      sym (c6 .place-word2 .ensures) ∙ c5 .loc .given .1,
+      sym (c4 .uiop-word .ensures) ∙ c3 .noop .given .1,
+      sym (c2 .version-word .ensures) ∙ c1 .enum-told5 .given .1,
+    ) (c .no-operations5 .ensures)
 
 disk-word-requires : tie.Need-disk-word-requires
 disk-word-requires c κs = search needs
@@ -108,11 +151,51 @@ no-operations-requires-6 c κs = search needs
 
 returns-6 : tie.Need-returns-6
 unfolding operationsOf
-returns-6 c = simp (sym (c .before .before .before .before .before .before .before .before .before .before .before .before .before .before .before .before .before .before .before .before .before .before .before .before .before .number-word .ensures) ∙ c .before .before .before .before .before .before .before .before .before .before .before .before .before .before .before .before .before .before .before .before .before .before .before .id .given .1, sym (c .before .before .before .before .before .before .before .before .before .before .before .before .before .before .before .before .before .before .before .before .place-word .ensures) ∙ c .before .before .before .before .before .before .before .before .before .before .before .before .before .before .before .before .before .before .vloc .given .1, sym (c .before .before .before .before .before .before .before .before .before .before .before .before .before .before .before .place-word2 .ensures) ∙ c .before .before .before .before .before .before .before .before .before .before .before .before .before .loc .given .1, sym (c .before .before .before .before .before .before .before .before .before .before .before .uiop-word .ensures) ∙ c .before .before .before .before .before .before .before .before .before .noop .given .1, sym (c .before .before .before .before .before .before .before .version-word .ensures) ∙ c .before .before .before .before .before .vop .given .1, sym (c .before .before .before .disk-word .ensures) ∙ c .before .enum-told6 .given .1) (c .no-operations6 .ensures)
+returns-6 c =
+    let c1 = c .before in
+    let c2 = c1 .before .before in
+    let c3 = c2 .before .before in
+    let c4 = c3 .before .before in
+    let c5 = c4 .before .before in
+    let c6 = c5 .before .before in
+    let c7 = c6 .before .before in
+    let c8 = c7 .before .before in
+    let c9 = c8 .before .before .before in
+    let c10 = c9 .before .before in
+    let c11 = c10 .before .before .before in
+    let c12 = c11 .before .before in
+    simp (
+      sym (c12 .number-word .ensures) ∙ c11 .id .given .1,
+      sym (c10 .place-word .ensures) ∙ c9 .vloc .given .1,
+      sym (c8 .place-word2 .ensures) ∙ c7 .loc .given .1,
+      sym (c6 .uiop-word .ensures) ∙ c5 .noop .given .1,
+      sym (c4 .version-word .ensures) ∙ c3 .vop .given .1,
+      sym (c2 .disk-word .ensures) ∙ c1 .enum-told6 .given .1,
+    ) (c .no-operations6 .ensures)
 
 returns-7 : tie.Need-returns-7
 unfolding operationsOf
-returns-7 c = simp (sym (c .before .before .before .before .before .before .before .before .before .before .before .before .before .before .before .before .before .before .before .before .before .before .before .before .before .number-word .ensures) ∙ c .before .before .before .before .before .before .before .before .before .before .before .before .before .before .before .before .before .before .before .before .before .before .before .id .given .1, sym (c .before .before .before .before .before .before .before .before .before .before .before .before .before .before .before .before .before .before .before .before .place-word .ensures) ∙ c .before .before .before .before .before .before .before .before .before .before .before .before .before .before .before .before .before .before .vloc .given .1, sym (c .before .before .before .before .before .before .before .before .before .before .before .before .before .before .before .place-word2 .ensures) ∙ c .before .before .before .before .before .before .before .before .before .before .before .before .before .loc .given .1, sym (c .before .before .before .before .before .before .before .before .before .before .before .uiop-word .ensures) ∙ c .before .before .before .before .before .before .before .before .before .noop .given .1, sym (c .before .before .before .before .before .before .before .version-word .ensures) ∙ c .before .before .before .before .before .vop .given .1, sym (c .before .before .before .disk-word .ensures) ∙ c .before .dop .given .1)
+returns-7 c =
+    let c1 = c .before in
+    let c2 = c1 .before .before in
+    let c3 = c2 .before .before in
+    let c4 = c3 .before .before in
+    let c5 = c4 .before .before in
+    let c6 = c5 .before .before in
+    let c7 = c6 .before .before in
+    let c8 = c7 .before .before in
+    let c9 = c8 .before .before .before in
+    let c10 = c9 .before .before in
+    let c11 = c10 .before .before .before in
+    let c12 = c11 .before .before in
+    simp (
+      sym (c12 .number-word .ensures) ∙ c11 .id .given .1,
+      sym (c10 .place-word .ensures) ∙ c9 .vloc .given .1,
+      sym (c8 .place-word2 .ensures) ∙ c7 .loc .given .1,
+      sym (c6 .uiop-word .ensures) ∙ c5 .noop .given .1,
+      sym (c4 .version-word .ensures) ∙ c3 .vop .given .1,
+      sym (c2 .disk-word .ensures) ∙ c1 .dop .given .1,
+    )
 
 pub operations-of-spec : {M : Type 1} → statement M
 operations-of-spec =

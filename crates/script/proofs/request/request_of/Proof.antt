@@ -37,11 +37,24 @@ request-from-requires-2 c κs = search needs
 
 returns : tie.Need-returns
 unfolding requestOf
-returns c = simp (sym (c .before .before .before .before .number-word .ensures) ∙ c .before .before .reference .given .1, c .request-from .ensures, c .before .before .before .before .before .before .before .before .before .before .before .before .step-words-fit .ensures, c .before .before .before .before .before .before .before .before .before .before .before .operations-of .ensures, c .before .before .before .before .before .before .before .before .before .before .node-word .ensures, c .before .before .before .before .before .before .before .before .before .table-word .ensures)
+returns c =
+    let c1 = c .before .before in
+    let c2 = c1 .before .before in
+    let c3 = c2 .before .before .before .before .before in
+    let c4 = c3 .before in
+    let c5 = c4 .before in
+    let c6 = c5 .before in
+    simp (sym (c2 .number-word .ensures) ∙ c1 .reference .given .1, c .request-from .ensures, c6 .step-words-fit .ensures, c5 .operations-of .ensures, c4 .node-word .ensures, c3 .table-word .ensures)
 
 returns-2 : tie.Need-returns-2
 unfolding requestOf
-returns-2 c = simp (sym (c .before .before .before .number-word .ensures) ∙ c .before .enum-told .given .1, c .request-from2 .ensures, c .before .before .before .before .before .before .before .before .before .before .operations-of .ensures, c .before .before .before .before .before .before .before .before .before .node-word .ensures, c .before .before .before .before .before .before .before .before .table-word .ensures)
+returns-2 c =
+    let c1 = c .before in
+    let c2 = c1 .before .before in
+    let c3 = c2 .before .before .before .before .before in
+    let c4 = c3 .before in
+    let c5 = c4 .before in
+    simp (sym (c2 .number-word .ensures) ∙ c1 .enum-told .given .1, c .request-from2 .ensures, c5 .operations-of .ensures, c4 .node-word .ensures, c3 .table-word .ensures)
 
 pub request-of-spec : {M : Type 1} → statement M
 request-of-spec =

@@ -35,7 +35,11 @@ slot-form-requires : tie.Need-slot-form-requires Inv-loop μ-loop
 slot-form-requires c κs = search needs
 
 add-n : tie.Need-add-n Inv-loop μ-loop
-add-n c = omega (arith, count-le (presentAt (c .before .before .before .before .before .args .t1 .slots)) (c .before .before .before .before .loop .i), c .before .before .before .before .loop .inv .0, c .before .before .before .before .loop .inv .1 .0, c .before .one-if .ensures, bit-le (slotAt (c .before .before .before .before .before .args .t1) (c .before .before .before .before .loop .i) .present))
+add-n c =
+    let c1 = c .before in
+    let c2 = c1 .before .before .before in
+    let c3 = c2 .before in
+    omega (arith, count-le (presentAt (c3 .args .t1 .slots)) (c2 .loop .i), c2 .loop .inv .0, c2 .loop .inv .1 .0, c1 .one-if .ensures, bit-le (slotAt (c3 .args .t1) (c2 .loop .i) .present))
 
 add-i : tie.Need-add-i Inv-loop μ-loop
 add-i c = search needs

@@ -35,7 +35,11 @@ entry-form-requires : tie.Need-entry-form-requires Inv-loop μ-loop
 entry-form-requires c κs = search needs
 
 add-n : tie.Need-add-n Inv-loop μ-loop
-add-n c = omega (arith, count-le (allocatedAt (c .before .before .before .before .before .args .t1 .entries)) (c .before .before .before .before .loop .i), c .before .before .before .before .loop .inv .0, c .before .before .before .before .loop .inv .1 .0, c .before .one-if .ensures, bit-le (entryAt (c .before .before .before .before .before .args .t1) (c .before .before .before .before .loop .i) .allocated))
+add-n c =
+    let c1 = c .before in
+    let c2 = c1 .before .before .before in
+    let c3 = c2 .before in
+    omega (arith, count-le (allocatedAt (c3 .args .t1 .entries)) (c2 .loop .i), c2 .loop .inv .0, c2 .loop .inv .1 .0, c1 .one-if .ensures, bit-le (entryAt (c3 .args .t1) (c2 .loop .i) .allocated))
 
 add-i : tie.Need-add-i Inv-loop μ-loop
 add-i c = search needs

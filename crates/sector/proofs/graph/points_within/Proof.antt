@@ -48,7 +48,15 @@ loop-less : tie.Need-loop-less Inv-loop μ-loop
 loop-less c = search needs
 
 loop-again : tie.Need-loop-again Inv-loop μ-loop
-loop-again c = (search needs, c .before .before .before .before .before .loop .inv .1, c .before .before .before .before .before .loop .inv .2, all-turn _ _ (c .before .before .before .before .before .loop .inv .3) (within-turn (c .before .before .before .before .before .before .before .args .t1) _ (c .before .before .before .before .before .loop .inv .2) (c .before .before .before .before .before .loop .inv .1) (c .before .before .index2 .ensures) (c .within-at .ensures)))
+loop-again c =
+    let c1 = c .before .before in
+    let c2 = c1 .before .before .before in
+    let c3 = c2 .before .before in (
+      search needs,
+      c2 .loop .inv .1,
+      c2 .loop .inv .2,
+      all-turn _ _ (c2 .loop .inv .3) (within-turn (c3 .args .t1) _ (c2 .loop .inv .2) (c2 .loop .inv .1) (c1 .index2 .ensures) (c .within-at .ensures)),
+    )
 
 returns : tie.Need-returns Inv-loop μ-loop
 unfolding within

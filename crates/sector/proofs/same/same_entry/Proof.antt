@@ -1,3 +1,4 @@
+-- Part by part, by what the callees ensure. Assumes nothing.
 use borrow.Author.Needs.{needs}
 use Rattle.sector.proofs.same.same_entry.Statement.{statement}
 use Rattle.sector.proofs.same.same_entry.Tie as tie

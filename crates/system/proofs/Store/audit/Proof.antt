@@ -12,7 +12,11 @@ use Rattle.blocksystem.specs.Audit.{counted, isAdded, isAltered, isLost, tally,
 use Rattle.system.proofs.Store.audit.Tie as tie
 
 abbrev Inv-loop : tie.InvT-loop
-Inv-loop device r picture x t a₀ b₀ c₀ i₀ a b c i = (i ≤ 64) × (a ≡ countBelow (λ k. isLost (throughTable device r x (entryAt t k)) (slotAt picture k)) i) × (b ≡ countBelow (λ k. isAdded (throughTable device r x (entryAt t k)) (slotAt picture k)) i) × (c ≡ countBelow (λ k. isAltered (throughTable device r x (entryAt t k)) (slotAt picture k)) i)
+Inv-loop device r picture x t a₀ b₀ c₀ i₀ a b c i =
+    (i ≤ 64)
+    × (a ≡ countBelow (λ k. isLost (throughTable device r x (entryAt t k)) (slotAt picture k)) i)
+    × (b ≡ countBelow (λ k. isAdded (throughTable device r x (entryAt t k)) (slotAt picture k)) i)
+    × (c ≡ countBelow (λ k. isAltered (throughTable device r x (entryAt t k)) (slotAt picture k)) i)
 
 abbrev μ-loop : tie.MeasureT-loop
 μ-loop device r picture x t a₀ b₀ c₀ i₀ a b c i = 64 - i

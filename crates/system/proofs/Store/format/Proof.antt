@@ -19,7 +19,12 @@ empty-records-requires c κs = search needs
 
 returns : tie.Need-returns
 unfolding formatted
-returns c = simp (lt-leb _ _ (c .before .if1 .taken), c .empty-records .ensures, c .before .before .empty-queues .ensures, c .before .before .before .unready .ensures, c .before .before .before .before .zero-node .ensures)
+returns c =
+    let c1 = c .before in
+    let c2 = c1 .before in
+    let c3 = c2 .before in
+    let c4 = c3 .before in
+    simp (lt-leb _ _ (c1 .if1 .taken), c .empty-records .ensures, c2 .empty-queues .ensures, c3 .unready .ensures, c4 .zero-node .ensures)
 
 indirection-table1-addr-requires : tie.Need-indirection-table1-addr-requires
 indirection-table1-addr-requires c κs = search needs
@@ -38,7 +43,26 @@ formatted-records-requires c κs = search needs
 
 returns-2 : tie.Need-returns-2
 unfolding formatted
-returns-2 c = simp (le-leb _ _ (c .before .before .before .before .before .if1 .left), c .formatted-records .ensures, c .before .root-place2 .ensures, c .before .before .root-place .ensures, c .before .before .before .first-node-addr .ensures, c .before .before .before .before .indirection-table1-addr .ensures, c .before .before .before .before .before .before .empty-queues .ensures, c .before .before .before .before .before .before .before .unready .ensures, c .before .before .before .before .before .before .before .before .zero-node .ensures)
+returns-2 c =
+    let c1 = c .before in
+    let c2 = c1 .before in
+    let c3 = c2 .before in
+    let c4 = c3 .before in
+    let c5 = c4 .before in
+    let c6 = c5 .before in
+    let c7 = c6 .before in
+    let c8 = c7 .before in
+    simp (
+      le-leb _ _ (c5 .if1 .left),
+      c .formatted-records .ensures,
+      c1 .root-place2 .ensures,
+      c2 .root-place .ensures,
+      c3 .first-node-addr .ensures,
+      c4 .indirection-table1-addr .ensures,
+      c6 .empty-queues .ensures,
+      c7 .unready .ensures,
+      c8 .zero-node .ensures,
+    )
 
 pub format-spec : {M : Type 1} → statement M
 format-spec =

@@ -21,7 +21,12 @@ empty-nodes-requires c κs = search needs
 
 returns : tie.Need-returns
 unfolding firstPictures
-returns c = simp (c .empty-nodes .ensures, c .before .zero-named .ensures, c .before .before .with-root .ensures, c .before .before .before .root-place .ensures, c .before .before .before .before .indirection-table1-addr .ensures)
+returns c =
+    let c1 = c .before in
+    let c2 = c1 .before in
+    let c3 = c2 .before in
+    let c4 = c3 .before in
+    simp (c .empty-nodes .ensures, c1 .zero-named .ensures, c2 .with-root .ensures, c3 .root-place .ensures, c4 .indirection-table1-addr .ensures)
 
 pub format-pictures-spec : {M : Type 1} → statement M
 format-pictures-spec =

@@ -19,7 +19,12 @@ empty-nodes-requires : tie.Need-empty-nodes-requires
 empty-nodes-requires c κs = search needs
 
 returns-3 : tie.Need-returns-3
-returns-3 c = simp (rw (c .before .before .before .before .names-place .ensures) at (c .before .before .if1 .left), rw (c .before .before .before .names-place2 .ensures) at (c .before .if2 .left), c .empty-nodes .ensures)
+returns-3 c =
+    let c1 = c .before in
+    let c2 = c1 .before in
+    let c3 = c2 .before in
+    let c4 = c3 .before in
+    simp (rw (c4 .names-place .ensures) at (c2 .if1 .left), rw (c3 .names-place2 .ensures) at (c1 .if2 .left), c .empty-nodes .ensures)
 
 pub picture-of-spec : {M : Type 1} → statement M
 picture-of-spec =

@@ -28,7 +28,11 @@ enum-told c = search needs
 returns-2 : tie.Need-returns-2
 unfolding locationOf
 returns-2 c =
-    simp (ne-eqb _ _ (rw (c .before .before .before .before .before .find .ensures .0) at (c .before .before .before .before .if1 .left)), rw (c .before .before .before .front .ensures, c .before .before .before .before .before .find .ensures .0) at (sym (c .before .before .number .ensures) ∙ c .enum-told .given .1))
+    let c1 = c .before .before in
+    let c2 = c1 .before in
+    let c3 = c2 .before in
+    let c4 = c3 .before in
+    simp (ne-eqb _ _ (rw (c4 .find .ensures .0) at (c3 .if1 .left)), rw (c2 .front .ensures, c4 .find .ensures .0) at (sym (c1 .number .ensures) ∙ c .enum-told .given .1))
 
 add-after : tie.Need-add-after
 add-after c = search needs
@@ -48,12 +52,41 @@ enum-told-2 c = search needs
 returns-3 : tie.Need-returns-3
 unfolding locationOf
 returns-3 c =
-    simp (ne-eqb _ _ (rw (c .before .before .before .before .before .before .before .before .before .before .find .ensures .0) at (c .before .before .before .before .before .before .before .before .before .if1 .left)), rw (c .before .before .before .before .before .before .before .before .front .ensures, c .before .before .before .before .before .before .before .before .before .before .find .ensures .0) at (sym (c .before .before .before .before .before .before .before .number .ensures) ∙ c .before .before .before .before .before .addr .given .1), rw (c .before .before .before .after .ensures .0, c .before .before .before .before .before .before .before .before .before .before .find .ensures .0) at (sym (c .before .before .number2 .ensures) ∙ c .enum-told2 .given .1))
+    let c1 = c .before .before in
+    let c2 = c1 .before in
+    let c3 = c2 .before .before in
+    let c4 = c3 .before .before in
+    let c5 = c4 .before in
+    let c6 = c5 .before in
+    let c7 = c6 .before in
+    simp (
+      ne-eqb _ _ (rw (c7 .find .ensures .0) at (c6 .if1 .left)),
+      rw (c5 .front .ensures, c7 .find .ensures .0) at (sym (c4 .number .ensures) ∙ c3 .addr .given .1),
+      rw (
+        c2 .after .ensures .0,
+        c7 .find .ensures .0,
+      ) at (sym (c1 .number2 .ensures) ∙ c .enum-told2 .given .1),
+    )
 
 returns-4 : tie.Need-returns-4
 unfolding locationOf
 returns-4 c =
-    simp (ne-eqb _ _ (rw (c .before .before .before .before .before .before .before .before .before .before .before .find .ensures .0) at (c .before .before .before .before .before .before .before .before .before .before .if1 .left)), rw (c .before .before .before .before .before .before .before .before .before .front .ensures, c .before .before .before .before .before .before .before .before .before .before .before .find .ensures .0) at (sym (c .before .before .before .before .before .before .before .before .number .ensures) ∙ c .before .before .before .before .before .before .addr .given .1), rw (c .before .before .before .before .after .ensures .0, c .before .before .before .before .before .before .before .before .before .before .before .find .ensures .0) at (sym (c .before .before .before .number2 .ensures) ∙ c .before .len .given .1))
+    let c1 = c .before in
+    let c2 = c1 .before .before in
+    let c3 = c2 .before in
+    let c4 = c3 .before .before in
+    let c5 = c4 .before .before in
+    let c6 = c5 .before in
+    let c7 = c6 .before in
+    let c8 = c7 .before in
+    simp (
+      ne-eqb _ _ (rw (c8 .find .ensures .0) at (c7 .if1 .left)),
+      rw (c6 .front .ensures, c8 .find .ensures .0) at (sym (c5 .number .ensures) ∙ c4 .addr .given .1),
+      rw (
+        c3 .after .ensures .0,
+        c8 .find .ensures .0,
+      ) at (sym (c2 .number2 .ensures) ∙ c1 .len .given .1),
+    )
 
 pub location-spec : {M : Type 1} → statement M
 location-spec =

@@ -53,8 +53,13 @@ enum-told c = search needs
 
 returns-3 : tie.Need-returns-3 Inv-loop μ-loop
 returns-3 c =
-    number-stop ((c .before .before .before .before .before .before .before .before .before .before .before .args .w) .now) (c .before .before .before .before .before .before .loop .i) (c .before .before .before .before .before .loop-test .taken)
-    (rw (← c .before .before .before .before .before .before .loop .inv .1, ← c .before .before .before .worth .ensures, ← c .before .before .appended .ensures) (c .enum-told .given .1))
+    let c1 = c .before .before in
+    let c2 = c1 .before in
+    let c3 = c2 .before .before in
+    let c4 = c3 .before in
+    let c5 = c4 .before .before .before .before .before in
+    number-stop ((c5 .args .w) .now) (c4 .loop .i) (c3 .loop-test .taken)
+    (rw (← c4 .loop .inv .1, ← c2 .worth .ensures, ← c1 .appended .ensures) (c .enum-told .given .1))
 
 add-i : tie.Need-add-i Inv-loop μ-loop
 add-i c = search needs
@@ -64,11 +69,22 @@ loop-less c = search needs
 
 loop-again : tie.Need-loop-again Inv-loop μ-loop
 loop-again c =
-    let x = number-turn (c .before .before .before .before .before .before .before .before .before .before .before .before .args .w .now) (c .before .before .before .before .before .before .before .loop .i) (c .before .before .before .before .before .before .before .loop .n) (c .before .before .before .before .worth .result) _ (c .before .before .before .before .before .before .before .loop .inv .1) (c .before .before .before .before .worth .ensures) (c .before .before .before .before .before .before .before .loop .inv .3) (sym (c .before .before .before .appended .ensures) ∙ c .before .m .given .1) in
+    let c1 = c .before in
+    let c2 = c1 .before .before in
+    let c3 = c2 .before in
+    let c4 = c3 .before .before .before in
+    let c5 = c4 .before .before .before .before .before in
+    let x = number-turn (c5 .args .w .now) (c4 .loop .i) (c4 .loop .n) (c3 .worth .result) _ (c4 .loop .inv .1) (c3 .worth .ensures) (c4 .loop .inv .3)
+    (sym (c2 .appended .ensures) ∙ c1 .m .given .1) in
     (search needs, x .0, x .1, x .2)
 
 returns-4 : tie.Need-returns-4 Inv-loop μ-loop
-returns-4 c = number-good ((c .before .before .before .before .before .before .args .w) .now) (c .before .loop .i) (c .before .loop .n) (c .before .loop .inv .0) (c .loop-test .left) (c .before .loop .inv .1) (c .before .loop .inv .2) (c .before .loop .inv .3) (c .before .before .before .before .if1 .left) (c .before .before .if2 .left)
+returns-4 c =
+    let c1 = c .before in
+    let c2 = c1 .before in
+    let c3 = c2 .before .before in
+    let c4 = c3 .before .before in
+    number-good ((c4 .args .w) .now) (c1 .loop .i) (c1 .loop .n) (c1 .loop .inv .0) (c .loop-test .left) (c1 .loop .inv .1) (c1 .loop .inv .2) (c1 .loop .inv .3) (c3 .if1 .left) (c2 .if2 .left)
 
 pub number-spec : {M : Type 1} → statement M
 number-spec =

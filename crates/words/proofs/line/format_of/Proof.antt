@@ -38,7 +38,13 @@ enum-told c = search needs
 
 returns-2 : tie.Need-returns-2
 unfolding formatOf
-returns-2 c = simp (rw (c .before .before .before .before .before .before .before .before .before .words-fit .ensures, c .before .before .before .before .before .before .before .word .ensures, c .before .before .before .before .before .word2 .ensures) at (c .before .before .before .before .if1 .left), sym (c .before .before .number-word .ensures) ∙ c .enum-told .given .1)
+returns-2 c =
+    let c1 = c .before .before in
+    let c2 = c1 .before .before in
+    let c3 = c2 .before in
+    let c4 = c3 .before .before in
+    let c5 = c4 .before .before in
+    simp (rw (c5 .words-fit .ensures, c4 .word .ensures, c3 .word2 .ensures) at (c2 .if1 .left), sym (c1 .number-word .ensures) ∙ c .enum-told .given .1)
 
 slice-aggregate-number-word-2 : tie.Need-slice-aggregate-number-word-2
 slice-aggregate-number-word-2 c = search needs
@@ -54,11 +60,32 @@ enum-told-2 c = search needs
 
 returns-3 : tie.Need-returns-3
 unfolding formatOf
-returns-3 c = simp (rw (c .before .before .before .before .before .before .before .before .before .before .before .before .before .before .words-fit .ensures, c .before .before .before .before .before .before .before .before .before .before .before .before .word .ensures, c .before .before .before .before .before .before .before .before .before .before .word2 .ensures) at (c .before .before .before .before .before .before .before .before .before .if1 .left), sym (c .before .before .before .before .before .before .before .number-word .ensures) ∙ c .before .before .before .before .before .d .given .1, sym (c .before .before .number-word2 .ensures) ∙ c .enum-told2 .given .1)
+returns-3 c =
+    let c1 = c .before .before in
+    let c2 = c1 .before .before .before in
+    let c3 = c2 .before .before in
+    let c4 = c3 .before .before in
+    let c5 = c4 .before in
+    let c6 = c5 .before .before in
+    let c7 = c6 .before .before in
+    simp (
+      rw (c7 .words-fit .ensures, c6 .word .ensures, c5 .word2 .ensures) at (c4 .if1 .left),
+      sym (c3 .number-word .ensures) ∙ c2 .d .given .1,
+      sym (c1 .number-word2 .ensures) ∙ c .enum-told2 .given .1,
+    )
 
 returns-4 : tie.Need-returns-4
 unfolding formatOf
-returns-4 c = simp (rw (c .before .before .before .before .before .before .before .before .before .before .before .before .before .before .before .words-fit .ensures, c .before .before .before .before .before .before .before .before .before .before .before .before .before .word .ensures, c .before .before .before .before .before .before .before .before .before .before .before .word2 .ensures) at (c .before .before .before .before .before .before .before .before .before .before .if1 .left), sym (c .before .before .before .before .before .before .before .before .number-word .ensures) ∙ c .before .before .before .before .before .before .d .given .1, sym (c .before .before .before .number-word2 .ensures) ∙ c .before .n .given .1)
+returns-4 c =
+    let c1 = c .before in
+    let c2 = c1 .before .before in
+    let c3 = c2 .before .before .before in
+    let c4 = c3 .before .before in
+    let c5 = c4 .before .before in
+    let c6 = c5 .before in
+    let c7 = c6 .before .before in
+    let c8 = c7 .before .before in
+    simp (rw (c8 .words-fit .ensures, c7 .word .ensures, c6 .word2 .ensures) at (c5 .if1 .left), sym (c4 .number-word .ensures) ∙ c3 .d .given .1, sym (c2 .number-word2 .ensures) ∙ c1 .n .given .1)
 
 pub format-of-spec : {M : Type 1} → statement M
 format-of-spec =

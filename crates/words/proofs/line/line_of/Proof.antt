@@ -43,8 +43,16 @@ format-of-requires c κs = search needs
 returns-4 : tie.Need-returns-4
 unfolding lineOf
 returns-4 c =
-    simp (le-ltb _ _ (c .before .before .before .before .before .before .before .before .before .before .if1 .left), ne-eqb _ _ (c .before .before .before .before .before .before .before .before .before .if2 .left), ne-eqb _ _ (c .before .before .before .before .before .before .before .if3 .left), rw (c .before .before .before .before .before .front .ensures, c .before .before .before .before .before .before .find .ensures .0) at (sym (c .before .before .before .same .ensures) ∙ c .before .before .if4 .taken))
-    (rw (c .before .after .ensures .0, c .before .before .before .before .before .before .find .ensures .0) at (c .format-of .ensures))
+    let c1 = c .before in
+    let c2 = c1 .before in
+    let c3 = c2 .before in
+    let c4 = c3 .before .before in
+    let c5 = c4 .before in
+    let c6 = c5 .before in
+    let c7 = c6 .before .before in
+    let c8 = c7 .before in
+    simp (le-ltb _ _ (c8 .if1 .left), ne-eqb _ _ (c7 .if2 .left), ne-eqb _ _ (c6 .if3 .left), rw (c4 .front .ensures, c5 .find .ensures .0) at (sym (c3 .same .ensures) ∙ c2 .if4 .taken))
+    (rw (c1 .after .ensures .0, c5 .find .ensures .0) at (c .format-of .ensures))
 
 slice-aggregate-starts : tie.Need-slice-aggregate-starts
 slice-aggregate-starts c = search needs
@@ -67,17 +75,78 @@ enum-told c = search needs
 returns-5 : tie.Need-returns-5
 unfolding lineOf
 returns-5 c =
-    simp (le-ltb _ _ (c .before .before .before .before .before .before .before .before .before .before .before .before .before .before .before .if1 .left), ne-eqb _ _ (c .before .before .before .before .before .before .before .before .before .before .before .before .before .before .if2 .left), ne-eqb _ _ (c .before .before .before .before .before .before .before .before .before .before .before .before .if3 .left), rw (c .before .before .before .before .before .before .before .before .before .before .front .ensures, c .before .before .before .before .before .before .before .before .before .before .before .find .ensures .0) at (sym (c .before .before .before .before .before .before .before .before .same .ensures) ∙ c .before .before .before .before .before .before .before .if4 .left), rw (c .before .before .before .before .before .before .before .before .before .before .front .ensures, c .before .before .before .before .before .before .before .before .before .before .before .find .ensures .0) at (sym (c .before .before .before .before .before .starts .ensures) ∙ c .before .before .before .before .if5 .taken), rw (c .before .before .before .after2 .ensures .0, c .before .before .before .before .before .before .before .before .before .before .front .ensures, c .before .before .before .before .before .before .before .before .before .before .before .find .ensures .0) at (sym (c .before .before .number .ensures) ∙ c .enum-told .given .1))
+    let c1 = c .before .before in
+    let c2 = c1 .before in
+    let c3 = c2 .before in
+    let c4 = c3 .before in
+    let c5 = c4 .before .before in
+    let c6 = c5 .before in
+    let c7 = c6 .before .before in
+    let c8 = c7 .before in
+    let c9 = c8 .before in
+    let c10 = c9 .before .before in
+    let c11 = c10 .before in
+    simp (
+      le-ltb _ _ (c11 .if1 .left),
+      ne-eqb _ _ (c10 .if2 .left),
+      ne-eqb _ _ (c9 .if3 .left),
+      rw (c7 .front .ensures, c8 .find .ensures .0) at (sym (c6 .same .ensures) ∙ c5 .if4 .left),
+      rw (c7 .front .ensures, c8 .find .ensures .0) at (sym (c4 .starts .ensures) ∙ c3 .if5 .taken),
+      rw (
+        c2 .after2 .ensures .0,
+        c7 .front .ensures,
+        c8 .find .ensures .0,
+      ) at (sym (c1 .number .ensures) ∙ c .enum-told .given .1),
+    )
 
 returns-6 : tie.Need-returns-6
 unfolding lineOf
 returns-6 c =
-    simp (le-ltb _ _ (c .before .before .before .before .before .before .before .before .before .before .before .before .before .before .before .before .if1 .left), ne-eqb _ _ (c .before .before .before .before .before .before .before .before .before .before .before .before .before .before .before .if2 .left), ne-eqb _ _ (c .before .before .before .before .before .before .before .before .before .before .before .before .before .if3 .left), rw (c .before .before .before .before .before .before .before .before .before .before .before .front .ensures, c .before .before .before .before .before .before .before .before .before .before .before .before .find .ensures .0) at (sym (c .before .before .before .before .before .before .before .before .before .same .ensures) ∙ c .before .before .before .before .before .before .before .before .if4 .left), rw (c .before .before .before .before .before .before .before .before .before .before .before .front .ensures, c .before .before .before .before .before .before .before .before .before .before .before .before .find .ensures .0) at (sym (c .before .before .before .before .before .before .starts .ensures) ∙ c .before .before .before .before .before .if5 .taken), rw (c .before .before .before .before .after2 .ensures .0, c .before .before .before .before .before .before .before .before .before .before .before .front .ensures, c .before .before .before .before .before .before .before .before .before .before .before .before .find .ensures .0) at (sym (c .before .before .before .number .ensures) ∙ c .before .n .given .1))
+    let c1 = c .before in
+    let c2 = c1 .before .before in
+    let c3 = c2 .before in
+    let c4 = c3 .before in
+    let c5 = c4 .before in
+    let c6 = c5 .before .before in
+    let c7 = c6 .before in
+    let c8 = c7 .before .before in
+    let c9 = c8 .before in
+    let c10 = c9 .before in
+    let c11 = c10 .before .before in
+    let c12 = c11 .before in
+    simp (
+      le-ltb _ _ (c12 .if1 .left),
+      ne-eqb _ _ (c11 .if2 .left),
+      ne-eqb _ _ (c10 .if3 .left),
+      rw (c8 .front .ensures, c9 .find .ensures .0) at (sym (c7 .same .ensures) ∙ c6 .if4 .left),
+      rw (c8 .front .ensures, c9 .find .ensures .0) at (sym (c5 .starts .ensures) ∙ c4 .if5 .taken),
+      rw (
+        c3 .after2 .ensures .0,
+        c8 .front .ensures,
+        c9 .find .ensures .0,
+      ) at (sym (c2 .number .ensures) ∙ c1 .n .given .1),
+    )
 
 returns-7 : tie.Need-returns-7
 unfolding lineOf
 returns-7 c =
-    simp (le-ltb _ _ (c .before .before .before .before .before .before .before .before .before .before .before .before .if1 .left), ne-eqb _ _ (c .before .before .before .before .before .before .before .before .before .before .before .if2 .left), ne-eqb _ _ (c .before .before .before .before .before .before .before .before .before .if3 .left), rw (c .before .before .before .before .before .before .before .front .ensures, c .before .before .before .before .before .before .before .before .find .ensures .0) at (sym (c .before .before .before .before .before .same .ensures) ∙ c .before .before .before .before .if4 .left), rw (c .before .before .before .before .before .before .before .front .ensures, c .before .before .before .before .before .before .before .before .find .ensures .0) at (sym (c .before .before .starts .ensures) ∙ c .before .if5 .left), lt-ltb _ _ (rw (c .before .before .before .before .before .before .before .before .find .ensures .0) at (c .if6 .taken)))
+    let c1 = c .before in
+    let c2 = c1 .before in
+    let c3 = c2 .before .before in
+    let c4 = c3 .before in
+    let c5 = c4 .before .before in
+    let c6 = c5 .before in
+    let c7 = c6 .before in
+    let c8 = c7 .before .before in
+    let c9 = c8 .before in
+    simp (
+      le-ltb _ _ (c9 .if1 .left),
+      ne-eqb _ _ (c8 .if2 .left),
+      ne-eqb _ _ (c7 .if3 .left),
+      rw (c5 .front .ensures, c6 .find .ensures .0) at (sym (c4 .same .ensures) ∙ c3 .if4 .left),
+      rw (c5 .front .ensures, c6 .find .ensures .0) at (sym (c2 .starts .ensures) ∙ c1 .if5 .left),
+      lt-ltb _ _ (rw (c6 .find .ensures .0) at (c .if6 .taken)),
+    )
 
 alone-of-requires : tie.Need-alone-of-requires
 alone-of-requires c κs = search needs
@@ -85,8 +154,25 @@ alone-of-requires c κs = search needs
 returns-8 : tie.Need-returns-8
 unfolding lineOf
 returns-8 c =
-    simp (le-ltb _ _ (c .before .before .before .before .before .before .before .before .before .before .before .before .before .if1 .left), ne-eqb _ _ (c .before .before .before .before .before .before .before .before .before .before .before .before .if2 .left), ne-eqb _ _ (c .before .before .before .before .before .before .before .before .before .before .if3 .left), rw (c .before .before .before .before .before .before .before .before .front .ensures, c .before .before .before .before .before .before .before .before .before .find .ensures .0) at (sym (c .before .before .before .before .before .before .same .ensures) ∙ c .before .before .before .before .before .if4 .left), rw (c .before .before .before .before .before .before .before .before .front .ensures, c .before .before .before .before .before .before .before .before .before .find .ensures .0) at (sym (c .before .before .before .starts .ensures) ∙ c .before .before .if5 .left), le-ltb _ _ (rw (c .before .before .before .before .before .before .before .before .before .find .ensures .0) at (c .before .if6 .left)))
-    (rw (c .before .before .before .before .before .before .before .before .front .ensures, c .before .before .before .before .before .before .before .before .before .find .ensures .0) at (c .alone-of .ensures))
+    let c1 = c .before in
+    let c2 = c1 .before in
+    let c3 = c2 .before in
+    let c4 = c3 .before .before in
+    let c5 = c4 .before in
+    let c6 = c5 .before .before in
+    let c7 = c6 .before in
+    let c8 = c7 .before in
+    let c9 = c8 .before .before in
+    let c10 = c9 .before in
+    simp (
+      le-ltb _ _ (c10 .if1 .left),
+      ne-eqb _ _ (c9 .if2 .left),
+      ne-eqb _ _ (c8 .if3 .left),
+      rw (c6 .front .ensures, c7 .find .ensures .0) at (sym (c5 .same .ensures) ∙ c4 .if4 .left),
+      rw (c6 .front .ensures, c7 .find .ensures .0) at (sym (c3 .starts .ensures) ∙ c2 .if5 .left),
+      le-ltb _ _ (rw (c7 .find .ensures .0) at (c1 .if6 .left)),
+    )
+    (rw (c6 .front .ensures, c7 .find .ensures .0) at (c .alone-of .ensures))
 
 pub line-of-spec : {M : Type 1} → statement M
 line-of-spec =

@@ -44,14 +44,34 @@ no-list-requires c κs = search needs
 
 returns-2 : tie.Need-returns-2 Inv-loop μ-loop
 returns-2 c =
+    let c1 = c .before in
+    let c2 = c1 .before .before in
+    let c3 = c2 .before in
+    let c4 = c3 .before .before in
+    let c5 = c4 .before in
+    let c6 = c5 .before in
+    let c7 = c6 .before .before .before .before in
     c .no-list .ensures
-    ∙ fold-bad listOk listStep noList 44 ((c .before .before .before .before .before .before .before .before .before .before .before .before .args .w) .now) (c .before .before .before .before .before .before .before .before .loop .from) (c .before .before .before .before .before .before .before .before .loop .l)
-    (rw (c .before .before .before .before .front .ensures, c .before .before .before .before .before .before .find .ensures .0, c .before .before .before .before .before .before .before .after .ensures .0) at (c .before .before .before .joined .ensures)) (c .before .before .before .before .before .before .before .before .loop .inv .1) (not-true (c .before .before .before .joined .result .ok) (c .before .if2 .taken))
+    ∙ fold-bad listOk listStep noList 44 ((c7 .args .w) .now) (c6 .loop .from) (c6 .loop .l)
+    (rw (c3 .front .ensures, c4 .find .ensures .0, c5 .after .ensures .0) at (c2 .joined .ensures))
+    (c6 .loop .inv .1) (not-true (c2 .joined .result .ok) (c1 .if2 .taken))
 
 returns-3 : tie.Need-returns-3 Inv-loop μ-loop
 returns-3 c =
-    fold-last listOk listStep noList 44 ((c .before .before .before .before .before .before .before .before .before .before .before .before .args .w) .now) (c .before .before .before .before .before .before .before .before .loop .from) (c .before .before .before .before .before .before .find .result) (c .before .before .before .before .before .before .before .before .loop .l)
-    (rw (c .before .before .before .before .before .before .before .after .ensures .0) at (c .before .before .before .before .before .before .find .ensures .0)) (rw (c .before .before .before .before .front .ensures, c .before .before .before .before .before .before .find .ensures .0, c .before .before .before .before .before .before .before .after .ensures .0) at (c .before .before .before .joined .ensures)) (c .before .before .before .before .before .before .before .before .loop .inv .1) (not-false (c .before .before .before .joined .result .ok) (c .before .if2 .left)) (rw (c .before .before .before .before .before .before .before .after .ensures .0) at (c .if3 .taken))
+    let c1 = c .before in
+    let c2 = c1 .before .before in
+    let c3 = c2 .before in
+    let c4 = c3 .before .before in
+    let c5 = c4 .before in
+    let c6 = c5 .before in
+    let c7 = c6 .before .before .before .before in
+    fold-last listOk listStep noList 44 ((c7 .args .w) .now) (c6 .loop .from) (c4 .find .result) (c6 .loop .l)
+    (rw (c5 .after .ensures .0) at (c4 .find .ensures .0)) (rw (
+      c3 .front .ensures,
+      c4 .find .ensures .0,
+      c5 .after .ensures .0,
+    ) at (c2 .joined .ensures))
+    (c6 .loop .inv .1) (not-false (c2 .joined .result .ok) (c1 .if2 .left)) (rw (c5 .after .ensures .0) at (c .if3 .taken))
 
 add-from : tie.Need-add-from Inv-loop μ-loop
 add-from c = search needs
@@ -63,11 +83,20 @@ loop-less : tie.Need-loop-less Inv-loop μ-loop
 loop-less c = search needs
 
 loop-again : tie.Need-loop-again Inv-loop μ-loop
-loop-again c = (
-  search needs,
-  fold-turn listOk listStep noList 44 ((c .before .before .before .before .before .before .before .before .before .before .before .before .args .w) .now) (c .before .before .before .before .before .before .before .before .loop .from) (c .before .before .before .before .before .before .find .result) (c .before .before .before .before .before .before .before .before .loop .l)
-      (rw (c .before .before .before .before .before .before .before .after .ensures .0) at (c .before .before .before .before .before .before .find .ensures .0)) (rw (c .before .before .before .before .front .ensures, c .before .before .before .before .before .before .find .ensures .0, c .before .before .before .before .before .before .before .after .ensures .0) at (c .before .before .before .joined .ensures)) (c .before .before .before .before .before .before .before .before .loop .inv .1) (not-false (c .before .before .before .joined .result .ok) (c .before .if2 .left)) (rw (c .before .before .before .before .before .before .before .after .ensures .0) at (c .if3 .left)),
-)
+loop-again c =
+    let c1 = c .before in
+    let c2 = c1 .before .before in
+    let c3 = c2 .before in
+    let c4 = c3 .before .before in
+    let c5 = c4 .before in
+    let c6 = c5 .before in
+    let c7 = c6 .before .before .before .before in (
+      search needs,
+      fold-turn listOk listStep noList 44 ((c7 .args .w) .now) (c6 .loop .from) (c4 .find .result) (c6 .loop .l)
+          (rw (c5 .after .ensures .0) at (c4 .find .ensures .0))
+          (rw (c3 .front .ensures, c4 .find .ensures .0, c5 .after .ensures .0) at (c2 .joined .ensures))
+          (c6 .loop .inv .1) (not-false (c2 .joined .result .ok) (c1 .if2 .left)) (rw (c5 .after .ensures .0) at (c .if3 .left)),
+    )
 
 pub list-spec : {M : Type 1} → statement M
 list-spec =

@@ -35,7 +35,12 @@ no-node-requires-2 c κs = search needs
 returns-2 : tie.Need-returns-2
 unfolding nodeOf
 returns-2 c =
-    simp (ne-eqb _ _ (rw (c .before .before .before .before .before .before .find .ensures .0) at (c .before .before .before .before .before .if1 .left)), rw (c .before .before .before .before .front .ensures, c .before .before .before .before .before .before .find .ensures .0) at (sym (c .before .before .before .number .ensures) ∙ c .before .enum-told .given .1)) (c .no-node2 .ensures)
+    let c1 = c .before in
+    let c2 = c1 .before .before in
+    let c3 = c2 .before in
+    let c4 = c3 .before in
+    let c5 = c4 .before in
+    simp (ne-eqb _ _ (rw (c5 .find .ensures .0) at (c4 .if1 .left)), rw (c3 .front .ensures, c5 .find .ensures .0) at (sym (c2 .number .ensures) ∙ c1 .enum-told .given .1)) (c .no-node2 .ensures)
 
 add-after : tie.Need-add-after
 add-after c = search needs
@@ -52,12 +57,45 @@ no-node-requires-3 c κs = search needs
 returns-3 : tie.Need-returns-3
 unfolding nodeOf
 returns-3 c =
-    simp (ne-eqb _ _ (rw (c .before .before .before .before .before .before .before .before .before .before .before .find .ensures .0) at (c .before .before .before .before .before .before .before .before .before .before .if1 .left)), rw (c .before .before .before .before .before .before .before .before .before .front .ensures, c .before .before .before .before .before .before .before .before .before .before .before .find .ensures .0) at (sym (c .before .before .before .before .before .before .before .before .number .ensures) ∙ c .before .before .before .before .before .before .contents .given .1), rw (c .before .before .before .list .ensures, c .before .before .before .before .after .ensures .0, c .before .before .before .before .before .before .before .before .before .before .before .find .ensures .0) at (not-true (c .before .before .before .list .result .ok) (c .before .if2 .taken))) (c .no-node3 .ensures)
+    let c1 = c .before in
+    let c2 = c1 .before .before in
+    let c3 = c2 .before in
+    let c4 = c3 .before .before in
+    let c5 = c4 .before .before in
+    let c6 = c5 .before in
+    let c7 = c6 .before in
+    let c8 = c7 .before in
+    simp (
+      ne-eqb _ _ (rw (c8 .find .ensures .0) at (c7 .if1 .left)),
+      rw (c6 .front .ensures, c8 .find .ensures .0) at (sym (c5 .number .ensures) ∙ c4 .contents .given .1),
+      rw (
+        c2 .list .ensures,
+        c3 .after .ensures .0,
+        c8 .find .ensures .0,
+      ) at (not-true (c2 .list .result .ok) (c1 .if2 .taken)),
+    ) (c .no-node3 .ensures)
 
 returns-4 : tie.Need-returns-4
 unfolding nodeOf
 returns-4 c =
-    simp (ne-eqb _ _ (rw (c .before .before .before .before .before .before .before .before .before .before .before .find .ensures .0) at (c .before .before .before .before .before .before .before .before .before .before .if1 .left)), rw (c .before .before .before .before .before .before .before .before .before .front .ensures, c .before .before .before .before .before .before .before .before .before .before .before .find .ensures .0) at (sym (c .before .before .before .before .before .before .before .before .number .ensures) ∙ c .before .before .before .before .before .before .contents .given .1), rw (c .before .before .before .list .ensures, c .before .before .before .before .after .ensures .0, c .before .before .before .before .before .before .before .before .before .before .before .find .ensures .0) at (not-false (c .before .before .before .list .result .ok) (c .before .if2 .left)), rw (c .before .before .before .before .after .ensures .0, c .before .before .before .before .before .before .before .before .before .before .before .find .ensures .0) at (c .before .before .before .list .ensures))
+    let c1 = c .before in
+    let c2 = c1 .before .before in
+    let c3 = c2 .before in
+    let c4 = c3 .before .before in
+    let c5 = c4 .before .before in
+    let c6 = c5 .before in
+    let c7 = c6 .before in
+    let c8 = c7 .before in
+    simp (
+      ne-eqb _ _ (rw (c8 .find .ensures .0) at (c7 .if1 .left)),
+      rw (c6 .front .ensures, c8 .find .ensures .0) at (sym (c5 .number .ensures) ∙ c4 .contents .given .1),
+      rw (
+        c2 .list .ensures,
+        c3 .after .ensures .0,
+        c8 .find .ensures .0,
+      ) at (not-false (c2 .list .result .ok) (c1 .if2 .left)),
+      rw (c3 .after .ensures .0, c8 .find .ensures .0) at (c2 .list .ensures),
+    )
 
 pub node-spec : {M : Type 1} → statement M
 node-spec =

@@ -32,7 +32,13 @@ entry-of-requires c κs = search needs
 
 returns-2 : tie.Need-returns-2
 unfolding entryReadOf
-returns-2 c = simp (ne-eqb _ _ (rw (c .before .before .before .before .before .find .ensures .0) at (c .before .before .before .before .if1 .left))) (rw (c .before .before .head-of .ensures, c .before .before .before .front .ensures, c .before .after .ensures .0, c .before .before .before .before .before .find .ensures .0) at (c .entry-of .ensures))
+returns-2 c =
+    let c1 = c .before in
+    let c2 = c1 .before in
+    let c3 = c2 .before in
+    let c4 = c3 .before in
+    let c5 = c4 .before in
+    simp (ne-eqb _ _ (rw (c5 .find .ensures .0) at (c4 .if1 .left))) (rw (c2 .head-of .ensures, c3 .front .ensures, c1 .after .ensures .0, c5 .find .ensures .0) at (c .entry-of .ensures))
 
 pub entry-spec : {M : Type 1} → statement M
 entry-spec =

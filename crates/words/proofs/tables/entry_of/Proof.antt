@@ -27,13 +27,25 @@ enum-known-h-2 : tie.Need-enum-known-h-2
 enum-known-h-2 c = search needs
 
 returns-2 : tie.Need-returns-2
-returns-2 c = simp (rw (c .before .before .before .before .before .before .list .ensures) at (not-false (c .before .before .before .before .before .before .list .result .ok) (c .before .before .before .before .if1 .left)), c .before .enum-told .given .1) (c .no-entry2 .ensures)
+returns-2 c =
+    let c1 = c .before in
+    let c2 = c1 .before .before .before in
+    let c3 = c2 .before .before in
+    simp (rw (c3 .list .ensures) at (not-false (c3 .list .result .ok) (c2 .if1 .left)), c1 .enum-told .given .1) (c .no-entry2 .ensures)
 
 returns-3 : tie.Need-returns-3
-returns-3 c = simp (rw (c .before .before .before .before .before .before .list .ensures) at (not-false (c .before .before .before .before .before .before .list .result .ok) (c .before .before .before .before .if1 .left)), c .before .h .given .1, c .before .before .before .before .before .before .list .ensures)
+returns-3 c =
+    let c1 = c .before in
+    let c2 = c1 .before .before .before in
+    let c3 = c2 .before .before in
+    simp (rw (c3 .list .ensures) at (not-false (c3 .list .result .ok) (c2 .if1 .left)), c1 .h .given .1, c3 .list .ensures)
 
 returns-4 : tie.Need-returns-4
-returns-4 c = simp (rw (c .before .before .before .before .before .before .list .ensures) at (not-false (c .before .before .before .before .before .before .list .result .ok) (c .before .before .before .before .if1 .left)), c .before .h2 .given .1, c .before .before .before .before .before .before .list .ensures)
+returns-4 c =
+    let c1 = c .before in
+    let c2 = c1 .before .before .before in
+    let c3 = c2 .before .before in
+    simp (rw (c3 .list .ensures) at (not-false (c3 .list .result .ok) (c2 .if1 .left)), c1 .h2 .given .1, c3 .list .ensures)
 
 pub entry-of-spec : {M : Type 1} → statement M
 entry-of-spec =

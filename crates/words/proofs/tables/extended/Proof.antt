@@ -21,7 +21,11 @@ no-table-requires-2 c κs = search needs
 
 returns-2 : tie.Need-returns-2
 unfolding extendedOf
-returns-2 c = simp (rw (c .before .before .before .before .before .before .before .entry .ensures) at (c .before .before .if1 .left), lt-ltb _ _ (rw (c .before .before .before .before .before .before .before .entry .ensures) at (c .before .if2 .taken))) (c .no-table2 .ensures)
+returns-2 c =
+    let c1 = c .before in
+    let c2 = c1 .before in
+    let c3 = c2 .before .before .before .before .before in
+    simp (rw (c3 .entry .ensures) at (c2 .if1 .left), lt-ltb _ _ (rw (c3 .entry .ensures) at (c1 .if2 .taken))) (c .no-table2 .ensures)
 
 with-entry-requires : tie.Need-with-entry-requires
 with-entry-requires c κs = search needs
@@ -31,7 +35,11 @@ add-t11 c = search needs
 
 returns-3 : tie.Need-returns-3
 unfolding extendedOf
-returns-3 c = simp (rw (c .before .before .before .before .before .before .before .entry .ensures) at (c .before .before .if1 .left), le-ltb _ _ (rw (c .before .before .before .before .before .before .before .entry .ensures) at (c .before .if2 .left)), c .with-entry .ensures, c .before .before .before .before .before .before .before .entry .ensures)
+returns-3 c =
+    let c1 = c .before in
+    let c2 = c1 .before in
+    let c3 = c2 .before .before .before .before .before in
+    simp (rw (c3 .entry .ensures) at (c2 .if1 .left), le-ltb _ _ (rw (c3 .entry .ensures) at (c1 .if2 .left)), c .with-entry .ensures, c3 .entry .ensures)
 
 pub extended-spec : {M : Type 1} → statement M
 extended-spec =

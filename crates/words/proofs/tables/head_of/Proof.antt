@@ -28,7 +28,11 @@ returns c = simp (rw (c .before .before .before .front .ensures, c .before .befo
 returns-2 : tie.Need-returns-2
 unfolding headOf
 returns-2 c =
-    simp (rw (c .before .before .before .before .before .front .ensures, c .before .before .before .before .before .before .find .ensures .0) at (sym (c .before .before .before .before .small .ensures) ∙ c .before .before .r .given .1), eq-eqb _ _ (rw (c .before .before .before .before .before .before .find .ensures .0) at (c .if1 .taken)))
+    let c1 = c .before .before in
+    let c2 = c1 .before .before in
+    let c3 = c2 .before in
+    let c4 = c3 .before in
+    simp (rw (c3 .front .ensures, c4 .find .ensures .0) at (sym (c2 .small .ensures) ∙ c1 .r .given .1), eq-eqb _ _ (rw (c4 .find .ensures .0) at (c .if1 .taken)))
 
 add-after : tie.Need-add-after
 add-after c = search needs
@@ -48,12 +52,41 @@ enum-told-2 c = search needs
 returns-3 : tie.Need-returns-3
 unfolding headOf
 returns-3 c =
-    simp (rw (c .before .before .before .before .before .before .before .before .before .front .ensures, c .before .before .before .before .before .before .before .before .before .before .find .ensures .0) at (sym (c .before .before .before .before .before .before .before .before .small .ensures) ∙ c .before .before .before .before .before .before .r .given .1), ne-eqb _ _ (rw (c .before .before .before .before .before .before .before .before .before .before .find .ensures .0) at (c .before .before .before .before .if1 .left)), rw (c .before .before .before .after .ensures .0, c .before .before .before .before .before .before .before .before .before .before .find .ensures .0) at (sym (c .before .before .location .ensures) ∙ c .enum-told2 .given .1))
+    let c1 = c .before .before in
+    let c2 = c1 .before in
+    let c3 = c2 .before in
+    let c4 = c3 .before .before in
+    let c5 = c4 .before .before in
+    let c6 = c5 .before in
+    let c7 = c6 .before in
+    simp (
+      rw (c6 .front .ensures, c7 .find .ensures .0) at (sym (c5 .small .ensures) ∙ c4 .r .given .1),
+      ne-eqb _ _ (rw (c7 .find .ensures .0) at (c3 .if1 .left)),
+      rw (
+        c2 .after .ensures .0,
+        c7 .find .ensures .0,
+      ) at (sym (c1 .location .ensures) ∙ c .enum-told2 .given .1),
+    )
 
 returns-4 : tie.Need-returns-4
 unfolding headOf
 returns-4 c =
-    simp (rw (c .before .before .before .before .before .before .before .before .before .before .front .ensures, c .before .before .before .before .before .before .before .before .before .before .before .find .ensures .0) at (sym (c .before .before .before .before .before .before .before .before .before .small .ensures) ∙ c .before .before .before .before .before .before .before .r .given .1), ne-eqb _ _ (rw (c .before .before .before .before .before .before .before .before .before .before .before .find .ensures .0) at (c .before .before .before .before .before .if1 .left)), rw (c .before .before .before .before .after .ensures .0, c .before .before .before .before .before .before .before .before .before .before .before .find .ensures .0) at (sym (c .before .before .before .location .ensures) ∙ c .before .loc .given .1))
+    let c1 = c .before in
+    let c2 = c1 .before .before in
+    let c3 = c2 .before in
+    let c4 = c3 .before in
+    let c5 = c4 .before .before in
+    let c6 = c5 .before .before in
+    let c7 = c6 .before in
+    let c8 = c7 .before in
+    simp (
+      rw (c7 .front .ensures, c8 .find .ensures .0) at (sym (c6 .small .ensures) ∙ c5 .r .given .1),
+      ne-eqb _ _ (rw (c8 .find .ensures .0) at (c4 .if1 .left)),
+      rw (
+        c3 .after .ensures .0,
+        c8 .find .ensures .0,
+      ) at (sym (c2 .location .ensures) ∙ c1 .loc .given .1),
+    )
 
 pub head-of-spec : {M : Type 1} → statement M
 head-of-spec =

@@ -40,14 +40,34 @@ no-table-requires c κs = search needs
 
 returns : tie.Need-returns Inv-loop μ-loop
 returns c =
+    let c1 = c .before in
+    let c2 = c1 .before .before in
+    let c3 = c2 .before in
+    let c4 = c3 .before in
+    let c5 = c4 .before in
+    let c6 = c5 .before in
+    let c7 = c6 .before .before .before in
     c .no-table .ensures
-    ∙ fold-bad tableOk extendedOf noTable 59 ((c .before .before .before .before .before .before .before .before .before .before .args .w) .now) (c .before .before .before .before .before .before .before .loop .from) (c .before .before .before .before .before .before .before .loop .t)
-    (rw (c .before .before .before .before .front .ensures, c .before .before .before .before .before .find .ensures .0, c .before .before .before .before .before .before .after .ensures .0) at (c .before .before .before .extended .ensures)) (c .before .before .before .before .before .before .before .loop .inv .1) (not-true (c .before .before .before .extended .result .ok) (c .before .if1 .taken))
+    ∙ fold-bad tableOk extendedOf noTable 59 ((c7 .args .w) .now) (c6 .loop .from) (c6 .loop .t)
+    (rw (c3 .front .ensures, c4 .find .ensures .0, c5 .after .ensures .0) at (c2 .extended .ensures))
+    (c6 .loop .inv .1) (not-true (c2 .extended .result .ok) (c1 .if1 .taken))
 
 returns-2 : tie.Need-returns-2 Inv-loop μ-loop
 returns-2 c =
-    fold-last tableOk extendedOf noTable 59 ((c .before .before .before .before .before .before .before .before .before .before .args .w) .now) (c .before .before .before .before .before .before .before .loop .from) (c .before .before .before .before .before .find .result) (c .before .before .before .before .before .before .before .loop .t)
-    (rw (c .before .before .before .before .before .before .after .ensures .0) at (c .before .before .before .before .before .find .ensures .0)) (rw (c .before .before .before .before .front .ensures, c .before .before .before .before .before .find .ensures .0, c .before .before .before .before .before .before .after .ensures .0) at (c .before .before .before .extended .ensures)) (c .before .before .before .before .before .before .before .loop .inv .1) (not-false (c .before .before .before .extended .result .ok) (c .before .if1 .left)) (rw (c .before .before .before .before .before .before .after .ensures .0) at (c .if2 .taken))
+    let c1 = c .before in
+    let c2 = c1 .before .before in
+    let c3 = c2 .before in
+    let c4 = c3 .before in
+    let c5 = c4 .before in
+    let c6 = c5 .before in
+    let c7 = c6 .before .before .before in
+    fold-last tableOk extendedOf noTable 59 ((c7 .args .w) .now) (c6 .loop .from) (c4 .find .result) (c6 .loop .t)
+    (rw (c5 .after .ensures .0) at (c4 .find .ensures .0)) (rw (
+      c3 .front .ensures,
+      c4 .find .ensures .0,
+      c5 .after .ensures .0,
+    ) at (c2 .extended .ensures))
+    (c6 .loop .inv .1) (not-false (c2 .extended .result .ok) (c1 .if1 .left)) (rw (c5 .after .ensures .0) at (c .if2 .taken))
 
 add-from : tie.Need-add-from Inv-loop μ-loop
 add-from c = search needs
@@ -59,11 +79,20 @@ loop-less : tie.Need-loop-less Inv-loop μ-loop
 loop-less c = search needs
 
 loop-again : tie.Need-loop-again Inv-loop μ-loop
-loop-again c = (
-  search needs,
-  fold-turn tableOk extendedOf noTable 59 ((c .before .before .before .before .before .before .before .before .before .before .args .w) .now) (c .before .before .before .before .before .before .before .loop .from) (c .before .before .before .before .before .find .result) (c .before .before .before .before .before .before .before .loop .t)
-      (rw (c .before .before .before .before .before .before .after .ensures .0) at (c .before .before .before .before .before .find .ensures .0)) (rw (c .before .before .before .before .front .ensures, c .before .before .before .before .before .find .ensures .0, c .before .before .before .before .before .before .after .ensures .0) at (c .before .before .before .extended .ensures)) (c .before .before .before .before .before .before .before .loop .inv .1) (not-false (c .before .before .before .extended .result .ok) (c .before .if1 .left)) (rw (c .before .before .before .before .before .before .after .ensures .0) at (c .if2 .left)),
-)
+loop-again c =
+    let c1 = c .before in
+    let c2 = c1 .before .before in
+    let c3 = c2 .before in
+    let c4 = c3 .before in
+    let c5 = c4 .before in
+    let c6 = c5 .before in
+    let c7 = c6 .before .before .before in (
+      search needs,
+      fold-turn tableOk extendedOf noTable 59 ((c7 .args .w) .now) (c6 .loop .from) (c4 .find .result) (c6 .loop .t)
+          (rw (c5 .after .ensures .0) at (c4 .find .ensures .0))
+          (rw (c3 .front .ensures, c4 .find .ensures .0, c5 .after .ensures .0) at (c2 .extended .ensures))
+          (c6 .loop .inv .1) (not-false (c2 .extended .result .ok) (c1 .if1 .left)) (rw (c5 .after .ensures .0) at (c .if2 .left)),
+    )
 
 pub table-spec : {M : Type 1} → statement M
 table-spec =

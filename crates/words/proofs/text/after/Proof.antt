@@ -22,8 +22,11 @@ slice-aggregate-result c = search needs
 
 returns : tie.Need-returns
 returns c =
-    let l : length (drop (c .before .before .args .n) ((c .before .before .args .w) .now)) ≡ length ((c .before .before .args .w) .now) - (c .before .before .args .n) = length-drop (c .before .before .args .n) ((c .before .before .args .w) .now) in
-    let e : take (length ((c .before .before .args .w) .now) - (c .before .before .args .n)) (drop (c .before .before .args .n) ((c .before .before .args .w) .now)) ≡ drop (c .before .before .args .n) ((c .before .before .args .w) .now) = take-all (length ((c .before .before .args .w) .now) - (c .before .before .args .n)) (drop (c .before .before .args .n) ((c .before .before .args .w) .now)) (omega arith) in
+    let c1 = c .before .before in
+    let l : length (drop (c1 .args .n) ((c1 .args .w) .now)) ≡ length ((c1 .args .w) .now) - (c1 .args .n) = length-drop (c1 .args .n) ((c1 .args .w) .now) in
+    let w = (c1 .args .w) .now in
+    let n = c1 .args .n in
+    let e : take (length w - n) (drop n w) ≡ drop n w = take-all (length w - n) (drop n w) (omega arith) in
     (e, ap length e ∙ l)
 
 returns-2 : tie.Need-returns-2

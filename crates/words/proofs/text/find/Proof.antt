@@ -26,7 +26,11 @@ shared-slice-read-if1 c = search needs
 
 returns : tie.Need-returns Inv-loop μ-loop
 unfolding findOf
-returns c = (first-hit _ (length ((c .before .before .before .before .args .s) .now)) (c .before .before .before .loop .i) (c .before .before .before .loop .inv .1) (eq-eqb _ _ (c .if1 .taken)) (c .before .before .loop-test .taken), search needs)
+returns c =
+    let c1 = c .before .before in
+    let c2 = c1 .before in
+    let c3 = c2 .before in
+    (first-hit _ (length ((c3 .args .s) .now)) (c2 .loop .i) (c2 .loop .inv .1) (eq-eqb _ _ (c .if1 .taken)) (c1 .loop-test .taken), search needs)
 
 add-i : tie.Need-add-i Inv-loop μ-loop
 add-i c = search needs

@@ -34,7 +34,14 @@ shared-slice-read-if2-2 c = search needs
 returns-2 : tie.Need-returns-2 Inv-loop μ-loop
 unfolding startsOf
 returns-2 c =
-    simp (le-leb _ _ (c .before .before .before .before .before .if1 .left), all-fails (λ k. eqb (getD ((c .before .before .before .before .before .before .args .s) .now) k 0) (getD ((c .before .before .before .before .before .before .args .p) .now) k 0)) (length ((c .before .before .before .before .before .before .args .p) .now)) (c .before .before .before .before .loop .i) (c .before .before .before .loop-test .taken) (ne-eqb _ _ (c .if2 .taken)))
+    let c1 = c .before .before .before in
+    let c2 = c1 .before in
+    let c3 = c2 .before in
+    let c4 = c3 .before in
+    simp (
+      le-leb _ _ (c3 .if1 .left),
+      all-fails (λ k. eqb (getD ((c4 .args .s) .now) k 0) (getD ((c4 .args .p) .now) k 0)) (length ((c4 .args .p) .now)) (c2 .loop .i) (c1 .loop-test .taken) (ne-eqb _ _ (c .if2 .taken)),
+    )
 
 add-i : tie.Need-add-i Inv-loop μ-loop
 add-i c = search needs

@@ -35,9 +35,16 @@ starts-requires c κs = search needs
 
 returns : tie.Need-returns Inv-loop μ-loop
 returns c =
-    word-hit ((c .before .before .before .before .before .before .before .before .before .args .rest) .now) ((c .before .before .before .before .before .before .before .before .before .args .key) .now) (c .before .before .before .before .before .before .loop .at) (c .before .before .before .before .before .loop-test .taken) (c .before .before .before .before .before .before .loop .inv .1)
-    (rw (c .before .before .before .find .ensures .0, c .before .before .before .before .after .ensures .0) at (c .before .before .front .ensures))
-    (sym (c .before .starts .ensures) ∙ c .if1 .taken)
+    let c1 = c .before in
+    let c2 = c1 .before in
+    let c3 = c2 .before in
+    let c4 = c3 .before in
+    let c5 = c4 .before in
+    let c6 = c5 .before in
+    let c7 = c6 .before .before .before in
+    word-hit ((c7 .args .rest) .now) ((c7 .args .key) .now) (c6 .loop .at) (c5 .loop-test .taken) (c6 .loop .inv .1)
+    (rw (c3 .find .ensures .0, c4 .after .ensures .0) at (c2 .front .ensures))
+    (sym (c1 .starts .ensures) ∙ c .if1 .taken)
 
 add-at : tie.Need-add-at Inv-loop μ-loop
 add-at c = search needs
@@ -49,19 +56,30 @@ loop-less : tie.Need-loop-less Inv-loop μ-loop
 loop-less c = search needs
 
 loop-again : tie.Need-loop-again Inv-loop μ-loop
-loop-again c = (
-  search needs,
-  rw (c .before .before .before .find .ensures .0, c .before .before .before .before .after .ensures .0)
-      (word-miss ((c .before .before .before .before .before .before .before .before .before .args .rest) .now) ((c .before .before .before .before .before .before .before .before .before .args .key) .now) (c .before .before .before .before .before .before .loop .at) (c .before .before .before .before .before .loop-test .taken) (c .before .before .before .before .before .before .loop .inv .1)
-      (rw (c .before .before .before .find .ensures .0, c .before .before .before .before .after .ensures .0) at (c .before .before .front .ensures))
-      (sym (c .before .starts .ensures) ∙ c .if1 .left)),
-)
+loop-again c =
+    let c1 = c .before in
+    let c2 = c1 .before in
+    let c3 = c2 .before in
+    let c4 = c3 .before in
+    let c5 = c4 .before in
+    let c6 = c5 .before in
+    let c7 = c6 .before .before .before in (
+      search needs,
+      rw (c3 .find .ensures .0, c4 .after .ensures .0)
+          (word-miss ((c7 .args .rest) .now) ((c7 .args .key) .now) (c6 .loop .at) (c5 .loop-test .taken) (c6 .loop .inv .1)
+          (rw (c3 .find .ensures .0, c4 .after .ensures .0) at (c2 .front .ensures))
+          (sym (c1 .starts .ensures) ∙ c .if1 .left)),
+    )
 
 slice-aggregate-result : tie.Need-slice-aggregate-result Inv-loop μ-loop
 slice-aggregate-result c = search needs
 
 returns-2 : tie.Need-returns-2 Inv-loop μ-loop
-returns-2 c = word-none ((c .before .before .before .before .before .args .rest) .now) ((c .before .before .before .before .before .args .key) .now) (c .before .before .loop .at) (c .before .loop-test .left) (c .before .before .loop .inv .1)
+returns-2 c =
+    let c1 = c .before in
+    let c2 = c1 .before in
+    let c3 = c2 .before .before .before in
+    word-none ((c3 .args .rest) .now) ((c3 .args .key) .now) (c2 .loop .at) (c1 .loop-test .left) (c2 .loop .inv .1)
 
 pub word-spec : {M : Type 1} → statement M
 word-spec =

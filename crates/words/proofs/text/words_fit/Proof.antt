@@ -51,17 +51,26 @@ loop-less : tie.Need-loop-less Inv-loop μ-loop
 loop-less c = search needs
 
 loop-again : tie.Need-loop-again Inv-loop μ-loop
-loop-again c = (
-  search needs,
-  simp length-set (c .before .before .before .before .before .loop .inv .1),
-  rw (c .before .before .find .ensures .0, c .before .before .before .after .ensures .0)
-      (fit-turn ((c .before .before .before .before .before .before .before .args .rest) .now) (c .before .before .before .before .before .before .before .args .first) (c .before .before .before .before .before .before .before .args .last) (c .before .before .before .before .before .loop .at) (c .key-of .result) (c .before .before .before .before .before .loop .seen) (c .before .before .before .before .before .loop .good) (c .before .before .before .before .loop-test .taken)
-      (rw (c .before .front .ensures, c .before .before .find .ensures .0, c .before .before .before .after .ensures .0) at (c .key-of .ensures .0))
-      (c .before .before .before .before .before .loop .inv .2)),
-)
+loop-again c =
+    let c1 = c .before in
+    let c2 = c1 .before in
+    let c3 = c2 .before in
+    let c4 = c3 .before in
+    let c5 = c4 .before in
+    let c6 = c5 .before .before in (
+      search needs,
+      simp length-set (c5 .loop .inv .1),
+      rw (c2 .find .ensures .0, c3 .after .ensures .0)
+          (fit-turn ((c6 .args .rest) .now) (c6 .args .first) (c6 .args .last) (c5 .loop .at) (c .key-of .result) (c5 .loop .seen) (c5 .loop .good) (c4 .loop-test .taken)
+          (rw (c1 .front .ensures, c2 .find .ensures .0, c3 .after .ensures .0) at (c .key-of .ensures .0))
+          (c5 .loop .inv .2)),
+    )
 
 returns : tie.Need-returns Inv-loop μ-loop
-returns c = fit-end ((c .before .before .before .args .rest) .now) (c .before .before .before .args .first) (c .before .before .before .args .last) (c .before .loop .at) (c .before .loop .seen) (c .before .loop .good) (c .loop-test .left) (c .before .loop .inv .2)
+returns c =
+    let c1 = c .before in
+    let c2 = c1 .before .before in
+    fit-end ((c2 .args .rest) .now) (c2 .args .first) (c2 .args .last) (c1 .loop .at) (c1 .loop .seen) (c1 .loop .good) (c .loop-test .left) (c1 .loop .inv .2)
 
 pub words-fit-spec : {M : Type 1} → statement M
 words-fit-spec =
