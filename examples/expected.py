@@ -127,7 +127,7 @@ def crash():
     xa('This time the drive answers ..','step=4 v=SendFrozenLocOp vloc=532480+4096 d=RespWriteIndirectionTableOp id=4',0)
     xa('.. and the crash comes before the clean-up.','step=18 v=CrashOp',0)
     x('Two places are named, each with its own picture.','audit','place=270336+4096 '+OK,'place=532480+4096 '+OK)
-    xa('A disk that lost a quiet block is no possible one.','step=18 v=CrashOp block=1:none',19)
+    xa('A disk that lost a block with no write outstanding is no possible one.','step=18 v=CrashOp block=1:none',19)
     xa('A start from the new place leaves only that named.','step=10 v=SendPersistentLocOp vloc=532480+4096',0)
     x('All of it is there.','audit','place=532480+4096 '+OK)
     xa('The table is asked for ..','step=8 d=ReqReadIndirectionTableOp id=1 loc=532480+4096',0)

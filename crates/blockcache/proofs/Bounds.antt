@@ -1,14 +1,14 @@
 -- A call in its written form names a reference, and so does an awaited read. Assumes nothing.
 use Prim.Native.Nat.{_<_, _≤_, ℕ}
-use mathlib.Core.Bool.{Bool, _&&_, _||_, cond, false, not, true}
-use mathlib.Core.Path.{_≡_, refl}
+use mathlib.Core.Bool.{_||_, not, true}
+use mathlib.Core.Path.{_≡_}
 use native.Mathlib.Omega.{arith}
 use borrow.Author.Tests.{leb-true, lt-ltb, ltb-false, ltb-true}
 use lib.Dec.{leb, ltb}
 use lib.ListN.{List·getD-eq-default, length}
 use Rattle.base.proofs.Scan.{all-at}
 use Rattle.base.proofs.Tests.{and-iff, and-left, and-right, split}
-use Rattle.blockcache.specs.Form.{cacheForm, callForm, eachRequest, readOk, readsForm}
+use Rattle.blockcache.specs.Form.{cacheForm, eachRequest, readOk, readsForm}
 use Rattle.blockcache.specs.Ops.{dopId}
 use Rattle.blockcache.specs.Rows.{readRef}
 use Rattle.blockcache.specs.declared.CacheState.{CacheState}
@@ -16,12 +16,7 @@ use Rattle.blockcache.specs.declared.Call.{Call}
 use Rattle.queue.proofs.Laws.{form-length, found-used}
 use Rattle.queue.specs.Queue.{entryOf, findOf, requestAt, requestsForm, zeroRequest}
 use Rattle.queue.specs.declared.Requests.{Requests}
-use Rattle.sectortype.specs.Form.{locZero, nodeForm, tableForm}
-
-pub call-reference : (q : Call) → callForm q ≡ true → q .reference < 64
-call-reference q e =
-    let s : q .reference ≤ 63 = leb-true _ _ (and-left (leb (q .reference) 63) (nodeForm (q .node)) (and-left (leb (q .reference) 63 && nodeForm (q .node)) (tableForm (q .table)) e)) in
-    omega arith
+use Rattle.sectortype.specs.Form.{locZero}
 
 entry-reference : (q : Requests) (id : ℕ) → readsForm q ≡ true → entryOf q id .reference < 64
 unfolding readsForm entryOf
@@ -44,8 +39,3 @@ unfolding cacheForm
 read-reference d c q e =
     let h = simp and-iff at e in
     entry-reference (c .outstanding .reads) (dopId (q .dop)) (h .0 .0 .1 .1)
-
--- whichever way the test goes
-pub cond-same : {A : Type 0} (b : Bool) (x : A) → cond b x x ≡ x
-cond-same true x = refl
-cond-same false x = refl

@@ -1,10 +1,18 @@
 -- Demand 2 for the cache: a call is accepted exactly where upstream's NextStep allows some next state and no narrowing of document 01 refuses it,
 -- and then the state handed back is one that upstream allows. For any device, cache, step number and call. Assumes nothing.
 use Prim.Native.Nat.{ℕ}
-use mathlib.Core.Bool.{_||_, false, true}
+use mathlib.Core.Bool.{false, true}
 use mathlib.Core.Logic.{_↔_}
 use mathlib.Core.Option.{some}
-use mathlib.Core.Path.{_∙_, _≡_, refl, subst, sym}
+use mathlib.Core.Path.{_≡_, refl, subst, sym}
+use Rattle.base.proofs.Refusals.{Clear}
+use Rattle.base.proofs.Tests.{or-iff}
+use Rattle.base.specs.Refusals.{answer}
+use Rattle.blockcache.proofs.EveryStep.{exact}
+use Rattle.blockcache.proofs.Forms.{well-formed-iff, WellFormed}
+use Rattle.blockcache.proofs.Frames.{frame, gate-iff, Next}
+use Rattle.blockcache.proofs.GraphSteps.{read-cached}
+use Rattle.blockcache.proofs.Numbers.{call-accepted-iff, limits-iff}
 use Rattle.blockcache.specs.Abstract.{Allowed, cacheVars, callOp, readyVars}
 use Rattle.blockcache.specs.Form.{isReady}
 use Rattle.blockcache.specs.Narrowings.{narrowed, narrowedOf, stepNarrowed}
@@ -12,48 +20,16 @@ use Rattle.blockcache.specs.Next.{stepNext}
 use Rattle.blockcache.specs.NextStep.{NextStep}
 use Rattle.blockcache.specs.Rows.{ownRows, stepRows, takes}
 use Rattle.blockcache.specs.Step.{cacheNext, cacheRows, nodeOf, outsideLimits}
-use Rattle.blockcache.specs.Steps.{Step, allocStep, cleanUpStep, crashStep, dirtyStep, evictStep, freezeStep, noOpStep, pageInIndirectionTableReqStep, pageInIndirectionTableRespStep}
-use Rattle.blockcache.specs.Steps.{pageInNodeReqStep, pageInNodeRespStep, readStep, receiveLocStep, stepOf, steps, unallocStep, writeBackIndirectionTableReqStep}
-use Rattle.blockcache.specs.Steps.{writeBackIndirectionTableRespStep, writeBackNodeReqStep, writeBackNodeRespStep}
-use Rattle.blockcache.specs.Upstream.{ReadStep, Variables, unready}
-use Rattle.base.proofs.Refusals.{Clear}
-use Rattle.base.proofs.Tests.{or-iff}
-use Rattle.base.specs.Refusals.{answer}
-use Rattle.blockcache.proofs.Forms.{WellFormed, well-formed-iff}
-use Rattle.blockcache.proofs.Frames.{Exact, Next, frame, gate-iff}
-use Rattle.blockcache.proofs.GraphSteps.{alloc-exact, dirty-exact, evict-exact, read-cached, read-exact, unalloc-exact}
-use Rattle.blockcache.proofs.Numbers.{Accepted, call-accepted-iff, limits-iff}
-use Rattle.blockcache.proofs.OtherSteps.{clean-up-exact, crash-exact, freeze-exact, no-op-exact}
-use Rattle.blockcache.proofs.ReadSteps.{page-in-node-req-exact, page-in-node-resp-exact, page-in-table-req-exact, page-in-table-resp-exact, receive-loc-exact}
-use Rattle.blockcache.proofs.WriteSteps.{write-back-node-req-exact, write-back-node-resp-exact, write-back-table-req-exact, write-back-table-resp-exact}
+use Rattle.blockcache.specs.Steps.{readStep, Step, stepOf, steps}
+use Rattle.blockcache.specs.Upstream.{ReadStep, unready, Variables}
 use Rattle.blockcache.specs.declared.CacheState.{CacheState}
 use Rattle.blockcache.specs.declared.Call.{Call}
 
 module _ (d : ℕ) (c : CacheState) (q : Call) (w : WellFormed d c q) where
-  exact : (step : Step) → Exact d c q step
-  exact writeBackNodeReqStep = write-back-node-req-exact d c q w
-  exact writeBackNodeRespStep = write-back-node-resp-exact d c q w
-  exact writeBackIndirectionTableReqStep = write-back-table-req-exact d c q w
-  exact writeBackIndirectionTableRespStep = write-back-table-resp-exact d c q w
-  exact unallocStep = unalloc-exact d c q w
-  exact pageInNodeReqStep = page-in-node-req-exact d c q w
-  exact pageInNodeRespStep = page-in-node-resp-exact d c q w
-  exact pageInIndirectionTableReqStep = page-in-table-req-exact d c q w
-  exact pageInIndirectionTableRespStep = page-in-table-resp-exact d c q w
-  exact receiveLocStep = receive-loc-exact d c q w
-  exact evictStep = evict-exact d c q w
-  exact freezeStep = freeze-exact d c q w
-  exact cleanUpStep = clean-up-exact d c q w
-  exact noOpStep = no-op-exact d c q w
-  exact dirtyStep = dirty-exact d c q w
-  exact allocStep = alloc-exact d c q w
-  exact readStep = read-exact d c q w
-  exact crashStep = crash-exact d c q w
-
   -- the rows of a step are clear exactly where upstream allows it and no narrowing of it applies
   step-accepted : (step : Step) → Clear (stepRows d c q step) ↔ ((stepNarrowed c q step ≡ false) × ((s' : Variables) × Next d c q step s'))
   step-accepted step =
-      let x = exact step in
+      let x = exact d c q w step in
       let g = gate-iff (takes (c .phase) (q .vop) (q .dop) step) (ownRows d c q step) in
       let after = cacheVars (stepNext c q step) in (
         (λ k. let h = g .0 k in (x .free (h .1), (after, frame d c q after step .1 (h .0, x .sound (h .0) (h .1))))),
@@ -64,7 +40,7 @@ module _ (d : ℕ) (c : CacheState) (q : Call) (w : WellFormed d c q) where
   step-allowed : (step : Step) → Clear (stepRows d c q step) → Next d c q step (cacheVars (stepNext c q step))
   step-allowed step k =
       let h = gate-iff (takes (c .phase) (q .vop) (q .dop) step) (ownRows d c q step) .0 k in
-      frame d c q (cacheVars (stepNext c q step)) step .1 (h .0, exact step .sound (h .0) (h .1))
+      frame d c q (cacheVars (stepNext c q step)) step .1 (h .0, exact d c q w step .sound (h .0) (h .1))
 
 -- THE THEOREMS
 

@@ -1,4 +1,4 @@
--- What the cache's written form says, part by part, and what it is for a call to be accepted. Assumes nothing.
+-- What the cache's written form says, part by part, and what it is for a call to be in its written form. Assumes nothing.
 use Prim.Native.Nat.{_+_, _<_, _≤_, suc, zero, ℕ}
 use mathlib.Core.Bool.{Bool, _||_, false, false≢true, true}
 use mathlib.Core.Logic.{_↔_}
@@ -95,13 +95,13 @@ pub reads-remove-form : (q : Requests) (id : ℕ) → readsForm q ≡ true → h
 unfolding readsForm
 reads-remove-form q id = queue-remove readOk q id
 
-pub no-writes-form : writesForm emptyRequests ≡ true
+pub empty-writes-form : writesForm emptyRequests ≡ true
 unfolding writesForm
-no-writes-form = queue-iff writeOk emptyRequests .1 (none-form, λ id w m. never (sym (ap (λ f. f id) none-map) ∙ m))
+empty-writes-form = queue-iff writeOk emptyRequests .1 (none-form, λ id w m. never (sym (ap (λ f. f id) none-map) ∙ m))
 
-pub no-reads-form : readsForm emptyRequests ≡ true
+pub empty-reads-form : readsForm emptyRequests ≡ true
 unfolding readsForm
-no-reads-form = queue-iff readOk emptyRequests .1 (none-form, λ id w m. never (sym (ap (λ f. f id) none-map) ∙ m))
+empty-reads-form = queue-iff readOk emptyRequests .1 (none-form, λ id w m. never (sym (ap (λ f. f id) none-map) ∙ m))
 
 -- an awaited read is of one of the 64 references
 pub read-ref-bounded : (q : Requests) (id : ℕ) → readsForm q ≡ true → hasOf q id ≡ true → entryOf q id .reference < 64

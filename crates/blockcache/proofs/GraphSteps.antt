@@ -1,6 +1,6 @@
 -- Steps 5, 11, 15, 16 and 17, which change or read the graph and the cached nodes: accepted exactly where upstream allows them. Assumes nothing.
-use Prim.Native.Nat.{_<_, ℕ}
-use mathlib.Core.Bool.{_&&_, false, not, true}
+use Prim.Native.Nat.{ℕ}
+use mathlib.Core.Bool.{_&&_, false, not}
 use mathlib.Core.Option.{none}
 use mathlib.Core.Path.{_∙_, _≡_, ap, refl, sym}
 use borrow.Author.Tests.{eqb-false, ne-eqb}
@@ -13,16 +13,14 @@ use Rattle.blockcache.proofs.Forms.{CacheForm, WellFormed, reads-reques
 use Rattle.blockcache.proofs.Frames.{Complete, Exact, Sound}
 use Rattle.blockcache.proofs.OpKinds.{on-ready-iff}
 use Rattle.blockcache.proofs.Waiting.{reads-iff, writes-to-iff}
-use Rattle.blockcache.specs.Abstract.{cacheVars, readyVars}
-use Rattle.blockcache.specs.Narrowings.{stepNarrowed}
+use Rattle.blockcache.specs.Abstract.{readyVars}
 use Rattle.blockcache.specs.Next.{cachedSlot, stepNext, unlocated}
 use Rattle.blockcache.specs.Rows.{ownRows}
 use Rattle.blockcache.specs.Scan.{writesTo}
 use Rattle.blockcache.specs.Steps.{allocStep, dirtyStep, evictStep, readStep, unallocStep}
-use Rattle.blockcache.specs.Upstream.{Alloc, Dirty, Evict, ReadStep, Unalloc, Variables, setCache}
+use Rattle.blockcache.specs.Upstream.{Alloc, Dirty, Evict, ReadStep, Unalloc, setCache}
 use Rattle.blockcache.specs.declared.CacheState.{CacheState}
 use Rattle.blockcache.specs.declared.Call.{Call}
-use Rattle.disklayout.specs.Device.{made}
 use Rattle.queue.specs.declared.Requests.{Requests}
 use Rattle.sectortype.proofs.Forms.{located-allocated}
 use Rattle.sectortype.proofs.Graphs.{within-iff}

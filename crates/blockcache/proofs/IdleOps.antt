@@ -12,7 +12,7 @@ use Rattle.blockcache.proofs.OpKinds.{on-ready-iff}
 use Rattle.blockcache.proofs.Waiting.{writes-has}
 use Rattle.blockcache.specs.Abstract.{awaitedId, cacheVars}
 use Rattle.blockcache.specs.Form.{isReady}
-use Rattle.blockcache.specs.Ops.{dopId, dopKind}
+use Rattle.blockcache.specs.Ops.{dopId, dopKind, noDop, nodeReadResp, nodeWriteResp, tableReadResp, tableWriteResp}
 use Rattle.blockcache.specs.Upstream.{AwaitsNodeWrite, AwaitsTableWrite, IdleOp, In}
 use Rattle.blockcache.specs.declared.CacheState.{CacheState}
 use Rattle.blockdisk.specs.Upstream.{opOf}
@@ -49,11 +49,11 @@ awaits-node-iff c id =
 -- NoOp's disk operations
 module _ (c : CacheState) (n : Node) (t : Table) where
   abbrev idleKind : DiskOp → Bool
-  idleKind op = eqb (dopKind op) 0 || eqb (dopKind op) 5 || eqb (dopKind op) 6 || eqb (dopKind op) 7 || eqb (dopKind op) 8
+  idleKind op = eqb (dopKind op) noDop || eqb (dopKind op) tableReadResp || eqb (dopKind op) nodeReadResp || eqb (dopKind op) tableWriteResp || eqb (dopKind op) nodeWriteResp
 
   abbrev awaitedOp : DiskOp → Bool
   awaitedOp op =
-      isReady c && ((eqb (dopKind op) 7 && (c .awaited .waiting && eqb (c .awaited .id) (dopId op))) || (eqb (dopKind op) 8 && hasOf (c .outstanding .writes) (dopId op)))
+      isReady c && ((eqb (dopKind op) tableWriteResp && (c .awaited .waiting && eqb (c .awaited .id) (dopId op))) || (eqb (dopKind op) nodeWriteResp && hasOf (c .outstanding .writes) (dopId op)))
 
   pub idle-op : (op : DiskOp) → idleKind op ≡ true → awaitedOp op ≡ false → IdleOp (cacheVars c) (opOf op n t)
   idle-op (ReqReadIndirectionTableOp id l) k e = absurd (false≢true k)

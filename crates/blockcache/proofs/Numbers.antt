@@ -1,26 +1,25 @@
 -- The number of a step, and what it is for a call to be accepted: it is within the limits, its number is a step's, and none of the step's
 -- conditions holds. Assumes nothing.
-use Prim.Native.Nat.{_+_, _<_, _≤_, suc, zero, ℕ}
-use mathlib.Core.Bool.{and-false, Bool, _&&_, false, not, true}
-use mathlib.Core.List.{List, [], _∷_}
+use Prim.Native.Nat.{_+_, _≤_, suc, zero, ℕ}
+use mathlib.Core.Bool.{_&&_, and-false, Bool, false, not, true}
+use mathlib.Core.List.{[], _∷_, List}
 use mathlib.Core.Logic.{_↔_}
-use mathlib.Core.Option.{Option, none, some}
+use mathlib.Core.Option.{none, Option, some}
 use mathlib.Core.Path.{_∙_, _≡_, ap, refl, sym}
 use native.Mathlib.Omega.{arith}
-use borrow.Author.Tests.{leb-true, eqb-true, le-leb, le-ltb, lt-leb, lt-ltb, ltb-false, ltb-true}
+use borrow.Author.Tests.{eqb-true, le-leb, le-ltb, leb-true, lt-leb, lt-ltb, ltb-false, ltb-true}
 use lib.Dec.{eqb, leb, ltb}
 use lib.ListN.{length}
-use Rattle.base.proofs.Refusals.{Clear, accepted-iff}
+use Rattle.base.proofs.Refusals.{accepted-iff, Clear}
 use Rattle.base.proofs.Tests.{and-both, and-iff, and-left, and-right, never, none-iff, not-iff, or-iff, some-iff, split}
 use Rattle.base.specs.Lists.{nth}
 use Rattle.base.specs.Maps.{isSome}
 use Rattle.base.specs.Refusals.{_when_, answer, ascending}
-use Rattle.blockcache.proofs.Forms.{WellFormed, well-formed-iff}
+use Rattle.blockcache.proofs.EveryStep.{rows-ascend}
+use Rattle.blockcache.proofs.Forms.{well-formed-iff, WellFormed}
 use Rattle.blockcache.specs.Rows.{stepRows}
 use Rattle.blockcache.specs.Step.{cacheRows, outsideLimits, rowsOf, wellFormed}
-use Rattle.blockcache.specs.Steps.{Step, allocStep, cleanUpStep, crashStep, dirtyStep, evictStep, freezeStep, noOpStep, numberOf, pageInIndirectionTableReqStep}
-use Rattle.blockcache.specs.Steps.{pageInIndirectionTableRespStep, pageInNodeReqStep, pageInNodeRespStep, readStep, receiveLocStep, stepOf, steps, unallocStep}
-use Rattle.blockcache.specs.Steps.{writeBackIndirectionTableReqStep, writeBackIndirectionTableRespStep, writeBackNodeReqStep, writeBackNodeRespStep}
+use Rattle.blockcache.specs.Steps.{numberOf, Step, stepOf, steps}
 use Rattle.blockcache.specs.declared.CacheState.{CacheState}
 use Rattle.blockcache.specs.declared.Call.{Call}
 
@@ -34,15 +33,15 @@ nth-within [] k = sym (le-ltb k 0 (omega arith))
 nth-within (x ∷ xs) zero = sym (lt-ltb 0 (suc (length xs)) (omega arith))
 nth-within (x ∷ xs) (suc k) = nth-within xs k ∙ sym (ltb-suc k (length xs))
 
--- the steps have the numbers 1 to 18
-pub step-number : (n : ℕ) → isSome (stepOf n) ≡ (leb 1 n && leb n 18)
-unfolding stepOf steps
+-- the steps have the numbers from 1 to as many as there are
+pub step-number : (n : ℕ) → isSome (stepOf n) ≡ (leb 1 n && leb n (length steps))
+unfolding stepOf
 step-number zero = refl
 step-number (suc k) =
     let e = nth-within steps k in
-    split (ltb k 18)
-    (λ t. let b : k < 18 = ltb-true k 18 t in e ∙ t ∙ sym (and-both (le-leb 1 (suc k) (omega arith)) (le-leb (suc k) 18 (omega arith))))
-    (λ t. let b : 18 ≤ k = ltb-false k 18 t in e ∙ t ∙ sym (rw (lt-leb (suc k) 18 (omega arith)) (and-false (leb 1 (suc k)))))
+    split (ltb k (length steps))
+    (λ t. let b = ltb-true k (length steps) t in e ∙ t ∙ sym (and-both (le-leb 1 (suc k) (omega arith)) (le-leb (suc k) (length steps) (omega arith))))
+    (λ t. let b = ltb-false k (length steps) t in e ∙ t ∙ sym (rw (lt-leb (suc k) (length steps) (omega arith)) (and-false (leb 1 (suc k)))))
 
 -- n is none of 1 to k: what a match with an arm for each of these leaves for the rest
 abbrev pub NoneTo : ℕ → ℕ → Type 0
@@ -53,11 +52,12 @@ none-to : (n k : ℕ) → NoneTo n k → 1 ≤ n → n ≤ k → ⊥
 none-to n zero h a b = omega arith
 none-to n (suc k) h a b = none-to n k (h .0) a (let ne = h .1 in omega arith)
 
-pub no-step : (n : ℕ) → NoneTo n 18 → stepOf n ≡ none
+pub no-step : (n : ℕ) → NoneTo n (length steps) → stepOf n ≡ none
 no-step n h =
     none-iff (stepOf n) .0
     (split (isSome (stepOf n))
-    (λ t. let b = and-iff (leb 1 n) (leb n 18) .0 (sym (step-number n) ∙ t) in absurd (none-to n 18 h (leb-true 1 n (b .0)) (leb-true n 18 (b .1))))
+    (λ t. let b = and-iff (leb 1 n) (leb n (length steps)) .0 (sym (step-number n) ∙ t) in
+        absurd (none-to n (length steps) h (leb-true 1 n (b .0)) (leb-true n (length steps) (b .1))))
     (λ t. t))
 
 -- the list gives each step its number
@@ -87,31 +87,9 @@ step-of-number (suc k) step e = let h : numberOf step ≡ 1 + k = nth-number ste
 
 -- A CALL THAT IS ACCEPTED
 
-module _ (d : ℕ) (c : CacheState) (q : Call) (b : Bool) where
-  -- the numbers of the rows ascend
-  rows-ascend : (step : Step) → ascending ((1 when b) ∷ stepRows d c q step) ≡ true
-  rows-ascend writeBackNodeReqStep = refl
-  rows-ascend writeBackNodeRespStep = refl
-  rows-ascend writeBackIndirectionTableReqStep = refl
-  rows-ascend writeBackIndirectionTableRespStep = refl
-  rows-ascend unallocStep = refl
-  rows-ascend pageInNodeReqStep = refl
-  rows-ascend pageInNodeRespStep = refl
-  rows-ascend pageInIndirectionTableReqStep = refl
-  rows-ascend pageInIndirectionTableRespStep = refl
-  rows-ascend receiveLocStep = refl
-  rows-ascend evictStep = refl
-  rows-ascend freezeStep = refl
-  rows-ascend cleanUpStep = refl
-  rows-ascend noOpStep = refl
-  rows-ascend dirtyStep = refl
-  rows-ascend allocStep = refl
-  rows-ascend readStep = refl
-  rows-ascend crashStep = refl
-
-  of-ascend : (o : Option Step) → ascending ((1 when b) ∷ rowsOf d c q o) ≡ true
-  of-ascend none = refl
-  of-ascend (some step) = rows-ascend step
+of-ascend : (d : ℕ) (c : CacheState) (q : Call) (b : Bool) (o : Option Step) → ascending ((1 when b) ∷ rowsOf d c q o) ≡ true
+of-ascend d c q b none = refl
+of-ascend d c q b (some step) = rows-ascend d c q b step
 
 pub rows-ascending : (d : ℕ) (c : CacheState) (n : ℕ) (q : Call) → ascending (cacheRows d c n q) ≡ true
 rows-ascending d c n q = of-ascend d c q (outsideLimits d c n q) (stepOf n)

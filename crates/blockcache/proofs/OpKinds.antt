@@ -12,7 +12,7 @@ use Rattle.blockcache.specs.Abstract.{awaitedId, cacheVars, readyVars, v
 use Rattle.blockcache.specs.Form.{isReady, loadingPhase, readyPhase, unreadyPhase}
 use Rattle.blockcache.specs.NextStep.{IdleVop, OnLoading, OnReady, OnReqReadIndirectionTable, OnReqReadNode, OnReqWriteIndirectionTable, OnReqWriteNode, OnRespReadIndirectionTable}
 use Rattle.blockcache.specs.NextStep.{OnRespReadNode, OnRespWriteIndirectionTable, OnRespWriteNode}
-use Rattle.blockcache.specs.Ops.{dopBrought, dopId, dopKind, dopLoc, vopKind, vopLoc, vopNoOp}
+use Rattle.blockcache.specs.Ops.{advance, cleanUp, crash, dopBrought, dopId, dopKind, dopLoc, freeze, internal, journalInternal, noDop, nodeReadReq, nodeReadResp, nodeWriteReq, nodeWriteResp, popSync, pushSync, sendFrozenLoc, sendPersistentLoc, tableReadReq, tableReadResp, tableWriteReq, tableWriteResp, vopKind, vopLoc, vopNoOp}
 use Rattle.blockcache.specs.Upstream.{Ready, loadingIndirectionTable, ready, unready}
 use Rattle.blockcache.specs.declared.CacheState.{CacheState}
 use Rattle.blockcache.specs.declared.Phase.{Phase}
@@ -63,28 +63,28 @@ module _ (v : VersionOp) where
   vop-is : (k : ℕ) → eqb (vopKind v) k ≡ true → v ≡ vopFrom k (vopLoc v) (vopNoOp v)
   vop-is k e = vop-from v ∙ ap (λ j. vopFrom j (vopLoc v) (vopNoOp v)) (eqb-true (vopKind v) k e)
 
-  pub internal-iff : (eqb (vopKind v) 1 ≡ true) ↔ (v ≡ StatesInternalOp)
+  pub internal-iff : (eqb (vopKind v) internal ≡ true) ↔ (v ≡ StatesInternalOp)
   internal-iff = (vop-is 1, λ e. rw e)
 
-  pub freeze-iff : (eqb (vopKind v) 6 ≡ true) ↔ (v ≡ FreezeOp)
+  pub freeze-iff : (eqb (vopKind v) freeze ≡ true) ↔ (v ≡ FreezeOp)
   freeze-iff = (vop-is 6, λ e. rw e)
 
-  pub clean-up-iff : (eqb (vopKind v) 7 ≡ true) ↔ (v ≡ CleanUpOp)
+  pub clean-up-iff : (eqb (vopKind v) cleanUp ≡ true) ↔ (v ≡ CleanUpOp)
   clean-up-iff = (vop-is 7, λ e. rw e)
 
-  pub crash-op-iff : (eqb (vopKind v) 10 ≡ true) ↔ (v ≡ CrashOp)
+  pub crash-op-iff : (eqb (vopKind v) crash ≡ true) ↔ (v ≡ CrashOp)
   crash-op-iff = (vop-is 10, λ e. rw e)
 
-  pub advance-iff : (eqb (vopKind v) 5 ≡ true) ↔ ((b : Bool) × (v ≡ AdvanceOp b))
+  pub advance-iff : (eqb (vopKind v) advance ≡ true) ↔ ((b : Bool) × (v ≡ AdvanceOp b))
   advance-iff = ((λ e. (vopNoOp v, vop-is 5 e)), (λ (b, e). rw e))
 
-  pub send-persistent-iff : (P : Location → Type 0) → ((l : Location) × (v ≡ SendPersistentLocOp l) × P l) ↔ ((eqb (vopKind v) 3 ≡ true) × P (vopLoc v))
+  pub send-persistent-iff : (P : Location → Type 0) → ((l : Location) × (v ≡ SendPersistentLocOp l) × P l) ↔ ((eqb (vopKind v) sendPersistentLoc ≡ true) × P (vopLoc v))
   send-persistent-iff P = (
     (λ (l, e, p). (rw e, let q : l ≡ vopLoc v = rw e in rw q at p)),
     (λ (k, p). (vopLoc v, vop-is 3 k, p)),
   )
 
-  pub send-frozen-iff : (P : Location → Type 0) → ((l : Location) × (v ≡ SendFrozenLocOp l) × P l) ↔ ((eqb (vopKind v) 4 ≡ true) × P (vopLoc v))
+  pub send-frozen-iff : (P : Location → Type 0) → ((l : Location) × (v ≡ SendFrozenLocOp l) × P l) ↔ ((eqb (vopKind v) sendFrozenLoc ≡ true) × P (vopLoc v))
   send-frozen-iff P = (
     (λ (l, e, p). (rw e, let q : l ≡ vopLoc v = rw e in rw q at p)),
     (λ (k, p). (vopLoc v, vop-is 4 k, p)),
@@ -106,10 +106,10 @@ no-op-iff v = (to v, λ e. rw e)
     to CrashOp e = absurd (false≢true e)
 
 -- NoOp's version operations
-pub idle-vop-iff : (v : VersionOp) → ((eqb (vopKind v) 1 || eqb (vopKind v) 2 || eqb (vopKind v) 8 || eqb (vopKind v) 9) ≡ true) ↔ IdleVop v
+pub idle-vop-iff : (v : VersionOp) → ((eqb (vopKind v) internal || eqb (vopKind v) journalInternal || eqb (vopKind v) pushSync || eqb (vopKind v) popSync) ≡ true) ↔ IdleVop v
 idle-vop-iff v = (to v, ⊎-elim (λ e. rw e) (⊎-elim (λ e. rw e) (⊎-elim (λ e. rw e) (λ e. rw e))))
   where
-    to : (v : VersionOp) → (eqb (vopKind v) 1 || eqb (vopKind v) 2 || eqb (vopKind v) 8 || eqb (vopKind v) 9) ≡ true → IdleVop v
+    to : (v : VersionOp) → (eqb (vopKind v) internal || eqb (vopKind v) journalInternal || eqb (vopKind v) pushSync || eqb (vopKind v) popSync) ≡ true → IdleVop v
     to StatesInternalOp e = inl refl
     to JournalInternalOp e = inr (inl refl)
     to (SendPersistentLocOp l) e = absurd (false≢true e)
@@ -175,10 +175,10 @@ module _ (op : DiskOp) (n : Node) (t : Table) where
   kind-of : (k : ℕ) (o : Dop) → opOf op n t ≡ o → kindOf o ≡ k → eqb (dopKind op) k ≡ true
   kind-of k o e q = eq-eqb (dopKind op) k (sym (dop-kind op n t) ∙ ap kindOf e ∙ q)
 
-  pub no-disk-op-iff : (eqb (dopKind op) 0 ≡ true) ↔ (opOf op n t ≡ noDiskOp)
+  pub no-disk-op-iff : (eqb (dopKind op) noDop ≡ true) ↔ (opOf op n t ≡ noDiskOp)
   no-disk-op-iff = (dop-is 0, λ e. kind-of 0 noDiskOp e refl)
 
-  pub req-read-table-iff : (P : ℕ → Location → Type 0) → OnReqReadIndirectionTable (opOf op n t) P ↔ ((eqb (dopKind op) 1 ≡ true) × P (dopId op) (dopLoc op))
+  pub req-read-table-iff : (P : ℕ → Location → Type 0) → OnReqReadIndirectionTable (opOf op n t) P ↔ ((eqb (dopKind op) tableReadReq ≡ true) × P (dopId op) (dopLoc op))
   req-read-table-iff P = (
     (λ (id, l, e, p). let k = kind-of 1 (reqReadIndirectionTable id l) e refl in
         let f : opOf op n t ≡ reqReadIndirectionTable (dopId op) (dopLoc op) = dop-is 1 k in
@@ -186,7 +186,7 @@ module _ (op : DiskOp) (n : Node) (t : Table) where
     (λ (k, p). (dopId op, dopLoc op, dop-is 1 k, p)),
   )
 
-  pub req-read-node-iff : (P : ℕ → Location → Type 0) → OnReqReadNode (opOf op n t) P ↔ ((eqb (dopKind op) 2 ≡ true) × P (dopId op) (dopLoc op))
+  pub req-read-node-iff : (P : ℕ → Location → Type 0) → OnReqReadNode (opOf op n t) P ↔ ((eqb (dopKind op) nodeReadReq ≡ true) × P (dopId op) (dopLoc op))
   req-read-node-iff P = (
     (λ (id, l, e, p). let k = kind-of 2 (reqReadNode id l) e refl in
         let f : opOf op n t ≡ reqReadNode (dopId op) (dopLoc op) = dop-is 2 k in
@@ -195,7 +195,7 @@ module _ (op : DiskOp) (n : Node) (t : Table) where
   )
 
   pub req-write-table-iff : (P : ℕ → Location → IndirectionTable → Type 0) →
-      OnReqWriteIndirectionTable (opOf op n t) P ↔ ((eqb (dopKind op) 3 ≡ true) × P (dopId op) (dopLoc op) (indirectionTable t))
+      OnReqWriteIndirectionTable (opOf op n t) P ↔ ((eqb (dopKind op) tableWriteReq ≡ true) × P (dopId op) (dopLoc op) (indirectionTable t))
   req-write-table-iff P = (
     (λ (id, l, u, e, p). let k = kind-of 3 (reqWriteIndirectionTable id l u) e refl in
         let f : opOf op n t ≡ reqWriteIndirectionTable (dopId op) (dopLoc op) (indirectionTable t) = dop-is 3 k in
@@ -203,7 +203,7 @@ module _ (op : DiskOp) (n : Node) (t : Table) where
     (λ (k, p). (dopId op, dopLoc op, indirectionTable t, dop-is 3 k, p)),
   )
 
-  pub req-write-node-iff : (P : ℕ → Location → Node → Type 0) → OnReqWriteNode (opOf op n t) P ↔ ((eqb (dopKind op) 4 ≡ true) × P (dopId op) (dopLoc op) n)
+  pub req-write-node-iff : (P : ℕ → Location → Node → Type 0) → OnReqWriteNode (opOf op n t) P ↔ ((eqb (dopKind op) nodeWriteReq ≡ true) × P (dopId op) (dopLoc op) n)
   req-write-node-iff P = (
     (λ (id, l, m, e, p). let k = kind-of 4 (reqWriteNode id l m) e refl in
         let f : opOf op n t ≡ reqWriteNode (dopId op) (dopLoc op) n = dop-is 4 k in
@@ -212,7 +212,7 @@ module _ (op : DiskOp) (n : Node) (t : Table) where
   )
 
   pub resp-read-table-iff : (P : ℕ → Option IndirectionTable → Type 0) →
-      OnRespReadIndirectionTable (opOf op n t) P ↔ ((eqb (dopKind op) 5 ≡ true) × P (dopId op) (flagged (somethingIn (dopBrought op)) (indirectionTable t)))
+      OnRespReadIndirectionTable (opOf op n t) P ↔ ((eqb (dopKind op) tableReadResp ≡ true) × P (dopId op) (flagged (somethingIn (dopBrought op)) (indirectionTable t)))
   resp-read-table-iff P = (
     (λ (id, u, e, p). let k = kind-of 5 (respReadIndirectionTable id u) e refl in
         let f : opOf op n t ≡ respReadIndirectionTable (dopId op) (flagged (somethingIn (dopBrought op)) (indirectionTable t)) = dop-is 5 k in
@@ -221,7 +221,7 @@ module _ (op : DiskOp) (n : Node) (t : Table) where
   )
 
   pub resp-read-node-iff : (P : ℕ → Option Node → Type 0) →
-      OnRespReadNode (opOf op n t) P ↔ ((eqb (dopKind op) 6 ≡ true) × P (dopId op) (flagged (somethingIn (dopBrought op)) n))
+      OnRespReadNode (opOf op n t) P ↔ ((eqb (dopKind op) nodeReadResp ≡ true) × P (dopId op) (flagged (somethingIn (dopBrought op)) n))
   resp-read-node-iff P = (
     (λ (id, u, e, p). let k = kind-of 6 (respReadNode id u) e refl in
         let f : opOf op n t ≡ respReadNode (dopId op) (flagged (somethingIn (dopBrought op)) n) = dop-is 6 k in
@@ -229,7 +229,7 @@ module _ (op : DiskOp) (n : Node) (t : Table) where
     (λ (k, p). (dopId op, flagged (somethingIn (dopBrought op)) n, dop-is 6 k, p)),
   )
 
-  pub resp-write-table-iff : (P : ℕ → Type 0) → OnRespWriteIndirectionTable (opOf op n t) P ↔ ((eqb (dopKind op) 7 ≡ true) × P (dopId op))
+  pub resp-write-table-iff : (P : ℕ → Type 0) → OnRespWriteIndirectionTable (opOf op n t) P ↔ ((eqb (dopKind op) tableWriteResp ≡ true) × P (dopId op))
   resp-write-table-iff P = (
     (λ (id, e, p). let k = kind-of 7 (respWriteIndirectionTable id) e refl in
         let f : opOf op n t ≡ respWriteIndirectionTable (dopId op) = dop-is 7 k in
@@ -237,7 +237,7 @@ module _ (op : DiskOp) (n : Node) (t : Table) where
     (λ (k, p). (dopId op, dop-is 7 k, p)),
   )
 
-  pub resp-write-node-iff : (P : ℕ → Type 0) → OnRespWriteNode (opOf op n t) P ↔ ((eqb (dopKind op) 8 ≡ true) × P (dopId op))
+  pub resp-write-node-iff : (P : ℕ → Type 0) → OnRespWriteNode (opOf op n t) P ↔ ((eqb (dopKind op) nodeWriteResp ≡ true) × P (dopId op))
   resp-write-node-iff P = (
     (λ (id, e, p). let k = kind-of 8 (respWriteNode id) e refl in
         let f : opOf op n t ≡ respWriteNode (dopId op) = dop-is 8 k in

@@ -1,36 +1,19 @@
 -- Steps 12 to 14 and 18: accepted exactly where upstream allows them. Assumes nothing.
-use Prim.Native.Nat.{_<_, ℕ}
-use mathlib.Core.Bool.{Bool, _&&_, _||_, and-false, false, false≢true, or-false, true}
-use mathlib.Core.Logic.{_↔_}
-use mathlib.Core.Option.{some}
-use mathlib.Core.Path.{_∙_, _≡_, refl, sym}
-use borrow.Author.Tests.{eq-eqb}
-use lib.Dec.{eqb}
-use Rattle.base.proofs.Refusals.{Clear}
-use Rattle.base.proofs.Tests.{and-both, and-iff, and-left, and-right, clash, eqb-iff, not-iff, or-iff, split}
+use Prim.Native.Nat.{ℕ}
+use mathlib.Core.Path.{refl}
+use Rattle.base.proofs.Tests.{not-iff, or-iff}
 use Rattle.blockcache.proofs.Bridge.{flagged-is-iff, flagged-none-iff}
 use Rattle.blockcache.proofs.Forms.{CacheForm, WellFormed}
 use Rattle.blockcache.proofs.Frames.{Complete, Exact, Sound}
 use Rattle.blockcache.proofs.IdleOps.{idle-kind, idle-op}
-use Rattle.blockcache.proofs.OpKinds.{crash-op-iff, idle-vop-iff, on-ready-iff}
-use Rattle.blockcache.proofs.Waiting.{writes-has}
-use Rattle.blockcache.specs.Abstract.{cacheVars, readyVars}
-use Rattle.blockcache.specs.Narrowings.{stepNarrowed}
+use Rattle.blockcache.proofs.OpKinds.{on-ready-iff}
+use Rattle.blockcache.specs.Abstract.{readyVars}
 use Rattle.blockcache.specs.Next.{stepNext}
-use Rattle.blockcache.specs.Rows.{ownRows}
 use Rattle.blockcache.specs.Steps.{cleanUpStep, crashStep, freezeStep, noOpStep}
-use Rattle.blockcache.specs.Upstream.{CleanUp, Freeze, Variables}
+use Rattle.blockcache.specs.Upstream.{CleanUp, Freeze}
 use Rattle.blockcache.specs.declared.CacheState.{CacheState}
 use Rattle.blockcache.specs.declared.Call.{Call}
-use Rattle.blockdisk.specs.Upstream.{opOf}
-use Rattle.blockdisk.specs.declared.DiskOp.{DiskOp}
-use Rattle.blockdisk.specs.declared.DiskOp.the-variants.{NoDiskOp, ReqReadIndirectionTableOp, ReqReadNodeOp, ReqWriteIndirectionTableOp, ReqWriteNodeOp, RespReadIndirectionTableOp}
-use Rattle.blockdisk.specs.declared.DiskOp.the-variants.{RespReadNodeOp, RespWriteIndirectionTableOp, RespWriteNodeOp}
-use Rattle.disklayout.specs.Device.{made}
-use Rattle.queue.specs.Queue.{hasOf}
 use Rattle.sectortype.specs.Abstract.{indirectionTable}
-use Rattle.sectortype.specs.declared.Node.{Node}
-use Rattle.sectortype.specs.declared.Table.{Table}
 
 module _ (d : ℕ) (c : CacheState) (q : Call) (w : WellFormed d c q) where
   abbrev r : ℕ

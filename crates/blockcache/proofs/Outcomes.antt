@@ -1,17 +1,15 @@
 -- The theorems said of cacheStep, which is what the code's contract equates: its answer is that of the rows, a refused call leaves the cache as it
 -- was, and every call, accepted or refused, keeps the written form and upstream's Inv. Assumes nothing.
 use Prim.Native.Nat.{ℕ}
-use mathlib.Core.Bool.{cond, false, true}
+use mathlib.Core.Bool.{Bool, cond, false, true}
 use mathlib.Core.List.{List}
-use mathlib.Core.Path.{_∙_, _≡_, ap, subst, sym}
+use mathlib.Core.Path.{_∙_, _≡_, ap, refl, subst, sym}
 use borrow.Author.Tests.{eq-eqb, eqb-false, eqb-true, ne-eqb}
 use lib.Dec.{eqb}
 use Rattle.base.proofs.Tests.{split}
 use Rattle.base.specs.Refusals.{Row, answer}
-use Rattle.blockcache.proofs.Bounds.{cond-same}
-use Rattle.blockcache.proofs.FormKept.{cache-form-kept}
+use Rattle.blockcache.proofs.Kept.{cache-form-kept, inv-kept}
 use Rattle.blockcache.proofs.Gate.{step-is}
-use Rattle.blockcache.proofs.InvKept.{inv-kept}
 use Rattle.blockcache.specs.Abstract.{cacheVars}
 use Rattle.blockcache.specs.Form.{cacheForm}
 use Rattle.blockcache.specs.Step.{cacheNext, cacheRows, cacheStep, nodeOf}
@@ -63,5 +61,9 @@ pub cache-node : (d : ℕ) (c : CacheState) (q : Call) → answer (cacheRows d c
 cache-node d c q e = step-node d c 17 q ∙ rw (eq-eqb (answer (cacheRows d c 17 q)) 0 e)
 
 -- with every other step it is zeros
+cond-same : {A : Type 0} (b : Bool) (x : A) → cond b x x ≡ x
+cond-same true x = refl
+cond-same false x = refl
+
 pub cache-no-node : (d : ℕ) (c : CacheState) (n : ℕ) (q : Call) → isRead n ≡ false → cacheStep d c n q .node ≡ zeroNode
 cache-no-node d c n q e = step-node d c n q ∙ rw (e, cond-same (eqb (answer (cacheRows d c n q)) 0) zeroNode)

@@ -1,5 +1,5 @@
 -- Steps 6 to 10, which read nodes and tables: accepted exactly where upstream allows them, but for the narrowings. Assumes nothing.
-use Prim.Native.Nat.{_<_, ℕ}
+use Prim.Native.Nat.{ℕ}
 use mathlib.Core.Bool.{Bool, _||_, false, not, true}
 use mathlib.Core.Option.{some}
 use mathlib.Core.Path.{_∙_, _≡_, ap, refl, subst, sym}
@@ -13,14 +13,14 @@ use Rattle.blockcache.proofs.Forms.{CacheForm, WellFormed, loading-idle
 use Rattle.blockcache.proofs.Frames.{Complete, Exact, Sound}
 use Rattle.blockcache.proofs.OpKinds.{loading-is, on-ready-iff, unready-iff}
 use Rattle.blockcache.proofs.Waiting.{not-read-iff, reads-at, reads-empty-iff, reads-has, reads-insert, reads-remove, writes-empty-iff}
-use Rattle.blockcache.specs.Abstract.{cacheVars, readyVars}
+use Rattle.blockcache.specs.Abstract.{readyVars}
 use Rattle.blockcache.specs.Narrowings.{stepNarrowed}
 use Rattle.blockcache.specs.Next.{cachedSlot, stepNext}
 use Rattle.blockcache.specs.Ops.{dopBrought, dopId, dopLoc, vopLoc}
 use Rattle.blockcache.specs.Rows.{ownRows}
 use Rattle.blockcache.specs.Scan.{nodeRejected}
 use Rattle.blockcache.specs.Steps.{pageInIndirectionTableReqStep, pageInIndirectionTableRespStep, pageInNodeReqStep, pageInNodeRespStep, receiveLocStep}
-use Rattle.blockcache.specs.Upstream.{AllLocationsForDifferentRefsDontOverlap, PageInNodeReq, PageInNodeResp, SameSuccs, Variables, WFCompleteIndirectionTable, setCache, setReads}
+use Rattle.blockcache.specs.Upstream.{AllLocationsForDifferentRefsDontOverlap, PageInNodeReq, PageInNodeResp, SameSuccs, WFCompleteIndirectionTable, setCache, setReads}
 use Rattle.blockcache.specs.declared.CacheState.{CacheState}
 use Rattle.blockcache.specs.declared.Call.{Call}
 use Rattle.blockdisk.specs.Ops.{somethingIn}

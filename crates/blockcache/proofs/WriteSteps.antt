@@ -1,5 +1,5 @@
 -- Steps 1 to 4, which write nodes and tables: accepted exactly where upstream allows them, but for the narrowings. Assumes nothing.
-use Prim.Native.Nat.{_<_, ℕ}
+use Prim.Native.Nat.{ℕ}
 use mathlib.Core.Bool.{false, true}
 use mathlib.Core.Logic.{_↔_}
 use mathlib.Core.Option.{some}
@@ -13,14 +13,14 @@ use Rattle.blockcache.proofs.Forms.{CacheForm, WellFormed, writes-reque
 use Rattle.blockcache.proofs.Frames.{Complete, Exact, Sound}
 use Rattle.blockcache.proofs.OpKinds.{on-ready-iff}
 use Rattle.blockcache.proofs.Waiting.{writes-empty-iff, writes-has, writes-insert, writes-remove}
-use Rattle.blockcache.specs.Abstract.{cacheVars, readyVars}
+use Rattle.blockcache.specs.Abstract.{readyVars}
 use Rattle.blockcache.specs.Narrowings.{stepNarrowed}
 use Rattle.blockcache.specs.Next.{assigned, stepNext}
 use Rattle.blockcache.specs.Ops.{dopId, dopLoc, vopLoc}
 use Rattle.blockcache.specs.Rows.{ownRows}
 use Rattle.blockcache.specs.Scan.{heldIn}
 use Rattle.blockcache.specs.Steps.{writeBackIndirectionTableReqStep, writeBackIndirectionTableRespStep, writeBackNodeReqStep, writeBackNodeRespStep}
-use Rattle.blockcache.specs.Upstream.{NoAddr, ValidAllocation, Variables, WriteBackIndirectionTableReq, WriteBackIndirectionTableResp, WriteBackNodeReq, WriteBackNodeResp}
+use Rattle.blockcache.specs.Upstream.{NoAddr, ValidAllocation, WriteBackIndirectionTableReq, WriteBackIndirectionTableResp, WriteBackNodeReq, WriteBackNodeResp}
 use Rattle.blockcache.specs.Upstream.{assignRefToLocation, setWrites}
 use Rattle.blockcache.specs.declared.CacheState.{CacheState}
 use Rattle.blockcache.specs.declared.Call.{Call}

@@ -2,7 +2,6 @@
 use mathlib.Core.Bool.{Bool, _&&_, _||_, false, not, true}
 use lib.Dec.{eqb, leb, ltb}
 use Rattle.base.specs.Scan.{allBelow}
-use Rattle.blockcache.specs.Scan.{reads}
 use Rattle.blockcache.specs.declared.Awaited.{Awaited}
 use Rattle.blockcache.specs.declared.CacheState.{CacheState}
 use Rattle.blockcache.specs.declared.Call.{Call}

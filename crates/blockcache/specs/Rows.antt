@@ -73,7 +73,7 @@ module _ (p : Phase) (v : VersionOp) (o : DiskOp) where
   takes readStep = taking true true (readyPhase p)
   takes crashStep = taking (isV crash v) true true
 
--- 2, 3 and 4 come before all others
+-- 2, 3 and 4 come before a step's own conditions
 abbrev pub gate : Takes → List Row → List Row
 gate t rest =
     (2 when not (t .version)) ∷

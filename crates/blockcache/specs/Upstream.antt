@@ -5,7 +5,6 @@ use Prim.Native.Nat.{ℕ}
 use mathlib.Core.Bool.{_&&_, cond, false, not, true}
 use mathlib.Core.Option.{Option, none, some}
 use mathlib.Core.Path.{_≡_}
-use Rattle.blockcache.specs.Scan.{reads}
 use Rattle.base.specs.Maps.{Map, del, empty, isSome, put}
 use Rattle.blockdisk.specs.Upstream.{Dop, noDiskOp, reqReadIndirectionTable, reqReadNode, reqWriteIndirectionTable, reqWriteNode, respReadIndirectionTable, respReadNode}
 use Rattle.blockdisk.specs.Upstream.{respWriteIndirectionTable, respWriteNode}

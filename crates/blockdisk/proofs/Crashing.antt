@@ -55,9 +55,9 @@ pub empty-table-queue : (d : ℕ) → tableQueueForm d emptyRequests ≡ true
 unfolding tableQueueForm
 empty-table-queue d = queue-iff (tableRequestOk d) emptyRequests .1 (none-form, (λ id w e. never (rw none-map at e)))
 
-pub zero-node-queue : (d : ℕ) → nodeQueueForm d emptyRequests ≡ true
+pub empty-node-queue : (d : ℕ) → nodeQueueForm d emptyRequests ≡ true
 unfolding nodeQueueForm
-zero-node-queue d = queue-iff (nodeRequestOk d) emptyRequests .1 (none-form, (λ id w e. never (rw none-map at e)))
+empty-node-queue d = queue-iff (nodeRequestOk d) emptyRequests .1 (none-form, (λ id w e. never (rw none-map at e)))
 
 -- records in form and place, and nothing outstanding
 pub crashed-form : (d : ℕ) (s : DiskState) (o : Records) → made d ≡ true → recordsChecked d o .form ≡ true → recordsChecked d o .placed ≡ true → diskForm d (crashed s o) ≡ true
@@ -68,9 +68,9 @@ crashed-form d s o on form placed =
       form = form;
       placed = placed;
       tablereads = empty-table-queue d;
-      nodereads = zero-node-queue d;
+      nodereads = empty-node-queue d;
       tablewrites = empty-table-queue d;
-      nodewrites = zero-node-queue d;
+      nodewrites = empty-node-queue d;
     })
 
 -- records of zeros are in their written form, and nowhere out of place

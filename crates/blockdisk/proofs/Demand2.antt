@@ -55,18 +55,18 @@ brought-iff q id m true a there = (
 brought-iff q id m false a there = ((λ h loc e y. absurd (false≢true y)), (λ h y. absurd (false≢true y)))
 
 module _ (d : ℕ) (s : DiskState) (f : DiskForm d s) (id : ℕ) (b : Brought) where
-  pub wrong-node-iff : (n : Node) → nodeForm n ≡ true →
+  pub node-not-stored-iff : (n : Node) → nodeForm n ≡ true →
       (nodeNotStored d s id b n ≡ false) ↔ (somethingIn b ≡ true → nodesStored d (s .records) (entryOf (s .queues .nodereads) id .loc) ≡ some n)
   unfolding nodeNotStored
-  wrong-node-iff n g =
+  node-not-stored-iff n g =
       let l = entryOf (s .queues .nodereads) id .loc in
       let is = node-is-iff d (s .records) (f .on) (f .form) l n g in
       simp (and-false-iff, not-iff, is) Iff·rfl
 
-  pub wrong-table-iff : (t : Table) → tableForm t ≡ true →
+  pub table-not-stored-iff : (t : Table) → tableForm t ≡ true →
       (tableNotStored d s id b t ≡ false) ↔ (somethingIn b ≡ true → upstreamTables d (s .records) (entryOf (s .queues .tablereads) id .loc) ≡ some (indirectionTable t))
   unfolding tableNotStored
-  wrong-table-iff t g =
+  table-not-stored-iff t g =
       let l = entryOf (s .queues .tablereads) id .loc in
       let is = table-is-iff d (s .records) (f .on) (f .form) l t g in
       let up : (tablesStored d (s .records) l ≡ some t) ↔ (upstreamTables d (s .records) l ≡ some (indirectionTable t)) =
@@ -110,7 +110,7 @@ module _ (d : ℕ) (s : DiskState) (f : DiskForm d s) (n : Node) (t : Table) (fn
       let a = answer-ok-iff q id (tableNotStored d s id b t) .0 c in
       record {
         there = places-has q id ∙ a .there;
-        brought = brought-iff q id (upstreamTables d (s .records)) (somethingIn b) (indirectionTable t) (a .there) .0 (wrong-table-iff d s f id b t ft .0 (a .right));
+        brought = brought-iff q id (upstreamTables d (s .records)) (somethingIn b) (indirectionTable t) (a .there) .0 (table-not-stored-iff d s f id b t ft .0 (a .right));
         next = op-moves d s f (RespReadIndirectionTableOp id b) n t c;
       }
   op-allowed (RespReadNodeOp id b) c =
@@ -118,7 +118,7 @@ module _ (d : ℕ) (s : DiskState) (f : DiskForm d s) (n : Node) (t : Table) (fn
       let a = answer-ok-iff q id (nodeNotStored d s id b n) .0 c in
       record {
         there = places-has q id ∙ a .there;
-        brought = brought-iff q id (nodesStored d (s .records)) (somethingIn b) n (a .there) .0 (wrong-node-iff d s f id b n fn .0 (a .right));
+        brought = brought-iff q id (nodesStored d (s .records)) (somethingIn b) n (a .there) .0 (node-not-stored-iff d s f id b n fn .0 (a .right));
         next = op-moves d s f (RespReadNodeOp id b) n t c;
       }
   op-allowed (RespWriteIndirectionTableOp id) c =
@@ -152,11 +152,11 @@ module _ (d : ℕ) (s : DiskState) (f : DiskForm d s) (n : Node) (t : Table) (fn
   op-clear (RespReadIndirectionTableOp id b) h u =
       let q = s .queues .tablereads in
       answer-clear q id (tableNotStored d s id b t) (u .there)
-      (λ a. wrong-table-iff d s f id b t ft .1 (brought-iff q id (upstreamTables d (s .records)) (somethingIn b) (indirectionTable t) a .1 (u .brought)))
+      (λ a. table-not-stored-iff d s f id b t ft .1 (brought-iff q id (upstreamTables d (s .records)) (somethingIn b) (indirectionTable t) a .1 (u .brought)))
   op-clear (RespReadNodeOp id b) h u =
       let q = s .queues .nodereads in
       answer-clear q id (nodeNotStored d s id b n) (u .there)
-      (λ a. wrong-node-iff d s f id b n fn .1 (brought-iff q id (nodesStored d (s .records)) (somethingIn b) n a .1 (u .brought)))
+      (λ a. node-not-stored-iff d s f id b n fn .1 (brought-iff q id (nodesStored d (s .records)) (somethingIn b) n a .1 (u .brought)))
   op-clear (RespWriteIndirectionTableOp id) h u = answer-clear (s .queues .tablewrites) id false (u .there) (λ a. refl)
   op-clear (RespWriteNodeOp id) h u = answer-clear (s .queues .nodewrites) id false (u .there) (λ a. refl)
   op-clear NoDiskOp h u = tt

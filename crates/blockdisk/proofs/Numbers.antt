@@ -10,7 +10,6 @@ use lib.ListN.{set}
 use Rattle.base.proofs.Tests.{and-right, split}
 use Rattle.blockdisk.specs.Records.{areaOf, blockOf, nodeRecordAt, readNode, readTable, tableRecordAt, withNode, withTable, zeroNodeRecord, zeroTableRecord}
 use Rattle.blockdisk.specs.declared.Records.{Records}
-use Rattle.disklayout.proofs.Zones.{node, table}
 use Rattle.disklayout.specs.Blocks.{NodeBlockOf, TableAreaOf}
 use Rattle.disklayout.specs.Device.{deviceOf, made}
 use Rattle.disklayout.specs.Layout.{IndirectionTable1Addr, IndirectionTable2Addr, MinNodeBlockIndex, NodeBlockSize, ValidNodeAddr}

@@ -4,7 +4,6 @@ use mathlib.Core.Bool.{false, true}
 use mathlib.Core.Logic.{_↔_}
 use mathlib.Core.Option.{some}
 use mathlib.Core.Path.{_∙_, _≡_, ap, sym}
-use lib.Dec.{eqb}
 use borrow.Author.Tests.{eq-eqb}
 use Rattle.base.proofs.Refusals.{lowest-zero}
 use Rattle.base.proofs.Tests.{never}
@@ -88,13 +87,3 @@ module _ (d : ℕ) (n : ℕ) (q : Call) (o : Records) (c : CacheState) (s : Disk
     pub joined-node : joined d n q o c s .node ≡ cacheStep d c n q .node
     unfolding joined
     joined-node = rw (eq-eqb _ _ e)
-
-  -- refused, nothing moves
-  module _ (e : eqb (joinedAnswer d n q o c s) 0 ≡ false) where
-    pub refused-cache : joined d n q o c s .cache ≡ c
-    unfolding joined
-    refused-cache = rw e
-
-    pub refused-disk : joined d n q o c s .disk ≡ s
-    unfolding joined
-    refused-disk = rw e

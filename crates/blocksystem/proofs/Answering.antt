@@ -1,7 +1,7 @@
 -- Each joined call is answered as document 01 fixes: the lowest number whose condition holds, in cache, disk or start; 0 where none does. Assumes nothing.
 use Prim.Native.Nat.{_<_, _≤_, ℕ}
-use mathlib.Core.Bool.{Bool, _&&_, _||_, cond, false, false≢true, not, true}
-use mathlib.Core.List.{List, [], _∷_}
+use mathlib.Core.Bool.{Bool, _||_, false, true}
+use mathlib.Core.List.{List}
 use mathlib.Core.Logic.{⊎-elim}
 use mathlib.Core.Path.{_≡_, refl}
 use native.Mathlib.Omega.{arith}
@@ -9,7 +9,7 @@ use lib.Dec.{eqb, leb}
 use borrow.Author.Tests.{eq-eqb, eqb-false, eqb-true, leb-false, leb-true, ne-eqb}
 use Rattle.base.proofs.Refusals.{accepted-iff, answer-holds, answer-lowest, clear-holds}
 use Rattle.base.proofs.Tests.{clash, or-cases, or-inl, or-inr, or-iff, split}
-use Rattle.base.specs.Refusals.{Row, _when_, answer, ascending, holds, lowest}
+use Rattle.base.specs.Refusals.{Row, answer, ascending, holds, lowest}
 use Rattle.blockcache.proofs.Numbers.{rows-ascending}
 use Rattle.blockcache.proofs.Outcomes.{step-answer}
 use Rattle.blockcache.specs.Step.{cacheRows}

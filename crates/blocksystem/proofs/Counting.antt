@@ -111,16 +111,7 @@ module _ (d : ℕ) (r : Records) (m : Named) where
       altered : (countBelow (λ k. isAltered (read k) (shown k)) 64 ≡ 0) ↔ ((k : ℕ) → k < 64 → isAltered (read k) (shown k) ≡ false)
       altered = count-zero-iff (λ k. isAltered (read k) (shown k)) 64
 
-  -- each count is the number of references of its kind among the 64, so at most 64
-  pub counts-are : counted d r m ≡
-      record {
-        lost = countBelow (λ k. isLost (onDisk d r (m .place) k) (slotAt (m .picture) k)) 64;
-        added = countBelow (λ k. isAdded (onDisk d r (m .place) k) (slotAt (m .picture) k)) 64;
-        altered = countBelow (λ k. isAltered (onDisk d r (m .place) k) (slotAt (m .picture) k)) 64;
-      }
-  unfolding counted
-  counts-are = refl
-
+  -- each counts references, of which there are 64
   pub counts-at-most : (counted d r m .lost ≤ 64) × (counted d r m .added ≤ 64) × (counted d r m .altered ≤ 64)
   unfolding counted
   counts-at-most = (count-le (λ k. isLost (read k) (shown k)) 64, count-le (λ k. isAdded (read k) (shown k)) 64, count-le (λ k. isAltered (read k) (shown k)) 64)

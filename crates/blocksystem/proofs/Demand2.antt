@@ -3,47 +3,39 @@
 -- Assumes nothing.
 use Prim.Native.Nat.{ℕ}
 use mathlib.Core.Bool.{false, true}
-use mathlib.Core.Logic.{Iff·rfl, _↔_, ⊎-elim}
-use mathlib.Core.Option.{Option, none, some}
+use mathlib.Core.Logic.{_↔_, Iff·rfl}
+use mathlib.Core.Option.{some}
 use mathlib.Core.Path.{_∙_, _≡_, ap, refl, sym}
-use lib.Dec.{eqb}
-use borrow.Author.Tests.{eq-eqb, eqb-false, eqb-true}
+use borrow.Author.Tests.{eqb-true}
 use Rattle.base.proofs.Refusals.{accepted-iff}
 use Rattle.base.proofs.Tests.{and-false-iff, clash, not-iff, split}
 use Rattle.base.specs.Refusals.{answer}
 use Rattle.blockcache.proofs.Demand2.{cache-accepted, cache-allowed, cache-crash}
-use Rattle.blockcache.proofs.Numbers.{step-of-number}
 use Rattle.blockcache.specs.Abstract.{cacheVars, callOp}
-use Rattle.blockcache.specs.NextStep.{IdleVop, NextStep}
-use Rattle.blockcache.specs.Ops.{vopKind, vopLoc}
+use Rattle.blockcache.specs.NextStep.{NextStep}
+use Rattle.blockcache.specs.Ops.{vopLoc}
 use Rattle.blockcache.specs.Step.{cacheNext}
-use Rattle.blockcache.specs.Steps.{Step, allocStep, cleanUpStep, crashStep, dirtyStep, evictStep, freezeStep, isCrash, isRead, isStart, noOpStep, pageInIndirectionTableReqStep}
-use Rattle.blockcache.specs.Steps.{pageInIndirectionTableRespStep, pageInNodeReqStep, pageInNodeRespStep, readStep, receiveLocStep, stepOf, steps, unallocStep, writeBackIndirectionTableReqStep}
-use Rattle.blockcache.specs.Steps.{writeBackIndirectionTableRespStep, writeBackNodeReqStep, writeBackNodeRespStep}
-use Rattle.blockcache.specs.Upstream.{Variables as MVariables, unready}
+use Rattle.blockcache.specs.Steps.{crashStep, isCrash, isRead, isStart, readStep, receiveLocStep, Step, stepOf, steps}
+use Rattle.blockcache.specs.Upstream.{unready, Variables as MVariables}
 use Rattle.blockcache.specs.declared.CacheState.{CacheState}
 use Rattle.blockcache.specs.declared.Call.{Call}
 use Rattle.blockcache.specs.declared.VersionOp.{VersionOp}
-use Rattle.blockcache.specs.declared.VersionOp.the-variants.{AdvanceOp, CleanUpOp, CrashOp, FreezeOp, JournalInternalOp, PopSyncOp, PushSyncOp, SendFrozenLocOp, SendPersistentLocOp, StatesInternalOp}
+use Rattle.blockcache.specs.declared.VersionOp.the-variants.{CrashOp, SendPersistentLocOp}
 use Rattle.blockdisk.proofs.Accepting.{disk-accepted-iff}
 use Rattle.blockdisk.proofs.Demand2.{crash-accepted, disk-accepted, disk-allowed}
-use Rattle.blockdisk.specs.Crash.{crashRows, crashed}
+use Rattle.blockdisk.specs.Crash.{crashed, crashRows}
 use Rattle.blockdisk.specs.Ops.{diskRows, nextDisk}
-use Rattle.blockdisk.specs.Upstream.{Dop, diskVars}
+use Rattle.blockdisk.specs.Upstream.{diskVars, Dop}
 use Rattle.blockdisk.specs.declared.DiskState.{DiskState}
 use Rattle.blockdisk.specs.declared.Records.{Records}
-use Rattle.disklayout.specs.declared.Location.{Location}
-use Rattle.sectortype.specs.declared.Node.{Node}
 use Rattle.blocksystem.proofs.Accepting.{crash-answer, crash-next, disk-answer, disk-next, joined-cache, joined-disk, joined-zero}
+use Rattle.blocksystem.proofs.EveryStep.{sent-by}
 use Rattle.blocksystem.proofs.Starting.{wf-succs-iff}
-use Rattle.blocksystem.specs.Allowed.{MachineTo, NoNarrowing, SystemAllows, SystemMoves, joinedOp, joinedVop}
+use Rattle.blocksystem.specs.Allowed.{joinedOp, joinedVop, MachineTo, NoNarrowing, SystemAllows, SystemMoves}
 use Rattle.blocksystem.specs.Joined.{diskCall, joined, joinedAnswer, startRows}
 use Rattle.blocksystem.specs.Start.{WFSuccs as wholeGraph}
-use Rattle.blocksystem.specs.Upstream.{Crash, Variables, systemVars}
-
--- two version operations of different kinds
-differ : {X : Type 0} (vop a b : VersionOp) → vop ≡ a → vop ≡ b → eqb (vopKind a) (vopKind b) ≡ false → X
-differ vop a b p q f = absurd (eqb-false (vopKind a) (vopKind b) f (ap vopKind (sym p ∙ q)))
+use Rattle.blocksystem.specs.Upstream.{Crash, systemVars, Variables}
+use Rattle.disklayout.specs.declared.Location.{Location}
 
 -- THE OPERATIONS OF A STEP
 
@@ -67,37 +59,6 @@ module _ (d : ℕ) (s s' : MVariables) (q : Call) where
       let z : step ≡ readStep = read-is step (rw h at e) in
       rw z Iff·rfl)
       (λ t. rw t Iff·rfl)
-
-  idle-sends : {X : Type 0} (n : ℕ) (l : Location) → IdleVop (joinedVop n q) → joinedVop n q ≡ SendPersistentLocOp l → X
-  idle-sends n l i v =
-      ⊎-elim (λ a. differ (joinedVop n q) StatesInternalOp (SendPersistentLocOp l) a v refl)
-      (⊎-elim (λ a. differ (joinedVop n q) JournalInternalOp (SendPersistentLocOp l) a v refl)
-      (⊎-elim (λ a. differ (joinedVop n q) PushSyncOp (SendPersistentLocOp l) a v refl) (λ a. differ (joinedVop n q) PopSyncOp (SendPersistentLocOp l) a v refl)))
-      i
-
-  read-vop : (n : ℕ) {v : VersionOp} → stepOf n ≡ some readStep → joinedVop n q ≡ v → StatesInternalOp ≡ v
-  read-vop n e x = rw (step-of-number n readStep e) at x
-
-  -- only a start sends a persistent place
-  pub sent-by : (n : ℕ) (l : Location) (step : Step) → stepOf n ≡ some step → To (joinedOp n q) (joinedVop n q) step → joinedVop n q ≡ SendPersistentLocOp l → isStart n ≡ true
-  sent-by n l writeBackNodeReqStep e x v = differ (joinedVop n q) StatesInternalOp (SendPersistentLocOp l) (x .0) v refl
-  sent-by n l writeBackNodeRespStep e x v = differ (joinedVop n q) StatesInternalOp (SendPersistentLocOp l) (x .0) v refl
-  sent-by n l writeBackIndirectionTableReqStep e x v = differ (joinedVop n q) StatesInternalOp (SendPersistentLocOp l) (x .0) v refl
-  sent-by n l writeBackIndirectionTableRespStep e x v = differ (joinedVop n q) (SendFrozenLocOp (x .0)) (SendPersistentLocOp l) (x .1) v refl
-  sent-by n l unallocStep e x v = differ (joinedVop n q) (AdvanceOp true) (SendPersistentLocOp l) (x .0) v refl
-  sent-by n l pageInNodeReqStep e x v = differ (joinedVop n q) StatesInternalOp (SendPersistentLocOp l) (x .0) v refl
-  sent-by n l pageInNodeRespStep e x v = differ (joinedVop n q) StatesInternalOp (SendPersistentLocOp l) (x .0) v refl
-  sent-by n l pageInIndirectionTableReqStep e x v = differ (joinedVop n q) StatesInternalOp (SendPersistentLocOp l) (x .0) v refl
-  sent-by n l pageInIndirectionTableRespStep e x v = differ (joinedVop n q) StatesInternalOp (SendPersistentLocOp l) (x .0) v refl
-  sent-by n l receiveLocStep e x v = eq-eqb n 10 (step-of-number n receiveLocStep e)
-  sent-by n l evictStep e x v = differ (joinedVop n q) StatesInternalOp (SendPersistentLocOp l) (x .0) v refl
-  sent-by n l freezeStep e x v = differ (joinedVop n q) FreezeOp (SendPersistentLocOp l) (x .0) v refl
-  sent-by n l cleanUpStep e x v = differ (joinedVop n q) CleanUpOp (SendPersistentLocOp l) (x .0) v refl
-  sent-by n l noOpStep e x v = idle-sends n l (x .0) v
-  sent-by n l dirtyStep e x v = differ (joinedVop n q) (AdvanceOp (x .0 .0 .0)) (SendPersistentLocOp l) (x .0 .0 .1) v refl
-  sent-by n l allocStep e x v = differ (joinedVop n q) (AdvanceOp (x .0 .0 .0)) (SendPersistentLocOp l) (x .0 .0 .1) v refl
-  sent-by n l readStep e x v = differ StatesInternalOp StatesInternalOp (SendPersistentLocOp l) refl (read-vop n e v) refl
-  sent-by n l crashStep e x v = differ (joinedVop n q) CrashOp (SendPersistentLocOp l) (x .0) v refl
 
   -- and a start sends one
   pub sends : (n : ℕ) (step : Step) → stepOf n ≡ some step → isStart n ≡ true → To (joinedOp n q) (joinedVop n q) step →

@@ -10,14 +10,13 @@ use lib.Dec.{eqb, ltb}
 use borrow.Author.Tests.{le-ltb, leb-true}
 use Rattle.base.proofs.Scan.{some-of-none}
 use Rattle.blockcache.specs.Form.{emptyCache}
-use Rattle.blockcache.specs.Rows.{first}
 use Rattle.blockcache.specs.Upstream.{AllLocationsForDifferentRefsDontOverlap, WFCompleteIndirectionTable}
 use Rattle.sectortype.specs.Graph.{hasSucc}
 use Rattle.sectortype.specs.declared.Succs.{Succs}
 use Rattle.base.proofs.Maps.{put-other, put-same, put-some}
 use Rattle.base.proofs.Tests.{and-iff, clash, never}
 use Rattle.base.specs.Maps.{empty, put}
-use Rattle.blockcache.proofs.FormKept.{empty-cache-form}
+use Rattle.blockcache.proofs.FormLaws.{empty-cache-form}
 use Rattle.blockcache.proofs.Forms.{cache-form-iff}
 use Rattle.blockdisk.proofs.Crashing.{crashed-form, empty-records-form, empty-records-placed}
 use Rattle.blockdisk.proofs.Kept.{with-node-form, with-node-placed, with-table-form, with-table-placed}

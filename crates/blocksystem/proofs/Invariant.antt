@@ -18,6 +18,7 @@ use Rattle.sectortype.specs.Abstract.{IndirectionTable, nodesMap}
 use Rattle.sectortype.specs.Form.{nodesForm}
 use Rattle.sectortype.specs.declared.Node.{Node}
 use Rattle.sectortype.specs.declared.Succs.{Succs}
+use Rattle.blocksystem.specs.Upstream.{unlessWriting}
 use Rattle.blocksystem.specs.Run.{State}
 use Rattle.blocksystem.specs.declared.Pictures.{Pictures}
 
@@ -102,11 +103,6 @@ pub record PersistentOk (tables : Imap IndirectionTable) (tableReads : Map Locat
   -- it is loaded: no table read is queued
   pub no-reads : NoneQueued tableReads
 
--- upstream's FrozenLoc: a frozen place is one that is set, and whose table write is answered
-abbrev pub frozenNow : Option ℕ → Option Location → Option Location
-frozenNow none loc = loc
-frozenNow (some id) loc = none
-
 -- the frozen table is stored at its place, if that is set
 abbrev pub FrozenStored : Imap IndirectionTable → Option Location → Option IndirectionTable → Type 0
 FrozenStored tables loc frozen = (l : Location) (t : IndirectionTable) → loc ≡ some l → frozen ≡ some t → tables l ≡ some t
@@ -118,7 +114,7 @@ TableWritesAwaited queue awaited loc = (id : ℕ) (k : Location) → queue id �
 -- the frozen place
 pub record FrozenPlaceOk (tables : Imap IndirectionTable) (queue : Map Location) (second : Option Location) (awaited : Option ℕ) (loc : Option Location) (t : Option IndirectionTable) : Type 0 where
   -- the second named place is the frozen one, while no write of it is outstanding
-  pub place-is : second ≡ frozenNow awaited loc
+  pub place-is : second ≡ unlessWriting awaited loc
   pub stored : FrozenStored tables loc t
   pub writes : TableWritesAwaited queue awaited loc
 

@@ -1,15 +1,14 @@
 -- Every joined call, accepted or refused, keeps the invariant, if an accepted start is given a place then named. Assumes nothing.
 use Prim.Native.Nat.{ℕ}
-use mathlib.Core.Bool.{Bool, _&&_, _||_, false, false≢true, not, true}
+use mathlib.Core.Bool.{_&&_, _||_, Bool, false, false≢true, not, true}
+use mathlib.Core.Logic.{_↔_}
 use mathlib.Core.Option.{some}
 use mathlib.Core.Path.{_∙_, _≡_, refl, subst, sym}
-use lib.Dec.{eqb}
 use borrow.Author.Tests.{eqb-true}
 use Rattle.base.proofs.Tests.{split}
 use Rattle.base.specs.Refusals.{answer}
 use Rattle.blockcache.proofs.Demand2.{cache-allowed}
-use Rattle.blockcache.proofs.FormKept.{cache-form-kept}
-use Rattle.blockcache.proofs.InvKept.{inv-kept}
+use Rattle.blockcache.proofs.Kept.{cache-form-kept, inv-kept}
 use Rattle.blockcache.proofs.Numbers.{call-accepted-iff, step-of-number}
 use Rattle.blockcache.specs.Abstract.{cacheVars, callOp}
 use Rattle.blockcache.specs.NextStep.{NextStep}
@@ -21,17 +20,17 @@ use Rattle.blockdisk.proofs.Crashing.{crash-form-kept}
 use Rattle.blockdisk.proofs.Demand2.{disk-allowed}
 use Rattle.blockdisk.proofs.Kept.{disk-form-kept}
 use Rattle.blockdisk.proofs.Moves.{disk-moves, nextVars}
-use Rattle.blockdisk.specs.Crash.{crashRows, crashed}
+use Rattle.blockdisk.specs.Crash.{crashed, crashRows}
 use Rattle.blockdisk.specs.Ops.{diskRows, nextDisk}
-use Rattle.blockdisk.specs.Upstream.{Next, diskVars, dopOf}
+use Rattle.blockdisk.specs.Upstream.{diskVars, dopOf, Next}
 use Rattle.blockdisk.specs.declared.Records.{Records}
 use Rattle.blocksystem.proofs.Accepting.{crash-answer, crash-next, disk-answer, disk-next, joined-cache, joined-disk, joined-zero, survives}
+use Rattle.blocksystem.proofs.EveryStep.{step-kept}
 use Rattle.blocksystem.proofs.Invariant.{Invariant, pictureMaps}
 use Rattle.blocksystem.proofs.KeepQueues.{keep-crash}
-use Rattle.blocksystem.proofs.PictureSteps.{step-kept}
 use Rattle.blocksystem.specs.Joined.{diskAsked, diskCall, joined, joinedAnswer}
 use Rattle.blocksystem.specs.Names.{names, picturesAfter}
-use Rattle.blocksystem.specs.Run.{JoinedCall, State, acceptsStep, afterStep, moved, startNamed, step, stepNamed}
+use Rattle.blocksystem.specs.Run.{acceptsStep, afterStep, JoinedCall, moved, startNamed, State, step, stepNamed}
 
 -- AN ACCEPTED STEP
 
@@ -100,9 +99,16 @@ module _ (d : ℕ) (q : Call) (o : Records) (s : State) (v : Invariant d s) wher
 
 -- ANY STEP
 
-start-place : (x a b : Bool) → (not x || a || b) ≡ true → x ≡ true → (a || b) ≡ true
-start-place true a b h e = h
-start-place false a b h e = absurd (false≢true e)
+if-then-iff : (x y a b : Bool) → ((not (x && y) || a || b) ≡ true) ↔ (x ≡ true → y ≡ true → (a || b) ≡ true)
+if-then-iff true true a b = ((λ h e f. h), (λ h. h refl refl))
+if-then-iff true false a b = ((λ h e f. absurd (false≢true f)), (λ h. refl))
+if-then-iff false y a b = ((λ h e f. absurd (false≢true e)), (λ h. refl))
+
+-- what demand 3 asks of its list: an accepted start is given a place then named, and nothing more
+pub step-named-iff : (d : ℕ) (s : State) (n : ℕ) (q : Call) (o : Records) →
+    (stepNamed d s n q o ≡ true)
+    ↔ (acceptsStep d s n q o ≡ true → isStart n ≡ true → (names (s .pictures .first) (vopLoc (q .vop)) || names (s .pictures .second) (vopLoc (q .vop))) ≡ true)
+step-named-iff d s n q o = if-then-iff (acceptsStep d s n q o) (isStart n) (names (s .pictures .first) (vopLoc (q .vop))) (names (s .pictures .second) (vopLoc (q .vop)))
 
 module _ (d : ℕ) (s : State) (n : ℕ) (q : Call) (o : Records) (v : Invariant d s) (named : stepNamed d s n q o ≡ true) where
   when-accepted : acceptsStep d s n q o ≡ true → Invariant d (afterStep d s n q o)
@@ -112,7 +118,7 @@ module _ (d : ℕ) (s : State) (n : ℕ) (q : Call) (o : Records) (v : Invariant
       let c = joined-cache d n q o (s .cache) (s .disk) e in
       let y = joined-disk d n q o (s .cache) (s .disk) e in
       let at : (isStart n ≡ true → (names (s .pictures .first) (vopLoc (q .vop)) || names (s .pictures .second) (vopLoc (q .vop))) ≡ true) =
-      λ u. start-place (acceptsStep d s n q o && isStart n) (names (s .pictures .first) (vopLoc (q .vop))) (names (s .pictures .second) (vopLoc (q .vop))) named (rw (t, u)) in
+      step-named-iff d s n q o .0 named t in
       rw (c, y, t) (accepted-keeps d q o s v n at e)
 
   when-refused : acceptsStep d s n q o ≡ false → Invariant d (afterStep d s n q o)

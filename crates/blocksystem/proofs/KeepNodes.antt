@@ -7,7 +7,6 @@ use Rattle.blockcache.proofs.InvLaws.{ready-ext}
 use Rattle.base.proofs.Maps.{del-other, del-some, put-other, put-same, put-some}
 use Rattle.base.proofs.Tests.{never}
 use Rattle.base.specs.Maps.{Map, del, isSome, put}
-use Rattle.blockcache.specs.Scan.{reads}
 use Rattle.blockcache.specs.Upstream.{Alloc, Dirty, Evict, In, PageInNodeResp, Ready, SameSuccs, Unalloc, ready}
 use Rattle.blockcache.specs.UpstreamInv.{Inv}
 use Rattle.blockdisk.proofs.Moves.{nextVars}

@@ -8,7 +8,6 @@ use Rattle.blockcache.proofs.InvLaws.{ready-ext}
 use Rattle.base.proofs.Maps.{del-some, put-some}
 use Rattle.base.proofs.Tests.{clash, never}
 use Rattle.base.specs.Maps.{Map, del, isSome}
-use Rattle.blockcache.specs.Scan.{reads}
 use Rattle.blockcache.specs.Upstream.{CleanUp, Freeze, PageInIndirectionTableResp, Ready, WriteBackIndirectionTableReq, WriteBackIndirectionTableResp, loadingIndirectionTable, ready}
 use Rattle.blockcache.specs.UpstreamInv.{Inv}
 use Rattle.blockdisk.proofs.Moves.{nextVars}

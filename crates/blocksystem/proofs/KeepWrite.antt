@@ -8,7 +8,6 @@ use Rattle.blockcache.proofs.InvLaws.{ready-ext}
 use Rattle.base.proofs.Maps.{put-other, put-same, put-some}
 use Rattle.base.proofs.Tests.{and-iff, clash, never, none-iff, not-true-iff, split}
 use Rattle.base.specs.Maps.{Map, isSome, put}
-use Rattle.blockcache.specs.Scan.{reads}
 use Rattle.blockcache.specs.Upstream.{In, NoAddr, OutstandingWrite, Ready, WriteBackNodeReq, assignRefToLocation, ready}
 use Rattle.blockcache.specs.UpstreamInv.{Inv}
 use Rattle.blockdisk.proofs.Moves.{nextVars}
@@ -17,7 +16,8 @@ use Rattle.blockdisk.specs.Upstream.{Variables as DVariables, reqWriteNode}
 use Rattle.disklayout.specs.declared.Location.{Location}
 use Rattle.sectortype.specs.Abstract.{IndirectionTable}
 use Rattle.sectortype.specs.declared.Node.{Node}
-use Rattle.blocksystem.proofs.Invariant.{PictureMaps, Pictured, ReadyOk, Whole, WritesApart, frozenNow}
+use Rattle.blocksystem.specs.Upstream.{unlessWriting}
+use Rattle.blocksystem.proofs.Invariant.{PictureMaps, Pictured, ReadyOk, Whole, WritesApart}
 use Rattle.blocksystem.proofs.Laws.{kept-node-write, put-none, stored-elsewhere}
 
 -- A TABLE THAT GETS A LOCATION
@@ -132,7 +132,7 @@ module _ (d : ℕ) (x y : Ready) (v : DVariables) (t : PictureMaps) (id ref : �
   first-table =
       let e : some (w .first .table) ≡ some (x .persistentIndirectionTable) = sym (w .first .stored) ∙ rw (p .persistent .place-is) (p .persistent .stored) in cc
 
-  set-place : (a : Option ℕ) (b : Option Location) (l : Location) → frozenNow a b ≡ some l → b ≡ some l
+  set-place : (a : Option ℕ) (b : Option Location) (l : Location) → unlessWriting a b ≡ some l → b ≡ some l
   set-place none b l e = e
   set-place (some j) b l e = never e
 

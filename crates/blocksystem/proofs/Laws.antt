@@ -15,7 +15,8 @@ use Rattle.blockdisk.specs.Upstream.{Imap}
 use Rattle.disklayout.specs.declared.Location.{Location}
 use Rattle.sectortype.specs.Abstract.{IndirectionTable}
 use Rattle.sectortype.specs.declared.Node.{Node}
-use Rattle.blocksystem.proofs.Invariant.{Kept, Located, NoneQueued, NoneAt, SameKeys, StoredPictured, frozenNow}
+use Rattle.blocksystem.specs.Upstream.{unlessWriting}
+use Rattle.blocksystem.proofs.Invariant.{Kept, Located, NoneQueued, NoneAt, SameKeys, StoredPictured}
 
 -- MAPS
 
@@ -70,7 +71,7 @@ module _ {A B : Type 0} (a : Map A) (b : Map B) (same : SameKeys a b) (k : ℕ) 
   pub same-none : b k ≡ none → a k ≡ none
   same-none e = none-iff (a k) .0 (same k ∙ ap isSome e)
 
-pub frozen-none : (w : Option ℕ) → frozenNow w none ≡ none
+pub frozen-none : (w : Option ℕ) → unlessWriting w none ≡ none
 frozen-none none = refl
 frozen-none (some id) = refl
 

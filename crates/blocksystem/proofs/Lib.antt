@@ -7,14 +7,13 @@ pub mod KeepNodes
 pub mod KeepWrite
 pub mod KeepSteps
 pub mod Accepting
-pub mod PictureSteps
-pub mod PictureNumbers
 pub mod Tallies
 pub mod Counting
 pub mod Keep
 pub mod Answering
 pub mod Formatted
 pub mod Demand3
+pub mod EveryStep
 pub mod Starting
 pub mod Demand2
 pub mod FormattedInit

@@ -2,7 +2,6 @@
 use Prim.Native.Nat.{ℕ}
 use mathlib.Core.Bool.{cond, true}
 use lib.ListN.{set}
-use Rattle.base.specs.Refusals.{answer}
 use Rattle.blockcache.specs.Form.{emptyCache}
 use Rattle.blockdisk.specs.Crash.{emptyQueues}
 use Rattle.blockdisk.specs.Records.{emptyRecords}

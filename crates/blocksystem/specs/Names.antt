@@ -8,7 +8,7 @@ use Rattle.blockcache.specs.Steps.{Step, allocStep, cleanUpStep, crashStep, dir
 use Rattle.blockcache.specs.Steps.{pageInNodeReqStep, pageInNodeRespStep, readStep, receiveLocStep, stepOf, unallocStep, writeBackIndirectionTableReqStep, writeBackIndirectionTableRespStep}
 use Rattle.blockcache.specs.Steps.{writeBackNodeReqStep, writeBackNodeRespStep}
 use Rattle.blockcache.specs.declared.Call.{Call}
-use Rattle.disklayout.specs.Calls.{place, zeroLoc}
+use Rattle.disklayout.specs.Calls.{zeroLoc}
 use Rattle.disklayout.specs.declared.Location.{Location}
 use Rattle.sectortype.specs.Form.{emptyNodes, withSlot, zeroSlot}
 use Rattle.sectortype.specs.Same.{sameLoc}

@@ -1,16 +1,102 @@
-// The step entry: any number, any call, on any cache.
+// The step entry: any number, any call, on any cache. The two matches on the number stand here, what each step takes and what it does, and in no
+// other file of the code.
+ghost use mathlib.Core.List.{[]};
 ghost use mathlib.Core.Path.{_≡_};
 ghost use Prim.Native.Nat.{_<_};
-ghost use Rattle.blockcache.specs.Rows.{readRef};
-ghost use Rattle.blockcache.specs.Step.{cacheStep, dispatched};
+ghost use Rattle.base.specs.Refusals.{answer};
+ghost use Rattle.blockcache.specs.Rows.{gate, readRef, taking};
+ghost use Rattle.blockcache.specs.Step.{cacheStep, dispatched, gated};
 ghost use Rattle.blockcache.specs.Steps.{stepOf};
 use crate::Cache;
 use crate::answers::answered;
+use crate::answers::is_loading;
+use crate::answers::is_ready;
+use crate::answers::is_unready;
 use crate::form::cache_form;
 use crate::form::call_form;
-use crate::gate::gate;
+use crate::ops::ADVANCE;
+use crate::ops::CLEAN_UP;
+use crate::ops::CRASH;
+use crate::ops::FREEZE;
+use crate::ops::INTERNAL;
+use crate::ops::JOURNAL_INTERNAL;
+use crate::ops::NODE_READ_REQ;
+use crate::ops::NODE_READ_RESP;
+use crate::ops::NODE_WRITE_REQ;
+use crate::ops::NODE_WRITE_RESP;
+use crate::ops::NO_DOP;
+use crate::ops::POP_SYNC;
+use crate::ops::PUSH_SYNC;
+use crate::ops::SEND_FROZEN_LOC;
+use crate::ops::SEND_PERSISTENT_LOC;
+use crate::ops::TABLE_READ_REQ;
+use crate::ops::TABLE_READ_RESP;
+use crate::ops::TABLE_WRITE_REQ;
+use crate::ops::TABLE_WRITE_RESP;
+use crate::ops::dop_kind;
+use crate::ops::vop_kind;
+use crate::ops::vop_no_op;
 use blockcache::CacheOutcome;
 use blockcache::Call;
+use blockcache::Phase;
+use blockcache::VersionOp;
+use blockdisk::DiskOp;
+
+// 2, 3 and 4: the number of the first of version operation, disk operation and phase that is not the step's. They come before a
+// step's own conditions, so one function judges them for all steps.
+fn gate_answer(version: bool, disk: bool, phase: bool) -> u64
+    ensures { λ n. ⌜ n ≡ answer (gate (taking version disk phase) []) ⌝ }
+{
+    if !version {
+        return 2;
+    }
+    if !disk {
+        return 3;
+    }
+    if !phase {
+        return 4;
+    }
+    0
+}
+
+// What each step takes; 1 where there is no such step.
+fn gate(number: u64, phase: Phase, version: VersionOp, disk: DiskOp) -> u64
+    ensures { λ n. ⌜ n ≡ gated phase version disk (stepOf number) ⌝ }
+{
+    let v = vop_kind(version);
+    let d = dop_kind(disk);
+    let uiop_no_op = vop_no_op(version);
+    let ready = is_ready(phase);
+    let loading = is_loading(phase);
+    let unready = is_unready(phase);
+    let idle = (v == INTERNAL) | (v == JOURNAL_INTERNAL) | (v == PUSH_SYNC) | (v == POP_SYNC);
+    let none_or_answer = (d == NO_DOP)
+        | (d == TABLE_READ_RESP)
+        | (d == NODE_READ_RESP)
+        | (d == TABLE_WRITE_RESP)
+        | (d == NODE_WRITE_RESP);
+    match number {
+        1 => gate_answer(v == INTERNAL, d == NODE_WRITE_REQ, ready),
+        2 => gate_answer(v == INTERNAL, d == NODE_WRITE_RESP, ready),
+        3 => gate_answer(v == INTERNAL, d == TABLE_WRITE_REQ, ready),
+        4 => gate_answer(v == SEND_FROZEN_LOC, d == TABLE_WRITE_RESP, ready),
+        5 => gate_answer(uiop_no_op, d == NO_DOP, ready),
+        6 => gate_answer(v == INTERNAL, d == NODE_READ_REQ, ready),
+        7 => gate_answer(v == INTERNAL, d == NODE_READ_RESP, ready),
+        8 => gate_answer(v == INTERNAL, d == TABLE_READ_REQ, loading),
+        9 => gate_answer(v == INTERNAL, d == TABLE_READ_RESP, loading),
+        10 => gate_answer(v == SEND_PERSISTENT_LOC, d == NO_DOP, unready),
+        11 => gate_answer(v == INTERNAL, d == NO_DOP, ready),
+        12 => gate_answer(v == FREEZE, d == NO_DOP, ready),
+        13 => gate_answer(v == CLEAN_UP, d == NO_DOP, ready),
+        14 => gate_answer(idle, none_or_answer, true),
+        15 => gate_answer(v == ADVANCE, d == NO_DOP, ready),
+        16 => gate_answer(v == ADVANCE, d == NO_DOP, ready),
+        17 => gate_answer(true, true, ready),
+        18 => gate_answer(v == CRASH, true, true),
+        _ => 1,
+    }
+}
 
 impl Cache {
     pub fn step(self, number: u64, q: Call) -> CacheOutcome

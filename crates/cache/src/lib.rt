@@ -2,7 +2,6 @@
 mod answers;
 mod entry;
 mod form;
-mod gate;
 mod load;
 mod ops;
 mod page;

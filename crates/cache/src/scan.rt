@@ -5,7 +5,6 @@ ghost use Rattle.blockcache.specs.Scan.{reads, writesTo, NoLocation, namesAt, h
 use blockcache::Tables;
 use blockdisk::Brought;
 use disklayout::Location;
-use queue::Request;
 use queue::Requests;
 use sectortype::Entry;
 use sectortype::Node;

@@ -62,13 +62,13 @@ impl Cache {
         let given = q.node;
         let known = queue::has(w, id);
         let valid = layout::valid_node_location(self.device, loc);
-        let taken = held(ts, w, loc.addr);
+        let used = held(ts, w, loc.addr);
         let same = sector::same_node(kept, given);
         let n14 = first_of(16 <= w.count, 14, 0);
         let n10 = first_of(a.waiting, 10, n14);
         let n9 = first_of(slot.present & !same, 9, n10);
         let n8 = first_of(!slot.present, 8, n9);
-        let n7 = first_of(taken, 7, n8);
+        let n7 = first_of(used, 7, n8);
         let n6 = first_of(!valid.yes | (loc.len == 0), 6, n7);
         first_of(known, 5, n6)
     }

@@ -5,7 +5,6 @@ use crate::Disk;
 use crate::form::queues_ok;
 use crate::form::records_ok;
 use blockdisk::DiskOutcome;
-use blockdisk::DiskState;
 use blockdisk::NodeRecord;
 use blockdisk::Queues;
 use blockdisk::Records;

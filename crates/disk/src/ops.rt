@@ -329,9 +329,9 @@ impl Disk {
         let waiting = queues_ok(self.device, queues);
         let known = self.device <= 2;
         let form = known & stored.form & stored.placed & waiting;
-        let noded = sector::node_form(node);
-        let tabled = sector::table_form(table);
-        let good = form & noded & tabled;
+        let node_ok = sector::node_form(node);
+        let table_ok = sector::table_form(table);
+        let good = form & node_ok & table_ok;
         if good {
             return self.dispatch(call);
         }

@@ -68,16 +68,10 @@ impl Store {
         ensures { λ o. ⌜ o ≡ joined (self .device) number q offered (self .cache) (self .disk) ⌝ }
     {
         let device = self.device;
-        let held = self.cache;
-        let stored = self.disk;
-        let c = Cache {
-            device,
-            state: held,
-        };
-        let d = Disk {
-            device,
-            state: stored,
-        };
+        let state = self.cache;
+        let c = Cache { device, state };
+        let state = self.disk;
+        let d = Disk { device, state };
         let a = c.step(number, q);
         let b = if number == 18 {
             d.crash(offered)
@@ -91,26 +85,16 @@ impl Store {
             n20 = ask_start(device, q, s);
         }
         let both = lower(a.answer, b.answer);
-        let n = lower(both, n20);
-        if n != 0 {
+        let answer = lower(both, n20);
+        if answer != 0 {
             let node = sector::zero_node();
             let cache = c.state;
             let disk = d.state;
-            return Outcome {
-                answer: n,
-                node,
-                cache,
-                disk,
-            };
+            return Outcome { answer, node, cache, disk };
         }
         let node = a.node;
         let cache = a.cache;
         let disk = b.disk;
-        Outcome {
-            answer: 0,
-            node,
-            cache,
-            disk,
-        }
+        Outcome { answer, node, cache, disk }
     }
 }

@@ -8,7 +8,7 @@ mod start;
 use blockcache::CacheState;
 use blockdisk::DiskState;
 
-// The store: cache and disk on one device. Its methods are all that a program calls; each call gets the store that the last one handed
+// The store: cache and disk on one device. Its methods are the calls on cache and disk; each call gets the store that the last one handed
 // back.
 pub struct Store {
     pub device: u64,

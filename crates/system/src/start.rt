@@ -44,7 +44,7 @@ fn graph_stored(device: u64, r: Records, t: Table) -> bool
     good
 }
 
-pub fn wf_succs(device: u64, r: Records, loc: Location) -> bool
+pub(crate) fn wf_succs(device: u64, r: Records, loc: Location) -> bool
     ensures { λ b. ⌜ b ≡ WFSuccs device r loc ⌝ }
 {
     let x = disk::table_at(device, r, loc);

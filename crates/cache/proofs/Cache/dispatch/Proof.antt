@@ -135,6 +135,7 @@ unfolding stepOf steps
 returns-18 c = simp (c .before .match .keys18) (c .crash .ensures)
 
 returns-19 : tie.Need-returns-19
+unfolding steps
 returns-19 c = simp (no-step _ (c .before .match .rest)) (c .answered .ensures)
 
 pub dispatch-spec : {M : Type 1} → statement M

@@ -2,7 +2,7 @@
 use borrow.Author.Needs.{needs}
 use mathlib.Core.Path.{sym}
 use Rattle.blockcache.specs.Steps.{stepOf, steps}
-use Rattle.blocksystem.proofs.PictureNumbers.{pictures-same}
+use Rattle.blocksystem.proofs.EveryStep.{pictures-same}
 use Rattle.system.proofs.pictures.pictures_after.Statement.{statement}
 use Rattle.blocksystem.specs.Names.{picturesAfter}
 use Rattle.system.proofs.pictures.pictures_after.Tie as tie

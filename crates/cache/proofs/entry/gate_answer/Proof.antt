@@ -1,8 +1,8 @@
 -- By the tests that led to each answer. Assumes nothing.
 use borrow.Author.Needs.{needs}
 use Rattle.base.specs.Refusals.{answer}
-use Rattle.cache.proofs.gate.taken.Statement.{statement}
-use Rattle.cache.proofs.gate.taken.Tie as tie
+use Rattle.cache.proofs.entry.gate_answer.Statement.{statement}
+use Rattle.cache.proofs.entry.gate_answer.Tie as tie
 
 returns : tie.Need-returns
 unfolding answer
@@ -20,5 +20,5 @@ returns-4 : tie.Need-returns-4
 unfolding answer
 returns-4 c = simp (c .if3 .left, c .before .if2 .left, c .before .before .if1 .left)
 
-pub taken-spec : {M : Type 1} → statement M
-taken-spec = tie.close (tie.spec returns returns-2 returns-3 returns-4)
+pub gate-answer-spec : {M : Type 1} → statement M
+gate-answer-spec = tie.close (tie.spec returns returns-2 returns-3 returns-4)

@@ -3,8 +3,8 @@ use borrow.Author.Needs.{needs}
 use Rattle.blockcache.proofs.Numbers.{no-step}
 use Rattle.blockcache.specs.Step.{gated}
 use Rattle.blockcache.specs.Steps.{stepOf, steps}
-use Rattle.cache.proofs.gate.gate.Statement.{statement}
-use Rattle.cache.proofs.gate.gate.Tie as tie
+use Rattle.cache.proofs.entry.gate.Statement.{statement}
+use Rattle.cache.proofs.entry.gate.Tie as tie
 
 vop-kind-requires : tie.Need-vop-kind-requires
 vop-kind-requires c κs = search needs
@@ -24,65 +24,65 @@ is-loading-requires c κs = search needs
 is-unready-requires : tie.Need-is-unready-requires
 is-unready-requires c κs = search needs
 
-taken-requires : tie.Need-taken-requires
-taken-requires c κs = search needs
+gate-answer-requires : tie.Need-gate-answer-requires
+gate-answer-requires c κs = search needs
 
-taken-requires-2 : tie.Need-taken-requires-2
-taken-requires-2 c κs = search needs
+gate-answer-requires-2 : tie.Need-gate-answer-requires-2
+gate-answer-requires-2 c κs = search needs
 
-taken-requires-3 : tie.Need-taken-requires-3
-taken-requires-3 c κs = search needs
+gate-answer-requires-3 : tie.Need-gate-answer-requires-3
+gate-answer-requires-3 c κs = search needs
 
-taken-requires-4 : tie.Need-taken-requires-4
-taken-requires-4 c κs = search needs
+gate-answer-requires-4 : tie.Need-gate-answer-requires-4
+gate-answer-requires-4 c κs = search needs
 
-taken-requires-5 : tie.Need-taken-requires-5
-taken-requires-5 c κs = search needs
+gate-answer-requires-5 : tie.Need-gate-answer-requires-5
+gate-answer-requires-5 c κs = search needs
 
-taken-requires-6 : tie.Need-taken-requires-6
-taken-requires-6 c κs = search needs
+gate-answer-requires-6 : tie.Need-gate-answer-requires-6
+gate-answer-requires-6 c κs = search needs
 
-taken-requires-7 : tie.Need-taken-requires-7
-taken-requires-7 c κs = search needs
+gate-answer-requires-7 : tie.Need-gate-answer-requires-7
+gate-answer-requires-7 c κs = search needs
 
-taken-requires-8 : tie.Need-taken-requires-8
-taken-requires-8 c κs = search needs
+gate-answer-requires-8 : tie.Need-gate-answer-requires-8
+gate-answer-requires-8 c κs = search needs
 
-taken-requires-9 : tie.Need-taken-requires-9
-taken-requires-9 c κs = search needs
+gate-answer-requires-9 : tie.Need-gate-answer-requires-9
+gate-answer-requires-9 c κs = search needs
 
-taken-requires-10 : tie.Need-taken-requires-10
-taken-requires-10 c κs = search needs
+gate-answer-requires-10 : tie.Need-gate-answer-requires-10
+gate-answer-requires-10 c κs = search needs
 
-taken-requires-11 : tie.Need-taken-requires-11
-taken-requires-11 c κs = search needs
+gate-answer-requires-11 : tie.Need-gate-answer-requires-11
+gate-answer-requires-11 c κs = search needs
 
-taken-requires-12 : tie.Need-taken-requires-12
-taken-requires-12 c κs = search needs
+gate-answer-requires-12 : tie.Need-gate-answer-requires-12
+gate-answer-requires-12 c κs = search needs
 
-taken-requires-13 : tie.Need-taken-requires-13
-taken-requires-13 c κs = search needs
+gate-answer-requires-13 : tie.Need-gate-answer-requires-13
+gate-answer-requires-13 c κs = search needs
 
-taken-requires-14 : tie.Need-taken-requires-14
-taken-requires-14 c κs = search needs
+gate-answer-requires-14 : tie.Need-gate-answer-requires-14
+gate-answer-requires-14 c κs = search needs
 
-taken-requires-15 : tie.Need-taken-requires-15
-taken-requires-15 c κs = search needs
+gate-answer-requires-15 : tie.Need-gate-answer-requires-15
+gate-answer-requires-15 c κs = search needs
 
-taken-requires-16 : tie.Need-taken-requires-16
-taken-requires-16 c κs = search needs
+gate-answer-requires-16 : tie.Need-gate-answer-requires-16
+gate-answer-requires-16 c κs = search needs
 
-taken-requires-17 : tie.Need-taken-requires-17
-taken-requires-17 c κs = search needs
+gate-answer-requires-17 : tie.Need-gate-answer-requires-17
+gate-answer-requires-17 c κs = search needs
 
-taken-requires-18 : tie.Need-taken-requires-18
-taken-requires-18 c κs = search needs
+gate-answer-requires-18 : tie.Need-gate-answer-requires-18
+gate-answer-requires-18 c κs = search needs
 
 returns : tie.Need-returns
 unfolding gated stepOf steps
 returns c = simp (
   c .before .match .keys1,
-  c .taken .ensures,
+  c .gate-answer .ensures,
   c .before .before .before .before .is-ready .ensures,
   c .before .before .before .before .before .before .dop-kind .ensures,
   c .before .before .before .before .before .before .before .vop-kind .ensures,
@@ -254,7 +254,7 @@ returns-18 c = simp (
 )
 
 returns-19 : tie.Need-returns-19
-unfolding gated
+unfolding gated steps
 returns-19 c = simp (no-step _ (c .match .rest))
 
 pub gate-spec : {M : Type 1} → statement M
@@ -267,24 +267,24 @@ gate-spec =
     is-ready-requires
     is-loading-requires
     is-unready-requires
-    taken-requires
-    taken-requires-2
-    taken-requires-3
-    taken-requires-4
-    taken-requires-5
-    taken-requires-6
-    taken-requires-7
-    taken-requires-8
-    taken-requires-9
-    taken-requires-10
-    taken-requires-11
-    taken-requires-12
-    taken-requires-13
-    taken-requires-14
-    taken-requires-15
-    taken-requires-16
-    taken-requires-17
-    taken-requires-18
+    gate-answer-requires
+    gate-answer-requires-2
+    gate-answer-requires-3
+    gate-answer-requires-4
+    gate-answer-requires-5
+    gate-answer-requires-6
+    gate-answer-requires-7
+    gate-answer-requires-8
+    gate-answer-requires-9
+    gate-answer-requires-10
+    gate-answer-requires-11
+    gate-answer-requires-12
+    gate-answer-requires-13
+    gate-answer-requires-14
+    gate-answer-requires-15
+    gate-answer-requires-16
+    gate-answer-requires-17
+    gate-answer-requires-18
     returns
     returns-2
     returns-3

@@ -1,25 +1,40 @@
--- Names and pictures after an accepted step, as maps: each step other than a crash keeps the invariant. Assumes nothing.
+-- What is shown step by step of the joined call: one split over the steps for each of these laws, written once and used by the theorems. Assumes
+-- nothing.
 use Prim.Native.Nat.{_<_, ℕ}
 use mathlib.Core.Bool.{_||_, false, true}
-use mathlib.Core.Logic.{inl, inr}
-use mathlib.Core.Option.{Option, none, some}
-use mathlib.Core.Path.{_≡_, ap, refl, subst}
+use mathlib.Core.Logic.{inl, inr, ⊎-elim}
+use mathlib.Core.Option.{none, Option, some}
+use mathlib.Core.Path.{_∙_, _≡_, ap, refl, subst, sym}
+use borrow.Author.Tests.{eq-eqb, eqb-false}
 use lib.Dec.{eqb}
 use Rattle.base.proofs.Maps.{flagged-some}
 use Rattle.base.proofs.Tests.{and-both, and-iff, clash, split}
 use Rattle.base.specs.Maps.{put}
+use Rattle.blockcache.proofs.Numbers.{step-of-number}
 use Rattle.blockcache.specs.Abstract.{callOp}
 use Rattle.blockcache.specs.Next.{cachedSlot}
-use Rattle.blockcache.specs.NextStep.{NextStep}
-use Rattle.blockcache.specs.Ops.{vopLoc}
-use Rattle.blockcache.specs.Steps.{Step, allocStep, cleanUpStep, crashStep, dirtyStep, evictStep, freezeStep, isCrash, isStart, noOpStep, numberOf, pageInIndirectionTableReqStep}
-use Rattle.blockcache.specs.Steps.{pageInIndirectionTableRespStep, pageInNodeReqStep, pageInNodeRespStep, readStep, receiveLocStep, unallocStep, writeBackIndirectionTableReqStep}
-use Rattle.blockcache.specs.Steps.{writeBackIndirectionTableRespStep, writeBackNodeReqStep, writeBackNodeRespStep}
+use Rattle.blockcache.specs.NextStep.{IdleVop, NextStep}
+use Rattle.blockcache.specs.Ops.{vopKind, vopLoc}
+use Rattle.blockcache.specs.Steps.{allocStep, cleanUpStep, crashStep, dirtyStep, evictStep, freezeStep, isCrash, isStart, noOpStep, numberOf, pageInIndirectionTableReqStep}
+use Rattle.blockcache.specs.Steps.{pageInIndirectionTableRespStep, pageInNodeReqStep, pageInNodeRespStep, readStep, receiveLocStep, Step, stepOf, unallocStep}
+use Rattle.blockcache.specs.Steps.{writeBackIndirectionTableReqStep, writeBackIndirectionTableRespStep, writeBackNodeReqStep, writeBackNodeRespStep}
 use Rattle.blockcache.specs.Upstream.{Variables}
 use Rattle.blockcache.specs.UpstreamInv.{Inv}
 use Rattle.blockcache.specs.declared.Call.{Call}
+use Rattle.blockcache.specs.declared.VersionOp.{VersionOp}
+use Rattle.blockcache.specs.declared.VersionOp.the-variants.{AdvanceOp, CleanUpOp, CrashOp, FreezeOp, JournalInternalOp, PopSyncOp, PushSyncOp, SendFrozenLocOp, SendPersistentLocOp}
+use Rattle.blockcache.specs.declared.VersionOp.the-variants.{StatesInternalOp}
 use Rattle.blockdisk.proofs.Moves.{nextVars}
-use Rattle.blockdisk.specs.Upstream.{Dop, Next, Variables as DVariables, dopOf}
+use Rattle.blockdisk.specs.Upstream.{Dop, dopOf, Next, Variables as DVariables}
+use Rattle.blocksystem.proofs.Invariant.{PictureMaps, pictureMaps, PicturesForm, Whole}
+use Rattle.blocksystem.proofs.KeepQueues.{Started}
+use Rattle.blocksystem.proofs.KeepSteps.{alloc-kept, clean-up-kept, dirty-kept, evict-kept, freeze-kept, no-op-kept, page-in-node-req-kept, page-in-node-resp-kept}
+use Rattle.blocksystem.proofs.KeepSteps.{page-in-table-req-kept, page-in-table-resp-kept, read-kept, receive-loc-kept, unalloc-kept, write-back-node-req-kept}
+use Rattle.blocksystem.proofs.KeepSteps.{write-back-node-resp-kept, write-back-table-req-kept, write-back-table-resp-kept}
+use Rattle.blocksystem.specs.Allowed.{joinedOp, joinedVop}
+use Rattle.blocksystem.specs.Joined.{diskCall}
+use Rattle.blocksystem.specs.Names.{names, pictureOf, picturesAfter, picturesOf, startedAt, stepPictures}
+use Rattle.blocksystem.specs.declared.Pictures.{Pictures}
 use Rattle.disklayout.specs.declared.Location.{Location}
 use Rattle.sectortype.proofs.Equal.{same-loc-iff}
 use Rattle.sectortype.proofs.Forms.{empty-nodes-form, with-slot-form, zero-node-form, zero-succs-form}
@@ -28,14 +43,6 @@ use Rattle.sectortype.specs.Abstract.{nodesMap}
 use Rattle.sectortype.specs.Form.{emptyNodes, nodeForm, nodesForm, slotForm, withSlot, zeroSlot}
 use Rattle.sectortype.specs.Same.{sameLoc}
 use Rattle.sectortype.specs.declared.Nodes.{Nodes}
-use Rattle.blocksystem.proofs.Invariant.{PictureMaps, PicturesForm, Whole, pictureMaps}
-use Rattle.blocksystem.proofs.KeepQueues.{Started}
-use Rattle.blocksystem.proofs.KeepSteps.{alloc-kept, clean-up-kept, dirty-kept, evict-kept, freeze-kept, no-op-kept, page-in-node-req-kept, page-in-node-resp-kept, page-in-table-req-kept}
-use Rattle.blocksystem.proofs.KeepSteps.{page-in-table-resp-kept, read-kept, receive-loc-kept, unalloc-kept, write-back-node-req-kept, write-back-node-resp-kept, write-back-table-req-kept}
-use Rattle.blocksystem.proofs.KeepSteps.{write-back-table-resp-kept}
-use Rattle.blocksystem.specs.Joined.{diskCall}
-use Rattle.blocksystem.specs.Names.{names, pictureOf, startedAt, stepPictures}
-use Rattle.blocksystem.specs.declared.Pictures.{Pictures}
 
 -- A START AT A NAMED PLACE
 
@@ -60,7 +67,7 @@ picture-form t l f =
 zero-slot-form : slotForm zeroSlot ≡ true
 zero-slot-form = and-both zero-node-form (and-both refl zero-succs-form)
 
--- THE STEPS
+-- THE PICTURES ARE KEPT
 
 -- what is to hold afterwards
 pub record KeptAfter (d : ℕ) (s : Variables) (v : DVariables) (t : Pictures) : Type 0 where
@@ -84,7 +91,7 @@ module _ (d : ℕ) (q : Call) (s s' : Variables) (v v' : DVariables) (t : Pictur
   same : Whole d s' v' (pictureMaps t) → KeptAfter d s' v' t
   same h = record { form = f; named = named; whole = h }
 
-  -- the working picture drawn
+  -- the working picture set
   with-working-form : (m : Nodes) → nodesForm m ≡ true → PicturesForm (record { first = t .first; second = t .second; working = m; frozen = t .frozen })
   with-working-form m h = record { first = f .first; second = f .second; working = h; frozen = f .frozen }
 
@@ -156,3 +163,75 @@ module _ (d : ℕ) (q : Call) (s s' : Variables) (v v' : DVariables) (t : Pictur
       }
   step-kept readStep e m = same (read-kept d s s' v v' (callOp q) (q .vop) (q .reference) (q .node) maps w (m .move) (m .cache))
   step-kept crashStep e m = clash refl e
+
+-- THE NUMBERS OF THE STEPS THAT CHANGE NAMES OR PICTURES: every other number leaves them as they are
+
+module _ (n : ℕ) (q : Call) (t : Pictures) (not4 : n ≡ 4 → ⊥) (not5 : n ≡ 5 → ⊥) (not10 : n ≡ 10 → ⊥) (not12 : n ≡ 12 → ⊥) (not13 : n ≡ 13 → ⊥) (not15 : n ≡ 15 → ⊥) (not16 : n ≡ 16 → ⊥) where
+  of-step : (step : Step) → n ≡ numberOf step → stepPictures q t step ≡ t
+  of-step writeBackNodeReqStep e = refl
+  of-step writeBackNodeRespStep e = refl
+  of-step writeBackIndirectionTableReqStep e = refl
+  of-step writeBackIndirectionTableRespStep e = absurd (not4 e)
+  of-step unallocStep e = absurd (not5 e)
+  of-step pageInNodeReqStep e = refl
+  of-step pageInNodeRespStep e = refl
+  of-step pageInIndirectionTableReqStep e = refl
+  of-step pageInIndirectionTableRespStep e = refl
+  of-step receiveLocStep e = absurd (not10 e)
+  of-step evictStep e = refl
+  of-step freezeStep e = absurd (not12 e)
+  of-step cleanUpStep e = absurd (not13 e)
+  of-step noOpStep e = refl
+  of-step dirtyStep e = absurd (not15 e)
+  of-step allocStep e = absurd (not16 e)
+  of-step readStep e = refl
+  of-step crashStep e = refl
+
+  of-number : (o : Option Step) → stepOf n ≡ o → picturesOf q t o ≡ t
+  of-number none e = refl
+  of-number (some step) e = of-step step (step-of-number n step e)
+
+  pub pictures-same : picturesAfter n q t ≡ t
+  unfolding picturesAfter
+  pictures-same = of-number (stepOf n) refl
+
+-- WHICH STEP SENDS A PERSISTENT PLACE
+
+-- two version operations of different kinds
+differ : {X : Type 0} (vop a b : VersionOp) → vop ≡ a → vop ≡ b → eqb (vopKind a) (vopKind b) ≡ false → X
+differ vop a b p q f = absurd (eqb-false (vopKind a) (vopKind b) f (ap vopKind (sym p ∙ q)))
+
+module _ (d : ℕ) (s s' : Variables) (q : Call) where
+  abbrev To : Dop → VersionOp → Step → Type 0
+  To dop vop step = NextStep d s s' dop vop (q .reference) (q .node) step
+
+  idle-sends : {X : Type 0} (n : ℕ) (l : Location) → IdleVop (joinedVop n q) → joinedVop n q ≡ SendPersistentLocOp l → X
+  idle-sends n l i v =
+      ⊎-elim (λ a. differ (joinedVop n q) StatesInternalOp (SendPersistentLocOp l) a v refl)
+      (⊎-elim (λ a. differ (joinedVop n q) JournalInternalOp (SendPersistentLocOp l) a v refl)
+      (⊎-elim (λ a. differ (joinedVop n q) PushSyncOp (SendPersistentLocOp l) a v refl) (λ a. differ (joinedVop n q) PopSyncOp (SendPersistentLocOp l) a v refl)))
+      i
+
+  read-vop : (n : ℕ) {v : VersionOp} → stepOf n ≡ some readStep → joinedVop n q ≡ v → StatesInternalOp ≡ v
+  read-vop n e x = rw (step-of-number n readStep e) at x
+
+  -- only a start sends a persistent place
+  pub sent-by : (n : ℕ) (l : Location) (step : Step) → stepOf n ≡ some step → To (joinedOp n q) (joinedVop n q) step → joinedVop n q ≡ SendPersistentLocOp l → isStart n ≡ true
+  sent-by n l writeBackNodeReqStep e x v = differ (joinedVop n q) StatesInternalOp (SendPersistentLocOp l) (x .0) v refl
+  sent-by n l writeBackNodeRespStep e x v = differ (joinedVop n q) StatesInternalOp (SendPersistentLocOp l) (x .0) v refl
+  sent-by n l writeBackIndirectionTableReqStep e x v = differ (joinedVop n q) StatesInternalOp (SendPersistentLocOp l) (x .0) v refl
+  sent-by n l writeBackIndirectionTableRespStep e x v = differ (joinedVop n q) (SendFrozenLocOp (x .0)) (SendPersistentLocOp l) (x .1) v refl
+  sent-by n l unallocStep e x v = differ (joinedVop n q) (AdvanceOp true) (SendPersistentLocOp l) (x .0) v refl
+  sent-by n l pageInNodeReqStep e x v = differ (joinedVop n q) StatesInternalOp (SendPersistentLocOp l) (x .0) v refl
+  sent-by n l pageInNodeRespStep e x v = differ (joinedVop n q) StatesInternalOp (SendPersistentLocOp l) (x .0) v refl
+  sent-by n l pageInIndirectionTableReqStep e x v = differ (joinedVop n q) StatesInternalOp (SendPersistentLocOp l) (x .0) v refl
+  sent-by n l pageInIndirectionTableRespStep e x v = differ (joinedVop n q) StatesInternalOp (SendPersistentLocOp l) (x .0) v refl
+  sent-by n l receiveLocStep e x v = eq-eqb n 10 (step-of-number n receiveLocStep e)
+  sent-by n l evictStep e x v = differ (joinedVop n q) StatesInternalOp (SendPersistentLocOp l) (x .0) v refl
+  sent-by n l freezeStep e x v = differ (joinedVop n q) FreezeOp (SendPersistentLocOp l) (x .0) v refl
+  sent-by n l cleanUpStep e x v = differ (joinedVop n q) CleanUpOp (SendPersistentLocOp l) (x .0) v refl
+  sent-by n l noOpStep e x v = idle-sends n l (x .0) v
+  sent-by n l dirtyStep e x v = differ (joinedVop n q) (AdvanceOp (x .0 .0 .0)) (SendPersistentLocOp l) (x .0 .0 .1) v refl
+  sent-by n l allocStep e x v = differ (joinedVop n q) (AdvanceOp (x .0 .0 .0)) (SendPersistentLocOp l) (x .0 .0 .1) v refl
+  sent-by n l readStep e x v = differ StatesInternalOp StatesInternalOp (SendPersistentLocOp l) refl (read-vop n e v) refl
+  sent-by n l crashStep e x v = differ (joinedVop n q) CrashOp (SendPersistentLocOp l) (x .0) v refl

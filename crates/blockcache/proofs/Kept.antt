@@ -1,0 +1,38 @@
+-- An accepted call keeps the cache in its written form, and upstream's Inv, widened as UpstreamInv says. Assumes nothing.
+use Prim.Native.Nat.{ℕ}
+use mathlib.Core.Bool.{true}
+use mathlib.Core.Path.{_≡_, subst, sym}
+use Rattle.base.specs.Refusals.{answer}
+use Rattle.blockcache.proofs.Demand2.{cache-allowed}
+use Rattle.blockcache.proofs.EveryStep.{next-form, next-inv}
+use Rattle.blockcache.proofs.Forms.{cache-form-iff}
+use Rattle.blockcache.proofs.Frames.{gate-iff}
+use Rattle.blockcache.proofs.Numbers.{call-accepted-iff}
+use Rattle.blockcache.specs.Abstract.{cacheVars, callOp}
+use Rattle.blockcache.specs.Form.{cacheForm, emptyCache}
+use Rattle.blockcache.specs.Next.{stepNext}
+use Rattle.blockcache.specs.Rows.{ownRows, takes}
+use Rattle.blockcache.specs.Step.{cacheNext, cacheRows}
+use Rattle.blockcache.specs.Upstream.{Init, Variables}
+use Rattle.blockcache.specs.UpstreamInv.{Inv}
+use Rattle.blockcache.specs.declared.CacheState.{CacheState}
+use Rattle.blockcache.specs.declared.Call.{Call}
+
+pub cache-form-kept : (d : ℕ) (c : CacheState) (n : ℕ) (q : Call) → answer (cacheRows d c n q) ≡ 0 → cacheForm (cacheNext c n q) ≡ true
+cache-form-kept d c n q e =
+    let x = call-accepted-iff d c n q .0 e in
+    let g = gate-iff (takes (c .phase) (q .vop) (q .dop) (x .step)) (ownRows d c q (x .step)) .0 (x .clear) in
+    rw (x .is) (cache-form-iff (stepNext c q (x .step)) .1 (next-form d c q (x .form) (x .step) (g .0) (g .1)))
+
+-- an accepted call keeps it
+pub inv-kept : (d : ℕ) (c : CacheState) (n : ℕ) (q : Call) → Inv d (cacheVars c) → answer (cacheRows d c n q) ≡ 0 → Inv d (cacheVars (cacheNext c n q))
+inv-kept d c n q i e =
+    let a = cache-allowed d c n q e in
+    next-inv d (cacheVars c) (cacheVars (cacheNext c n q)) (callOp q) (q .vop) (q .reference) (q .node) (a .0) (a .2) i
+
+-- Init
+pub inv-init : (d : ℕ) (s : Variables) → Init s → Inv d s
+inv-init d s e = subst (Inv d) (sym e) tt
+
+pub inv-empty : (d : ℕ) → Inv d (cacheVars emptyCache)
+inv-empty d = tt
