@@ -1,6 +1,6 @@
 -- NoOp's disk operations: none, or an answer that the cache doesn't await. Assumes nothing.
 use Prim.Native.Nat.{ℕ}
-use mathlib.Core.Bool.{Bool, _&&_, _||_, and-false, false, false≢true, or-false, true}
+use mathlib.Core.Bool.{_&&_, _||_, and-false, Bool, false, false≢true, or-false, true}
 use mathlib.Core.Logic.{_↔_}
 use mathlib.Core.Option.{some}
 use mathlib.Core.Path.{_∙_, _≡_, refl, sym}
@@ -12,7 +12,7 @@ use Rattle.blockcache.proofs.OpKinds.{on-ready-iff}
 use Rattle.blockcache.proofs.Waiting.{writes-has}
 use Rattle.blockcache.specs.Abstract.{awaitedId, cacheVars}
 use Rattle.blockcache.specs.Form.{isReady}
-use Rattle.blockcache.specs.Ops.{dopId, dopKind, noDop, nodeReadResp, nodeWriteResp, tableReadResp, tableWriteResp}
+use Rattle.blockcache.specs.Ops.{dopId, dopKind, nodeReadResp, nodeWriteResp, noDop, tableReadResp, tableWriteResp}
 use Rattle.blockcache.specs.Upstream.{AwaitsNodeWrite, AwaitsTableWrite, IdleOp, In}
 use Rattle.blockcache.specs.declared.CacheState.{CacheState}
 use Rattle.blockdisk.specs.Upstream.{opOf}

@@ -57,7 +57,7 @@ no-step n h =
     none-iff (stepOf n) .0
     (split (isSome (stepOf n))
     (λ t. let b = and-iff (leb 1 n) (leb n (length steps)) .0 (sym (step-number n) ∙ t) in
-        absurd (none-to n (length steps) h (leb-true 1 n (b .0)) (leb-true n (length steps) (b .1))))
+    absurd (none-to n (length steps) h (leb-true 1 n (b .0)) (leb-true n (length steps) (b .1))))
     (λ t. t))
 
 -- the list gives each step its number

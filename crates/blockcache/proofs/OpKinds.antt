@@ -1,6 +1,6 @@
 -- What the tests of a step's kind say: of the version operation, of the disk operation and of the phase. Assumes nothing.
 use Prim.Native.Nat.{ℕ}
-use mathlib.Core.Bool.{Bool, _||_, cond, false≢true, true}
+use mathlib.Core.Bool.{_||_, Bool, cond, false≢true, true}
 use mathlib.Core.Logic.{_↔_, inl, inr, ⊎-elim}
 use mathlib.Core.Option.{Option}
 use mathlib.Core.Path.{_∙_, _≡_, ap, refl, sym}
@@ -10,16 +10,18 @@ use lib.Dec.{eqb}
 use Rattle.base.specs.Maps.{flagged}
 use Rattle.blockcache.specs.Abstract.{awaitedId, cacheVars, readyVars, varsIn}
 use Rattle.blockcache.specs.Form.{isReady, loadingPhase, readyPhase, unreadyPhase}
-use Rattle.blockcache.specs.NextStep.{IdleVop, OnLoading, OnReady, OnReqReadIndirectionTable, OnReqReadNode, OnReqWriteIndirectionTable, OnReqWriteNode, OnRespReadIndirectionTable}
-use Rattle.blockcache.specs.NextStep.{OnRespReadNode, OnRespWriteIndirectionTable, OnRespWriteNode}
-use Rattle.blockcache.specs.Ops.{advance, cleanUp, crash, dopBrought, dopId, dopKind, dopLoc, freeze, internal, journalInternal, noDop, nodeReadReq, nodeReadResp, nodeWriteReq, nodeWriteResp, popSync, pushSync, sendFrozenLoc, sendPersistentLoc, tableReadReq, tableReadResp, tableWriteReq, tableWriteResp, vopKind, vopLoc, vopNoOp}
-use Rattle.blockcache.specs.Upstream.{Ready, loadingIndirectionTable, ready, unready}
+use Rattle.blockcache.specs.NextStep.{IdleVop, OnLoading, OnReady, OnReqReadIndirectionTable, OnReqReadNode, OnReqWriteIndirectionTable, OnReqWriteNode}
+use Rattle.blockcache.specs.NextStep.{OnRespReadIndirectionTable, OnRespReadNode, OnRespWriteIndirectionTable, OnRespWriteNode}
+use Rattle.blockcache.specs.Ops.{advance, cleanUp, crash, dopBrought, dopId, dopKind, dopLoc, freeze, internal, journalInternal, nodeReadReq, nodeReadResp, nodeWriteReq}
+use Rattle.blockcache.specs.Ops.{nodeWriteResp, noDop, popSync, pushSync, sendFrozenLoc, sendPersistentLoc, tableReadReq, tableReadResp, tableWriteReq, tableWriteResp, vopKind}
+use Rattle.blockcache.specs.Ops.{vopLoc, vopNoOp}
+use Rattle.blockcache.specs.Upstream.{loadingIndirectionTable, Ready, ready, unready}
 use Rattle.blockcache.specs.declared.CacheState.{CacheState}
 use Rattle.blockcache.specs.declared.Phase.{Phase}
 use Rattle.blockcache.specs.declared.Phase.the-variants.{Loading as PhaseLoading, Ready as PhaseReady, Unready as PhaseUnready}
 use Rattle.blockcache.specs.declared.VersionOp.{VersionOp}
-use Rattle.blockcache.specs.declared.VersionOp.the-variants.{AdvanceOp, CleanUpOp, CrashOp, FreezeOp, JournalInternalOp, PopSyncOp, PushSyncOp, SendFrozenLocOp, SendPersistentLocOp}
-use Rattle.blockcache.specs.declared.VersionOp.the-variants.{StatesInternalOp}
+use Rattle.blockcache.specs.declared.VersionOp.the-variants.{AdvanceOp, CleanUpOp, CrashOp, FreezeOp, JournalInternalOp, PopSyncOp, PushSyncOp, SendFrozenLocOp}
+use Rattle.blockcache.specs.declared.VersionOp.the-variants.{SendPersistentLocOp, StatesInternalOp}
 use Rattle.blockdisk.specs.Ops.{somethingIn}
 use Rattle.blockdisk.specs.Upstream.{Dop, noDiskOp, opOf, reqReadIndirectionTable, reqReadNode, reqWriteIndirectionTable, reqWriteNode, respReadIndirectionTable, respReadNode}
 use Rattle.blockdisk.specs.Upstream.{respWriteIndirectionTable, respWriteNode}

@@ -1,9 +1,10 @@
 // The joined call: any step number, any arguments, on any cache and disk.
 ghost use mathlib.Core.Path.{_≡_};
 ghost use Rattle.base.specs.Refusals.{answer, lowest};
-ghost use Rattle.blocksystem.specs.Joined.{diskCall, startRows, joined};
+ghost use Rattle.blocksystem.specs.Joined.{diskCall, joined, startRows, unmoved};
 use crate::Store;
 use crate::start::wf_succs;
+use blockcache::CacheState;
 use blockcache::Call;
 use blockdisk::DiskCall;
 use blockdisk::DiskOp;
@@ -60,6 +61,19 @@ fn ask_start(device: u64, q: Call, s: DiskState) -> u64
     20
 }
 
+// Refused: cache and disk as they were.
+fn unmoved(answer: u64, cache: CacheState, disk: DiskState) -> Outcome
+    ensures { λ o. ⌜ o ≡ unmoved answer cache disk ⌝ }
+{
+    let node = sector::zero_node();
+    Outcome {
+        answer,
+        node,
+        cache,
+        disk,
+    }
+}
+
 impl Store {
     // The joined call: it asks cache and disk, and if either refuses, neither moves. A crash is offered records, every other step asks the
     // disk for its operation, and a start alone asks for a graph. The three are asked here and not in a function between, as each call by
@@ -87,14 +101,18 @@ impl Store {
         let both = lower(a.answer, b.answer);
         let answer = lower(both, n20);
         if answer != 0 {
-            let node = sector::zero_node();
             let cache = c.state;
             let disk = d.state;
-            return Outcome { answer, node, cache, disk };
+            return unmoved(answer, cache, disk);
         }
         let node = a.node;
         let cache = a.cache;
         let disk = b.disk;
-        Outcome { answer, node, cache, disk }
+        Outcome {
+            answer: 0,
+            node,
+            cache,
+            disk,
+        }
     }
 }

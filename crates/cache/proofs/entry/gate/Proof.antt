@@ -92,7 +92,7 @@ returns-2 : tie.Need-returns-2
 unfolding gated stepOf steps
 returns-2 c = simp (
   c .before .match .keys2,
-  c .taken2 .ensures,
+  c .gate-answer2 .ensures,
   c .before .before .before .before .is-ready .ensures,
   c .before .before .before .before .before .before .dop-kind .ensures,
   c .before .before .before .before .before .before .before .vop-kind .ensures,
@@ -102,7 +102,7 @@ returns-3 : tie.Need-returns-3
 unfolding gated stepOf steps
 returns-3 c = simp (
   c .before .match .keys3,
-  c .taken3 .ensures,
+  c .gate-answer3 .ensures,
   c .before .before .before .before .is-ready .ensures,
   c .before .before .before .before .before .before .dop-kind .ensures,
   c .before .before .before .before .before .before .before .vop-kind .ensures,
@@ -112,7 +112,7 @@ returns-4 : tie.Need-returns-4
 unfolding gated stepOf steps
 returns-4 c = simp (
   c .before .match .keys4,
-  c .taken4 .ensures,
+  c .gate-answer4 .ensures,
   c .before .before .before .before .is-ready .ensures,
   c .before .before .before .before .before .before .dop-kind .ensures,
   c .before .before .before .before .before .before .before .vop-kind .ensures,
@@ -122,7 +122,7 @@ returns-5 : tie.Need-returns-5
 unfolding gated stepOf steps
 returns-5 c = simp (
   c .before .match .keys5,
-  c .taken5 .ensures,
+  c .gate-answer5 .ensures,
   c .before .before .before .before .is-ready .ensures,
   c .before .before .before .before .before .vop-no-op .ensures,
   c .before .before .before .before .before .before .dop-kind .ensures,
@@ -132,7 +132,7 @@ returns-6 : tie.Need-returns-6
 unfolding gated stepOf steps
 returns-6 c = simp (
   c .before .match .keys6,
-  c .taken6 .ensures,
+  c .gate-answer6 .ensures,
   c .before .before .before .before .is-ready .ensures,
   c .before .before .before .before .before .before .dop-kind .ensures,
   c .before .before .before .before .before .before .before .vop-kind .ensures,
@@ -142,7 +142,7 @@ returns-7 : tie.Need-returns-7
 unfolding gated stepOf steps
 returns-7 c = simp (
   c .before .match .keys7,
-  c .taken7 .ensures,
+  c .gate-answer7 .ensures,
   c .before .before .before .before .is-ready .ensures,
   c .before .before .before .before .before .before .dop-kind .ensures,
   c .before .before .before .before .before .before .before .vop-kind .ensures,
@@ -152,7 +152,7 @@ returns-8 : tie.Need-returns-8
 unfolding gated stepOf steps
 returns-8 c = simp (
   c .before .match .keys8,
-  c .taken8 .ensures,
+  c .gate-answer8 .ensures,
   c .before .before .before .is-loading .ensures,
   c .before .before .before .before .before .before .dop-kind .ensures,
   c .before .before .before .before .before .before .before .vop-kind .ensures,
@@ -162,7 +162,7 @@ returns-9 : tie.Need-returns-9
 unfolding gated stepOf steps
 returns-9 c = simp (
   c .before .match .keys9,
-  c .taken9 .ensures,
+  c .gate-answer9 .ensures,
   c .before .before .before .is-loading .ensures,
   c .before .before .before .before .before .before .dop-kind .ensures,
   c .before .before .before .before .before .before .before .vop-kind .ensures,
@@ -172,7 +172,7 @@ returns-10 : tie.Need-returns-10
 unfolding gated stepOf steps
 returns-10 c = simp (
   c .before .match .keys10,
-  c .taken10 .ensures,
+  c .gate-answer10 .ensures,
   c .before .before .is-unready .ensures,
   c .before .before .before .before .before .before .dop-kind .ensures,
   c .before .before .before .before .before .before .before .vop-kind .ensures,
@@ -182,7 +182,7 @@ returns-11 : tie.Need-returns-11
 unfolding gated stepOf steps
 returns-11 c = simp (
   c .before .match .keys11,
-  c .taken11 .ensures,
+  c .gate-answer11 .ensures,
   c .before .before .before .before .is-ready .ensures,
   c .before .before .before .before .before .before .dop-kind .ensures,
   c .before .before .before .before .before .before .before .vop-kind .ensures,
@@ -192,7 +192,7 @@ returns-12 : tie.Need-returns-12
 unfolding gated stepOf steps
 returns-12 c = simp (
   c .before .match .keys12,
-  c .taken12 .ensures,
+  c .gate-answer12 .ensures,
   c .before .before .before .before .is-ready .ensures,
   c .before .before .before .before .before .before .dop-kind .ensures,
   c .before .before .before .before .before .before .before .vop-kind .ensures,
@@ -202,7 +202,7 @@ returns-13 : tie.Need-returns-13
 unfolding gated stepOf steps
 returns-13 c = simp (
   c .before .match .keys13,
-  c .taken13 .ensures,
+  c .gate-answer13 .ensures,
   c .before .before .before .before .is-ready .ensures,
   c .before .before .before .before .before .before .dop-kind .ensures,
   c .before .before .before .before .before .before .before .vop-kind .ensures,
@@ -212,7 +212,7 @@ returns-14 : tie.Need-returns-14
 unfolding gated stepOf steps
 returns-14 c = simp (
   c .before .match .keys14,
-  c .taken14 .ensures,
+  c .gate-answer14 .ensures,
   c .before .before .before .before .before .before .dop-kind .ensures,
   c .before .before .before .before .before .before .before .vop-kind .ensures,
 )
@@ -221,7 +221,7 @@ returns-15 : tie.Need-returns-15
 unfolding gated stepOf steps
 returns-15 c = simp (
   c .before .match .keys15,
-  c .taken15 .ensures,
+  c .gate-answer15 .ensures,
   c .before .before .before .before .is-ready .ensures,
   c .before .before .before .before .before .before .dop-kind .ensures,
   c .before .before .before .before .before .before .before .vop-kind .ensures,
@@ -231,7 +231,7 @@ returns-16 : tie.Need-returns-16
 unfolding gated stepOf steps
 returns-16 c = simp (
   c .before .match .keys16,
-  c .taken16 .ensures,
+  c .gate-answer16 .ensures,
   c .before .before .before .before .is-ready .ensures,
   c .before .before .before .before .before .before .dop-kind .ensures,
   c .before .before .before .before .before .before .before .vop-kind .ensures,
@@ -241,7 +241,7 @@ returns-17 : tie.Need-returns-17
 unfolding gated stepOf steps
 returns-17 c = simp (
   c .before .match .keys17,
-  c .taken17 .ensures,
+  c .gate-answer17 .ensures,
   c .before .before .before .before .is-ready .ensures,
 )
 
@@ -249,7 +249,7 @@ returns-18 : tie.Need-returns-18
 unfolding gated stepOf steps
 returns-18 c = simp (
   c .before .match .keys18,
-  c .taken18 .ensures,
+  c .gate-answer18 .ensures,
   c .before .before .before .before .before .before .before .vop-kind .ensures,
 )
 
