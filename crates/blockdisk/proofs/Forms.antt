@@ -40,7 +40,7 @@ table-form-of d k x e = and-left (tableForm (x .table)) (x .present || (locZero 
 
 pub node-form-of : (d k : ℕ) (x : NodeRecord) → nodeRecordChecked d k x .form ≡ true → nodeForm (x .node) ≡ true
 unfolding nodeRecordChecked
-node-form-of d k x e = and-left (nodeForm (x .node)) (x .present || (locZero (x .loc) && nodeZero (x .node))) e
+node-form-of d k x e = and-left (nodeForm (x .node)) _ e
 
 pub table-form-there : (d k : ℕ) (x : TableRecord) → x .present ≡ true → tableForm (x .table) ≡ true → tableRecordChecked d k x .form ≡ true
 unfolding tableRecordChecked
