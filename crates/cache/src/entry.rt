@@ -1,5 +1,5 @@
 // The step entry: any number, any call, on any cache. The two matches on the number stand here, what each step takes and what it does, and in no
-// other file of the code.
+// other file of this crate.
 ghost use mathlib.Core.List.{[]};
 ghost use mathlib.Core.Path.{_≡_};
 ghost use Prim.Native.Nat.{_<_};
