@@ -46,8 +46,15 @@ returns c =
     let n : m .if2 .n20 ≡ answer (startRows (a .self .device) (a .number) (a .q) (a .self .disk)) =
     ⊎-elim (λ w. w .3 ∙ simp (w .0 .taken) (w .2 .ensures)) (λ w. w .1 ∙ simp (ne-eqb _ _ (w .0 .left))) (m .if2 .came) in
     let e = simp (l .lower2 .ensures, l .before .lower .ensures, n, b, m .before .before .step .ensures) at (z .if3 .taken) in
-    simp (c .unmoved .ensures, l .lower2 .ensures, l .before .lower .ensures, n, b, m .before .before .step .ensures,
-    ne-eqb (joinedAnswer (a .self .device) (a .number) (a .q) (a .offered) (a .self .cache) (a .self .disk)) 0 e)
+    simp (
+      c .unmoved .ensures,
+      l .lower2 .ensures,
+      l .before .lower .ensures,
+      n,
+      b,
+      m .before .before .step .ensures,
+      ne-eqb (joinedAnswer (a .self .device) (a .number) (a .q) (a .offered) (a .self .cache) (a .self .disk)) 0 e,
+    )
 
 returns-2 : tie.Need-returns-2
 unfolding answer diskAsked joined joinedAnswer
