@@ -138,10 +138,6 @@ outcome rows next old = record { answer = answer rows; disk = settled rows next 
 abbrev pub opOutcome : ℕ → DiskState → DiskOp → Node → Table → DiskOutcome
 opOutcome d s op n t = outcome (opRows d s op n t) (nextDisk d s op n t) s
 
--- an operation on a disk in its written form
-unfoldable pub callOutcome : ℕ → DiskState → DiskCall → DiskOutcome
-callOutcome d s c = opOutcome d s (c .op) (c .node) (c .table)
-
 abbrev pub diskRows : ℕ → DiskState → DiskCall → List Row
 diskRows d s c = (1 when not (diskForm d s && nodeForm (c .node) && tableForm (c .table))) ∷ opRows d s (c .op) (c .node) (c .table)
 

@@ -42,7 +42,3 @@ joined d n q o c s =
       cache = cond (eqb (joinedAnswer d n q o c s) 0) (cacheStep d c n q .cache) c;
       disk = cond (eqb (joinedAnswer d n q o c s) 0) (diskAsked d n q o s .disk) s;
     }
-
--- what a refused call hands back: its answer, no node, cache and disk as they were
-abbrev pub unmoved : ℕ → CacheState → DiskState → Outcome
-unmoved n c s = record { answer = n; node = zeroNode; cache = c; disk = s }

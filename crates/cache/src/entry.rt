@@ -108,14 +108,14 @@ impl Cache {
         let known = self.device <= 2;
         let good = known & form & call;
         if !good {
-            return answered(c, 1);
+            return answered(self.state, 1);
         }
         let phase = c.phase;
         let v = q.vop;
         let d = q.dop;
         let n = gate(number, phase, v, d);
         if n != 0 {
-            return answered(c, n);
+            return answered(self.state, n);
         }
         self.dispatch(number, q)
     }

@@ -4,7 +4,7 @@ ghost use mathlib.Core.Bool.{_&&_, not};
 ghost use mathlib.Core.Path.{_≡_};
 ghost use Rattle.sectortype.specs.Form.{zeroNode, emptyTable};
 ghost use Rattle.sectortype.specs.Same.{sameNode, sameTable};
-ghost use Rattle.blockdisk.specs.Ops.{requestOf, requestTurn, answerTurn, somethingIn, opOutcome, callOutcome, diskStep};
+ghost use Rattle.blockdisk.specs.Ops.{requestOf, requestTurn, answerTurn, somethingIn, opOutcome, diskStep};
 use crate::Disk;
 use crate::form::queues_ok;
 use crate::form::records_ok;
@@ -287,13 +287,26 @@ impl Disk {
         DiskOutcome { answer: 0, disk: s }
     }
 
-    // The operation alone, on a disk and a call in their written form.
-    fn dispatch(self, call: DiskCall) -> DiskOutcome
-        ensures { λ o. ⌜ o ≡ callOutcome (self .device) (self .state) call ⌝ }
+    // Any call on any disk. Its written form is asked of its parts, and the match on the operation stands here, since a function between
+    // that took the whole disk would copy it once more at each call.
+    pub fn next(self, call: DiskCall) -> DiskOutcome
+        ensures { λ o. ⌜ o ≡ diskStep (self .device) (self .state) call ⌝ }
     {
         let op = call.op;
         let node = call.node;
         let table = call.table;
+        let s = self.state;
+        let records = s.records;
+        let queues = s.queues;
+        let stored = records_ok(self.device, records);
+        let waiting = queues_ok(self.device, queues);
+        let node_ok = sector::node_form(node);
+        let table_ok = sector::table_form(table);
+        let form = (self.device <= 2) & stored.form & stored.placed & waiting;
+        let good = form & node_ok & table_ok;
+        if !good {
+            return DiskOutcome { answer: 1, disk: s };
+        }
         match op {
             DiskOp::ReqReadIndirectionTableOp(id, loc) => self.recv_read_indirection_table(id, loc),
             DiskOp::ReqReadNodeOp(id, loc) => self.recv_read_node(id, loc),
@@ -313,28 +326,5 @@ impl Disk {
             DiskOp::RespWriteNodeOp(id) => self.ack_write_node(id),
             DiskOp::NoDiskOp => self.stutter(),
         }
-    }
-
-    // Any call on any disk. Its written form is asked of its parts: a function that took the whole disk would copy it once more at
-    // each call.
-    pub fn next(self, call: DiskCall) -> DiskOutcome
-        ensures { λ o. ⌜ o ≡ diskStep (self .device) (self .state) call ⌝ }
-    {
-        let node = call.node;
-        let table = call.table;
-        let s = self.state;
-        let records = s.records;
-        let queues = s.queues;
-        let stored = records_ok(self.device, records);
-        let waiting = queues_ok(self.device, queues);
-        let known = self.device <= 2;
-        let form = known & stored.form & stored.placed & waiting;
-        let node_ok = sector::node_form(node);
-        let table_ok = sector::table_form(table);
-        let good = form & node_ok & table_ok;
-        if good {
-            return self.dispatch(call);
-        }
-        DiskOutcome { answer: 1, disk: s }
     }
 }

@@ -1,4 +1,5 @@
 // A table's graph: lists as sets, references that are allocated, addresses that are held.
+ghost use mathlib.Core.Bool.{_||_, not};
 ghost use mathlib.Core.Path.{_≡_};
 ghost use Rattle.sectortype.specs.Graph.{hasSucc, subset, sameSet, withinAt, within, GraphClosed, holdsAddr, apartAt, apartFrom, DistinctAddrs};
 use sectortype::Entry;
@@ -75,6 +76,18 @@ pub fn points_within(t: Table, s: Succs) -> bool
     good
 }
 
+// Whether the entry, if it is allocated, names allocated references alone. Of others nothing is asked: each question copies the table.
+fn entry_closed(t: Table, e: Entry) -> bool
+    ensures { λ b. ⌜ b ≡ (not (e .allocated) || within t (e .succs)) ⌝ }
+{
+    let used = e.allocated;
+    if !used {
+        return true;
+    }
+    let s = e.succs;
+    points_within(t, s)
+}
+
 // Whether every list of the graph names allocated references alone (upstream's GraphClosed).
 pub fn graph_closed(t: Table) -> bool
     ensures { λ b. ⌜ b ≡ GraphClosed t ⌝ }
@@ -83,9 +96,8 @@ pub fn graph_closed(t: Table) -> bool
     let mut i: usize = 0;
     while i < 64 {
         let e = t.entries[i];
-        let s = e.succs;
-        let p = points_within(t, s);
-        good = good & (!e.allocated | p);
+        let p = entry_closed(t, e);
+        good = good & p;
         i += 1;
     }
     good

@@ -1,14 +1,12 @@
 // The joined call: any step number, any arguments, on any cache and disk.
 ghost use mathlib.Core.Path.{_≡_};
 ghost use Rattle.base.specs.Refusals.{answer, lowest};
-ghost use Rattle.blocksystem.specs.Joined.{diskCall, joined, startRows, unmoved};
+ghost use Rattle.blocksystem.specs.Joined.{diskCall, joined, startRows};
 use crate::Store;
 use crate::start::wf_succs;
-use blockcache::CacheState;
 use blockcache::Call;
 use blockdisk::DiskCall;
 use blockdisk::DiskOp;
-use blockdisk::DiskState;
 use blockdisk::Records;
 use blocksystem::Outcome;
 use cache::Cache;
@@ -48,30 +46,18 @@ fn disk_call(number: u64, q: Call) -> DiskCall
 }
 
 // A start asks for a whole graph at the place given.
-fn ask_start(device: u64, q: Call, s: DiskState) -> u64
-    ensures { λ n. ⌜ n ≡ answer (startRows device 10 q s) ⌝ }
+fn ask_start(q: Call, d: Disk) -> u64
+    ensures { λ n. ⌜ n ≡ answer (startRows (d .device) 10 q (d .state)) ⌝ }
 {
     let v = q.vop;
     let loc = cache::vop_loc(v);
+    let s = d.state;
     let r = s.records;
-    let whole = wf_succs(device, r, loc);
+    let whole = wf_succs(d.device, r, loc);
     if whole {
         return 0;
     }
     20
-}
-
-// Refused: cache and disk as they were.
-fn unmoved(answer: u64, cache: CacheState, disk: DiskState) -> Outcome
-    ensures { λ o. ⌜ o ≡ unmoved answer cache disk ⌝ }
-{
-    let node = sector::zero_node();
-    Outcome {
-        answer,
-        node,
-        cache,
-        disk,
-    }
 }
 
 impl Store {
@@ -90,20 +76,22 @@ impl Store {
         let b = if number == 18 {
             d.crash(offered)
         } else {
-            let asked = disk_call(number, q);
-            d.next(asked)
+            d.next(disk_call(number, q))
         };
         let mut n20: u64 = 0;
         if number == 10 {
-            let s = d.state;
-            n20 = ask_start(device, q, s);
+            n20 = ask_start(q, d);
         }
-        let both = lower(a.answer, b.answer);
-        let answer = lower(both, n20);
+        let answer = lower(lower(a.answer, b.answer), n20);
         if answer != 0 {
             let cache = c.state;
             let disk = d.state;
-            return unmoved(answer, cache, disk);
+            return Outcome {
+                answer,
+                node: sector::zero_node(),
+                cache,
+                disk,
+            };
         }
         let node = a.node;
         let cache = a.cache;

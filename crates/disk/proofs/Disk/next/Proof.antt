@@ -1,9 +1,9 @@
--- Not in its written form: 1. Else what the operation does. The test of the form is the definition's, by what the callees ensure of
--- the two parts of the disk, the node and the table. Assumes nothing.
+-- Not in its written form: 1. Else arm by arm: the operation is the arm's, and the transition's own contract is the definition there. The
+-- test of the form is the definition's, by what the callees ensure of the two parts of the disk, the node and the table. Assumes nothing.
 use borrow.Author.Needs.{needs}
 use Rattle.base.specs.Refusals.{answer}
 use Rattle.blockdisk.specs.Form.{diskForm}
-use Rattle.blockdisk.specs.Ops.{callOutcome, diskStep}
+use Rattle.blockdisk.specs.Ops.{diskStep}
 use Rattle.disk.proofs.Disk.next.Statement.{statement}
 use Rattle.disk.proofs.Disk.next.Tie as tie
 
@@ -19,23 +19,147 @@ node-form-requires c κs = search needs
 table-form-requires : tie.Need-table-form-requires
 table-form-requires c κs = search needs
 
-dispatch-requires : tie.Need-dispatch-requires
-dispatch-requires c κs = search needs
-
 returns : tie.Need-returns
-unfolding diskForm diskStep callOutcome answer
+unfolding diskForm diskStep answer
 returns c =
-    let f = c .before .before .before in
-    let q = f .before .before .before .before in
-    let good = rw (c .before .before .table-form .ensures, f .node-form .ensures, q .queues-ok .ensures, q .before .records-ok .ensures) at (c .before .if1 .taken) in
-    simp good (c .dispatch .ensures)
+    let t = c .before .before .before .before in
+    let q = t .before .before in
+    simp (rw (t .table-form .ensures, t .before .node-form .ensures, q .queues-ok .ensures, q .before .records-ok .ensures) at (c .if1 .taken))
+
+enum-known-op : tie.Need-enum-known-op
+enum-known-op c = search needs
+
+recv-read-indirection-table-requires : tie.Need-recv-read-indirection-table-requires
+recv-read-indirection-table-requires c κs = search needs
+
+enum-known-op-2 : tie.Need-enum-known-op-2
+enum-known-op-2 c = search needs
+
+recv-read-node-requires : tie.Need-recv-read-node-requires
+recv-read-node-requires c κs = search needs
+
+enum-known-op-3 : tie.Need-enum-known-op-3
+enum-known-op-3 c = search needs
+
+recv-write-indirection-table-requires : tie.Need-recv-write-indirection-table-requires
+recv-write-indirection-table-requires c κs = search needs
+
+enum-known-op-4 : tie.Need-enum-known-op-4
+enum-known-op-4 c = search needs
+
+recv-write-node-requires : tie.Need-recv-write-node-requires
+recv-write-node-requires c κs = search needs
+
+enum-known-op-5 : tie.Need-enum-known-op-5
+enum-known-op-5 c = search needs
+
+ack-read-indirection-table-requires : tie.Need-ack-read-indirection-table-requires
+ack-read-indirection-table-requires c κs = search needs
+
+enum-known-op-6 : tie.Need-enum-known-op-6
+enum-known-op-6 c = search needs
+
+ack-read-node-requires : tie.Need-ack-read-node-requires
+ack-read-node-requires c κs = search needs
+
+enum-known-op-7 : tie.Need-enum-known-op-7
+enum-known-op-7 c = search needs
+
+ack-write-indirection-table-requires : tie.Need-ack-write-indirection-table-requires
+ack-write-indirection-table-requires c κs = search needs
+
+enum-known-op-8 : tie.Need-enum-known-op-8
+enum-known-op-8 c = search needs
+
+ack-write-node-requires : tie.Need-ack-write-node-requires
+ack-write-node-requires c κs = search needs
+
+enum-told : tie.Need-enum-told
+enum-told c = search needs
+
+stutter-requires : tie.Need-stutter-requires
+stutter-requires c κs = search needs
 
 returns-2 : tie.Need-returns-2
 unfolding diskForm diskStep answer
 returns-2 c =
-    let f = c .before .before in
-    let q = f .before .before .before .before in
-    simp (rw (c .before .table-form .ensures, f .node-form .ensures, q .queues-ok .ensures, q .before .records-ok .ensures) at (c .if1 .left))
+    let i = c .before .before .before .before in
+    let t = i .before .before .before .before in
+    let q = t .before .before in
+    let w = rw (t .table-form .ensures, t .before .node-form .ensures, q .queues-ok .ensures, q .before .records-ok .ensures) at (i .if1 .left) in
+    simp (w, c .before .before .op .given .1) (c .recv-read-indirection-table .ensures)
+
+returns-3 : tie.Need-returns-3
+unfolding diskForm diskStep answer
+returns-3 c =
+    let i = c .before .before .before .before in
+    let t = i .before .before .before .before in
+    let q = t .before .before in
+    let w = rw (t .table-form .ensures, t .before .node-form .ensures, q .queues-ok .ensures, q .before .records-ok .ensures) at (i .if1 .left) in
+    simp (w, c .before .before .op2 .given .1) (c .recv-read-node .ensures)
+
+returns-4 : tie.Need-returns-4
+unfolding diskForm diskStep answer
+returns-4 c =
+    let i = c .before .before .before .before in
+    let t = i .before .before .before .before in
+    let q = t .before .before in
+    let w = rw (t .table-form .ensures, t .before .node-form .ensures, q .queues-ok .ensures, q .before .records-ok .ensures) at (i .if1 .left) in
+    simp (w, c .before .before .op3 .given .1) (c .recv-write-indirection-table .ensures)
+
+returns-5 : tie.Need-returns-5
+unfolding diskForm diskStep answer
+returns-5 c =
+    let i = c .before .before .before .before in
+    let t = i .before .before .before .before in
+    let q = t .before .before in
+    let w = rw (t .table-form .ensures, t .before .node-form .ensures, q .queues-ok .ensures, q .before .records-ok .ensures) at (i .if1 .left) in
+    simp (w, c .before .before .op4 .given .1) (c .recv-write-node .ensures)
+
+returns-6 : tie.Need-returns-6
+unfolding diskForm diskStep answer
+returns-6 c =
+    let i = c .before .before .before .before in
+    let t = i .before .before .before .before in
+    let q = t .before .before in
+    let w = rw (t .table-form .ensures, t .before .node-form .ensures, q .queues-ok .ensures, q .before .records-ok .ensures) at (i .if1 .left) in
+    simp (w, c .before .before .op5 .given .1) (c .ack-read-indirection-table .ensures)
+
+returns-7 : tie.Need-returns-7
+unfolding diskForm diskStep answer
+returns-7 c =
+    let i = c .before .before .before .before in
+    let t = i .before .before .before .before in
+    let q = t .before .before in
+    let w = rw (t .table-form .ensures, t .before .node-form .ensures, q .queues-ok .ensures, q .before .records-ok .ensures) at (i .if1 .left) in
+    simp (w, c .before .before .op6 .given .1) (c .ack-read-node .ensures)
+
+returns-8 : tie.Need-returns-8
+unfolding diskForm diskStep answer
+returns-8 c =
+    let i = c .before .before .before .before in
+    let t = i .before .before .before .before in
+    let q = t .before .before in
+    let w = rw (t .table-form .ensures, t .before .node-form .ensures, q .queues-ok .ensures, q .before .records-ok .ensures) at (i .if1 .left) in
+    simp (w, c .before .before .op7 .given .1) (c .ack-write-indirection-table .ensures)
+
+returns-9 : tie.Need-returns-9
+unfolding diskForm diskStep answer
+returns-9 c =
+    let i = c .before .before .before .before in
+    let t = i .before .before .before .before in
+    let q = t .before .before in
+    let w = rw (t .table-form .ensures, t .before .node-form .ensures, q .queues-ok .ensures, q .before .records-ok .ensures) at (i .if1 .left) in
+    simp (w, c .before .before .op8 .given .1) (c .ack-write-node .ensures)
+
+returns-10 : tie.Need-returns-10
+unfolding diskForm diskStep answer
+returns-10 c =
+    let i = c .before .before .before in
+    let t = i .before .before .before .before in
+    let q = t .before .before in
+    let w = rw (t .table-form .ensures, t .before .node-form .ensures, q .queues-ok .ensures, q .before .records-ok .ensures) at (i .if1 .left) in
+    simp (w, c .before .enum-told .given .1) (c .stutter .ensures)
 
 pub next-spec : {M : Type 1} → statement M
 next-spec =
@@ -45,6 +169,31 @@ next-spec =
     queues-ok-requires
     node-form-requires
     table-form-requires
-    dispatch-requires
     returns
-    returns-2)
+    enum-known-op
+    recv-read-indirection-table-requires
+    enum-known-op-2
+    recv-read-node-requires
+    enum-known-op-3
+    recv-write-indirection-table-requires
+    enum-known-op-4
+    recv-write-node-requires
+    enum-known-op-5
+    ack-read-indirection-table-requires
+    enum-known-op-6
+    ack-read-node-requires
+    enum-known-op-7
+    ack-write-indirection-table-requires
+    enum-known-op-8
+    ack-write-node-requires
+    enum-told
+    stutter-requires
+    returns-2
+    returns-3
+    returns-4
+    returns-5
+    returns-6
+    returns-7
+    returns-8
+    returns-9
+    returns-10)

@@ -23,8 +23,8 @@ mul-e c = search needs
 element-copy-out-e : tie.Need-element-copy-out-e Inv-loop μ-loop
 element-copy-out-e c = search needs
 
-points-within-requires : tie.Need-points-within-requires Inv-loop μ-loop
-points-within-requires c κs = search needs
+entry-closed-requires : tie.Need-entry-closed-requires Inv-loop μ-loop
+entry-closed-requires c κs = search needs
 
 add-i : tie.Need-add-i Inv-loop μ-loop
 add-i c = search needs
@@ -33,7 +33,7 @@ loop-less : tie.Need-loop-less Inv-loop μ-loop
 loop-less c = search needs
 
 loop-again : tie.Need-loop-again Inv-loop μ-loop
-loop-again c = (search needs, all-turn _ _ (c .before .before .before .before .before .loop .inv .1) (rw (c .before .points-within .ensures)))
+loop-again c = (search needs, all-turn _ _ (c .before .before .before .loop .inv .1) (c .entry-closed .ensures))
 
 returns : tie.Need-returns Inv-loop μ-loop
 unfolding GraphClosed
@@ -48,7 +48,7 @@ graph-closed-spec =
     loop-holds
     mul-e
     element-copy-out-e
-    points-within-requires
+    entry-closed-requires
     add-i
     loop-less
     loop-again

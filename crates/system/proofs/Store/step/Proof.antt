@@ -30,31 +30,23 @@ lower-requires c κs = search needs
 lower-requires-2 : tie.Need-lower-requires-2
 lower-requires-2 c κs = search needs
 
-unmoved-requires : tie.Need-unmoved-requires
-unmoved-requires c κs = search needs
+zero-node-requires : tie.Need-zero-node-requires
+zero-node-requires c κs = search needs
 
 returns : tie.Need-returns
 unfolding answer diskAsked joined joinedAnswer
 returns c =
-    let z = c .before .before .before in
-    let l = z .before in
+    let z = c .before .before in
+    let l = z .before .before in
     let m = l .before .before in
     let a = m .before .before .before .before .before .args in
     let b : m .before .if1 .b ≡ diskAsked (a .self .device) (a .number) (a .q) (a .offered) (a .self .disk) =
     ⊎-elim (λ w. w .2 ∙ simp (eq-eqb _ _ (w .0 .taken)) (w .1 .ensures))
     (λ w. w .3 ∙ simp (ne-eqb _ _ (w .0 .left)) (rw (w .1 .ensures) at (w .2 .ensures))) (m .before .if1 .came) in
     let n : m .if2 .n20 ≡ answer (startRows (a .self .device) (a .number) (a .q) (a .self .disk)) =
-    ⊎-elim (λ w. w .3 ∙ simp (w .0 .taken) (w .2 .ensures)) (λ w. w .1 ∙ simp (ne-eqb _ _ (w .0 .left))) (m .if2 .came) in
-    let e = simp (l .lower2 .ensures, l .before .lower .ensures, n, b, m .before .before .step .ensures) at (z .if3 .taken) in
-    simp (
-      c .unmoved .ensures,
-      l .lower2 .ensures,
-      l .before .lower .ensures,
-      n,
-      b,
-      m .before .before .step .ensures,
-      ne-eqb (joinedAnswer (a .self .device) (a .number) (a .q) (a .offered) (a .self .cache) (a .self .disk)) 0 e,
-    )
+    ⊎-elim (λ w. w .2 ∙ simp (w .0 .taken) (w .1 .ensures)) (λ w. w .1 ∙ simp (ne-eqb _ _ (w .0 .left))) (m .if2 .came) in
+    let e = simp (l .lower2 .ensures, l .before .lower .ensures, n, b, m .before .before .step .ensures) at (z .before .if3 .taken) in
+    simp (c .zero-node .ensures, l .lower2 .ensures, l .before .lower .ensures, n, b, m .before .before .step .ensures, ne-eqb _ _ e)
 
 returns-2 : tie.Need-returns-2
 unfolding answer diskAsked joined joinedAnswer
@@ -66,7 +58,7 @@ returns-2 c =
     ⊎-elim (λ w. w .2 ∙ simp (eq-eqb _ _ (w .0 .taken)) (w .1 .ensures))
     (λ w. w .3 ∙ simp (ne-eqb _ _ (w .0 .left)) (rw (w .1 .ensures) at (w .2 .ensures))) (m .before .if1 .came) in
     let n : m .if2 .n20 ≡ answer (startRows (a .self .device) (a .number) (a .q) (a .self .disk)) =
-    ⊎-elim (λ w. w .3 ∙ simp (w .0 .taken) (w .2 .ensures)) (λ w. w .1 ∙ simp (ne-eqb _ _ (w .0 .left))) (m .if2 .came) in
+    ⊎-elim (λ w. w .2 ∙ simp (w .0 .taken) (w .1 .ensures)) (λ w. w .1 ∙ simp (ne-eqb _ _ (w .0 .left))) (m .if2 .came) in
     let e = simp (l .lower2 .ensures, l .before .lower .ensures, n, b, m .before .before .step .ensures) at (c .before .before .before .if3 .left) in
     simp (e, b, m .before .before .step .ensures)
 
@@ -81,6 +73,6 @@ step-spec =
     ask-start-requires
     lower-requires
     lower-requires-2
-    unmoved-requires
+    zero-node-requires
     returns
     returns-2)

@@ -12,11 +12,11 @@ wf-succs-requires c κs = search needs
 
 returns : tie.Need-returns
 unfolding answer
-returns c = simp (rw (c .before .wf-succs .ensures, c .before .before .before .vop-loc .ensures) at (c .if1 .taken))
+returns c = simp (rw (c .before .wf-succs .ensures, c .before .before .before .before .vop-loc .ensures) at (c .if1 .taken))
 
 returns-2 : tie.Need-returns-2
 unfolding answer
-returns-2 c = simp (rw (c .before .wf-succs .ensures, c .before .before .before .vop-loc .ensures) at (c .if1 .left))
+returns-2 c = simp (rw (c .before .wf-succs .ensures, c .before .before .before .before .vop-loc .ensures) at (c .if1 .left))
 
 pub ask-start-spec : {M : Type 1} → statement M
 ask-start-spec = tie.close (tie.spec vop-loc-requires wf-succs-requires returns returns-2)
