@@ -12,7 +12,7 @@ use Rattle.base.specs.Maps.{isSome}
 use Rattle.base.specs.Refusals.{Row, _when_, answer}
 use Rattle.blockcache.proofs.Numbers.{step-of-number}
 use Rattle.blockcache.specs.Rows.{Takes, gate, ownRows, stepRows, takes}
-use Rattle.blockcache.specs.Step.{answered, cacheNext, cacheRows, cacheStep, dispatched, gated, nextOf, nodeOf, pastGate, rowsOf, settled, wellFormed}
+use Rattle.blockcache.specs.Step.{answered, cacheNext, cacheRows, cacheStep, dispatched, gated, nextOf, nodeOf, pastGate, rowsOf, outcome, wellFormed}
 use Rattle.blockcache.specs.Steps.{Step, stepOf}
 use Rattle.blockcache.specs.declared.CacheState.{CacheState}
 use Rattle.blockcache.specs.declared.Call.{Call}
@@ -34,7 +34,7 @@ module _ (d : ℕ) (c : CacheState) (q : Call) where
   rows-shut (some step) ne = gate-answer (takes (c .phase) (q .vop) (q .dop) step) (ownRows d c q step) ∙ rw (ne-eqb (gateOf (some step)) 0 ne)
 
   rows-open : (n : ℕ) (o : Option Step) → stepOf n ≡ o → gateOf o ≡ 0 →
-      settled (answer ((1 when not (isSome o)) ∷ rowsOf d c q o)) (nodeOf c n q) (nextOf c q o) c ≡ dispatched d c q o
+      outcome (answer ((1 when not (isSome o)) ∷ rowsOf d c q o)) (nodeOf c n q) (nextOf c q o) c ≡ dispatched d c q o
   unfolding gated answer pastGate
   rows-open n none e z = absurd (omega arith)
   rows-open n (some step) e z =
@@ -44,7 +44,7 @@ module _ (d : ℕ) (c : CacheState) (q : Call) where
 
 module _ (d : ℕ) (c : CacheState) (n : ℕ) (q : Call) where
   -- a step is made of the answer of its rows, the node and the next cache
-  pub step-is : cacheStep d c n q ≡ settled (answer (cacheRows d c n q)) (nodeOf c n q) (cacheNext c n q) c
+  pub step-is : cacheStep d c n q ≡ outcome (answer (cacheRows d c n q)) (nodeOf c n q) (cacheNext c n q) c
   unfolding cacheStep
   step-is = refl
 

@@ -9,7 +9,7 @@ use Rattle.blockcache.proofs.Forms.{cache-form-iff}
 use Rattle.blockcache.proofs.Frames.{gate-iff}
 use Rattle.blockcache.proofs.Numbers.{call-accepted-iff}
 use Rattle.blockcache.specs.Abstract.{cacheVars, callOp}
-use Rattle.blockcache.specs.Form.{cacheForm, emptyCache}
+use Rattle.blockcache.specs.Form.{cacheForm}
 use Rattle.blockcache.specs.Next.{stepNext}
 use Rattle.blockcache.specs.Rows.{ownRows, takes}
 use Rattle.blockcache.specs.Step.{cacheNext, cacheRows}
@@ -33,6 +33,3 @@ inv-kept d c n q i e =
 -- Init
 pub inv-init : (d : ℕ) (s : Variables) → Init s → Inv d s
 inv-init d s e = subst (Inv d) (sym e) tt
-
-pub inv-empty : (d : ℕ) → Inv d (cacheVars emptyCache)
-inv-empty d = tt

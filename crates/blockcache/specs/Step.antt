@@ -51,11 +51,11 @@ nodeOf c n q = cond (isRead n) (slotAt (c .nodes) (q .reference) .node) zeroNode
 -- THE STEP
 
 -- accepted: the next cache and the node; refused: the cache as it was and a node of zeros
-abbrev pub settled : ℕ → Node → CacheState → CacheState → CacheOutcome
-settled n node next c = record { answer = n; node = cond (eqb n 0) node zeroNode; cache = cond (eqb n 0) next c }
+abbrev pub outcome : ℕ → Node → CacheState → CacheState → CacheOutcome
+outcome n node next c = record { answer = n; node = cond (eqb n 0) node zeroNode; cache = cond (eqb n 0) next c }
 
 unfoldable pub cacheStep : ℕ → CacheState → ℕ → Call → CacheOutcome
-cacheStep d c n q = settled (answer (cacheRows d c n q)) (nodeOf c n q) (cacheNext c n q) c
+cacheStep d c n q = outcome (answer (cacheRows d c n q)) (nodeOf c n q) (cacheNext c n q) c
 
 -- ITS TWO HALVES, for the code: what V, D and phase refuse, and what the step itself does
 
@@ -68,7 +68,7 @@ gated p v o none = 1
 gated p v o (some step) = answer (gate (takes p v o step) [])
 
 unfoldable pub pastGate : ℕ → CacheState → Call → Step → CacheOutcome
-pastGate d c q step = settled (answer (ownRows d c q step)) (nodeOf c (numberOf step) q) (stepNext c q step) c
+pastGate d c q step = outcome (answer (ownRows d c q step)) (nodeOf c (numberOf step) q) (stepNext c q step) c
 
 abbrev pub dispatched : ℕ → CacheState → Call → Option Step → CacheOutcome
 dispatched d c q none = answered 1 c

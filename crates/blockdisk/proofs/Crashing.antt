@@ -100,9 +100,6 @@ empty-records-placed d =
       nodes-placed = λ k b. rw (getD-replicate 128 k zeroNodeRecord defaultNodeRecord b) (node-placed-iff d k zeroNodeRecord .1 (λ e. absurd (false≢true e)));
     })
 
-pub empty-disk-form : (d : ℕ) (s : DiskState) → made d ≡ true → diskForm d (crashed s emptyRecords) ≡ true
-empty-disk-form d s on = crashed-form d s emptyRecords on (empty-records-form d) (empty-records-placed d)
-
 pub crash-form-kept : (d : ℕ) (s : DiskState) (o : Records) → answer (crashRows d s o) ≡ 0 → diskForm d (crashed s o) ≡ true
 crash-form-kept d s o e = let c = crash-ok-iff d s o .0 e in crashed-form d s o (c .disk .on) (c .form) (c .placed)
 

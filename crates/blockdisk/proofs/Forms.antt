@@ -24,7 +24,7 @@ use Rattle.disklayout.specs.Layout.{ValidIndirectionTableLocation}
 use Rattle.disklayout.specs.declared.Location.{Location}
 use Rattle.queue.specs.Queue.{requestsForm}
 use Rattle.queue.specs.declared.Requests.{Requests}
-use Rattle.sectortype.specs.Form.{locZero, nodeForm, nodeZero, tableForm}
+use Rattle.sectortype.specs.Form.{locZero, nodeForm, tableForm}
 
 -- a test of the numbers below 2
 pub both : (g : ℕ → Bool) → g 0 ≡ true → g 1 ≡ true → (k : ℕ) → k < 2 → g k ≡ true

@@ -9,11 +9,11 @@ use Rattle.base.specs.Refusals.{answer}
 use Rattle.blockdisk.proofs.Accepting.{AnswerOk, RequestOk, answer-ok-iff, disk-accepted-iff, request-iff}
 use Rattle.blockdisk.proofs.Forms.{DiskForm, node-queue-form, table-queue-form}
 use Rattle.blockdisk.proofs.Outstanding.{places-insert, places-remove}
-use Rattle.blockdisk.proofs.Reading.{node-leaves-tables, node-leaves-upstream, nodes-after, replacing, table-leaves-nodes, tables-after, upstream-after}
+use Rattle.blockdisk.proofs.Reading.{node-leaves-upstream, nodes-after, replacing, table-leaves-nodes, upstream-after}
 use Rattle.blockdisk.specs.Ops.{diskRows, nextDisk, nodePlace, opRows, requestOf, tablePlace, nodeNotStored, tableNotStored}
-use Rattle.blockdisk.specs.Upstream.{Dop, Imap, Variables, diskVars, dopOf, noDiskOp, nodesStored, opOf, places, reqReadIndirectionTable, reqReadNode}
+use Rattle.blockdisk.specs.Upstream.{Dop, Imap, Variables, diskVars, dopOf, noDiskOp, opOf, places, reqReadIndirectionTable, reqReadNode}
 use Rattle.blockdisk.specs.Upstream.{reqWriteIndirectionTable, reqWriteNode, respReadIndirectionTable, respReadNode, respWriteIndirectionTable, respWriteNode, setNodes}
-use Rattle.blockdisk.specs.Upstream.{setReadNodes, setReadTables, setTables, setWriteNodes, setWriteTables, tablesStored, upstreamTables}
+use Rattle.blockdisk.specs.Upstream.{setReadNodes, setReadTables, setTables, setWriteNodes, setWriteTables}
 use Rattle.blockdisk.specs.declared.DiskState.{DiskState}
 use Rattle.blockdisk.specs.declared.DiskCall.{DiskCall}
 use Rattle.blockdisk.specs.declared.DiskOp.{DiskOp}
@@ -39,18 +39,6 @@ nextVars v (respReadNode id n) = setReadNodes v (del (v .reqReadNodes) id)
 nextVars v (respWriteIndirectionTable id) = setWriteTables v (del (v .reqWriteIndirectionTables) id)
 nextVars v (respWriteNode id) = setWriteNodes v (del (v .reqWriteNodes) id)
 nextVars v noDiskOp = v
-
--- the tables as they are stored, not as upstream sees them
-abbrev pub tablesAfter : DiskOp → Table → Imap Table → Imap Table
-tablesAfter (ReqReadIndirectionTableOp id l) t m = m
-tablesAfter (ReqReadNodeOp id l) t m = m
-tablesAfter (ReqWriteIndirectionTableOp id l) t m = replacing m l t
-tablesAfter (ReqWriteNodeOp id l) t m = m
-tablesAfter (RespReadIndirectionTableOp id b) t m = m
-tablesAfter (RespReadNodeOp id b) t m = m
-tablesAfter (RespWriteIndirectionTableOp id) t m = m
-tablesAfter (RespWriteNodeOp id) t m = m
-tablesAfter NoDiskOp t m = m
 
 pub request-places : (q : Requests) (id : ℕ) (l : Location) {allowed : Bool} → requestsForm q ≡ true → RequestOk q id allowed → places (insertOf q (requestOf id l)) ≡ put (places q) id l
 request-places q id l f r = places-insert q id f l (r .room) (r .fresh)
@@ -94,46 +82,5 @@ module _ (d : ℕ) (s : DiskState) (f : DiskForm d s) where
       ap (setWriteNodes (diskVars d s)) (answer-places q id (node-queue-form d q (f .nodewrites)) (answer-ok-iff q id false .0 c))
   op-moves NoDiskOp n t c = refl
 
-  -- the tables as they are stored
-  pub op-tables-move : (op : DiskOp) (n : Node) (t : Table) → Clear (opRows d s op n t) → tablesStored d (nextDisk d s op n t .records) ≡ tablesAfter op t (tablesStored d (s .records))
-  op-tables-move (ReqReadIndirectionTableOp id l) n t c = refl
-  op-tables-move (ReqReadNodeOp id l) n t c = refl
-  op-tables-move (ReqWriteIndirectionTableOp id l) n t c =
-      let r = request-iff (s .queues .tablewrites) id (tablePlace d l) .0 c in
-      tables-after d (s .records) (f .on) (f .form) l t (and-right (made d) (ValidIndirectionTableLocation (deviceOf d) l) (r .ok))
-  op-tables-move (ReqWriteNodeOp id l) n t c = node-leaves-tables d (s .records) l n
-  op-tables-move (RespReadIndirectionTableOp id b) n t c = refl
-  op-tables-move (RespReadNodeOp id b) n t c = refl
-  op-tables-move (RespWriteIndirectionTableOp id) n t c = refl
-  op-tables-move (RespWriteNodeOp id) n t c = refl
-  op-tables-move NoDiskOp n t c = refl
-
--- all six components at once
 pub disk-moves : (d : ℕ) (s : DiskState) (c : DiskCall) → answer (diskRows d s c) ≡ 0 → diskVars d (nextDisk d s (c .op) (c .node) (c .table)) ≡ nextVars (diskVars d s) (dopOf c)
 disk-moves d s c e = let a = disk-accepted-iff d s c .0 e in op-moves d s (a .disk) (c .op) (c .node) (c .table) (a .rows)
-
--- and each by itself
-module _ (d : ℕ) (s : DiskState) (c : DiskCall) (e : answer (diskRows d s c) ≡ 0) where
-  abbrev next : DiskState
-  next = nextDisk d s (c .op) (c .node) (c .table)
-
-  pub table-reads-move : places (next .queues .tablereads) ≡ nextVars (diskVars d s) (dopOf c) .reqReadIndirectionTables
-  table-reads-move = ap (λ v. v .reqReadIndirectionTables) (disk-moves d s c e)
-
-  pub node-reads-move : places (next .queues .nodereads) ≡ nextVars (diskVars d s) (dopOf c) .reqReadNodes
-  node-reads-move = ap (λ v. v .reqReadNodes) (disk-moves d s c e)
-
-  pub table-writes-move : places (next .queues .tablewrites) ≡ nextVars (diskVars d s) (dopOf c) .reqWriteIndirectionTables
-  table-writes-move = ap (λ v. v .reqWriteIndirectionTables) (disk-moves d s c e)
-
-  pub node-writes-move : places (next .queues .nodewrites) ≡ nextVars (diskVars d s) (dopOf c) .reqWriteNodes
-  node-writes-move = ap (λ v. v .reqWriteNodes) (disk-moves d s c e)
-
-  pub tables-move : upstreamTables d (next .records) ≡ nextVars (diskVars d s) (dopOf c) .indirectionTables
-  tables-move = ap (λ v. v .indirectionTables) (disk-moves d s c e)
-
-  pub nodes-move : nodesStored d (next .records) ≡ nextVars (diskVars d s) (dopOf c) .nodes
-  nodes-move = ap (λ v. v .nodes) (disk-moves d s c e)
-
-  pub stored-tables-move : tablesStored d (next .records) ≡ tablesAfter (c .op) (c .table) (tablesStored d (s .records))
-  stored-tables-move = let a = disk-accepted-iff d s c .0 e in op-tables-move d s (a .disk) (c .op) (c .node) (c .table) (a .rows)

@@ -15,7 +15,7 @@ use Rattle.blockdisk.specs.Ops.{requestOf}
 use Rattle.blockdisk.specs.Upstream.{places}
 use Rattle.disklayout.specs.declared.Location.{Location}
 use Rattle.queue.proofs.Laws.{insert-form, insert-map, none-form, remove-form, remove-map, scan-iff}
-use Rattle.queue.proofs.Mapped.{mapped-at, mapped-empty-iff, mapped-has, mapped-insert, mapped-none-iff, mapped-of, mapped-remove, mapped-some}
+use Rattle.queue.proofs.Mapped.{mapped-at, mapped-empty-iff, mapped-has, mapped-insert, mapped-none-iff, mapped-remove, mapped-some}
 use Rattle.queue.specs.Queue.{entryOf, hasAddr, hasOf, insertOf, emptyRequests, removeOf, requestAt, requestsForm, requestsMap}
 use Rattle.queue.specs.declared.Request.{Request}
 use Rattle.queue.specs.declared.Requests.{Requests}
@@ -37,10 +37,6 @@ places-at = mapped-at placeIn
 pub places-some : (q : Requests) (id : ℕ) {l : Location} → places q id ≡ some l → (w : Request) × (requestsMap q id ≡ some w) × (w .loc ≡ l)
 unfolding places
 places-some q id e = mapped-some placeIn q id e
-
-pub places-of : (q : Requests) (id : ℕ) (w : Request) → requestsMap q id ≡ some w → places q id ≡ some (w .loc)
-unfolding places
-places-of = mapped-of placeIn
 
 pub places-none : places emptyRequests ≡ empty
 unfolding places

@@ -1,5 +1,4 @@
 -- By the tests that led to each answer. Assumes nothing.
-use borrow.Author.Needs.{needs}
 use Rattle.base.specs.Refusals.{answer}
 use Rattle.cache.proofs.entry.gate_answer.Statement.{statement}
 use Rattle.cache.proofs.entry.gate_answer.Tie as tie
