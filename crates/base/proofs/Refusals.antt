@@ -8,7 +8,7 @@ use native.Mathlib.Omega.{arith}
 use borrow.Author.Tests.{eq-eqb, eqb-true, leb-false, leb-true, ltb-true, ne-eqb}
 use lib.Dec.{eqb, leb, ltb}
 use Rattle.base.proofs.Tests.{and-left, and-right, clash, or-inr, split}
-use Rattle.base.specs.Refusals.{NoneOf, Row, _when_, answer, ascending, ascendingFrom, holds, lowest}
+use Rattle.base.specs.Refusals.{Row, _when_, answer, ascending, ascendingFrom, holds, lowest}
 
 -- no condition holds
 abbrev pub Clear : List Row → Type 0
@@ -35,10 +35,6 @@ accepted-iff rs t = answer-iff 0 rs t
 pub clear-holds : (rs : List Row) → Clear rs → (k : ℕ) → holds k rs ≡ false
 clear-holds [] c k = refl
 clear-holds ((n when b) ∷ rs) c k = rw (c .0, and-false (eqb n k)) (clear-holds rs (c .1) k)
-
-pub clear-none-of : (ns : List ℕ) (rs : List Row) → Clear rs → NoneOf ns rs
-clear-none-of [] rs c = tt
-clear-none-of (n ∷ ns) rs c = (clear-holds rs c n, clear-none-of ns rs c)
 
 answer-above : (m : ℕ) (rs : List Row) → ascendingFrom m rs ≡ true → (answer rs ≡ 0 → ⊥) → m < answer rs
 unfolding answer

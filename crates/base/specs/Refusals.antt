@@ -2,7 +2,6 @@
 use Prim.Native.Nat.{ℕ}
 use mathlib.Core.Bool.{Bool, _&&_, _||_, cond, false, true}
 use mathlib.Core.List.{List, [], _∷_}
-use mathlib.Core.Path.{_≡_}
 use lib.Dec.{eqb, leb, ltb}
 
 infix 40 _when_
@@ -27,16 +26,6 @@ ascending rs = ascendingFrom 0 rs
 abbrev pub holds : ℕ → List Row → Bool
 holds n [] = false
 holds n ((m when b) ∷ rs) = (eqb m n && b) || holds n rs
-
--- no row with one of these numbers has its condition
-abbrev pub NoneOf : List ℕ → List Row → Type 0
-NoneOf [] rs = Unit {0}
-NoneOf (n ∷ ns) rs = (holds n rs ≡ false) × NoneOf ns rs
-
--- no row has its condition
-abbrev pub clear : List Row → Bool
-clear [] = true
-clear ((n when b) ∷ rs) = cond b false (clear rs)
 
 -- the lower of two answers of which 0 is no refusal: what a call returns that asks two
 abbrev pub lowest : ℕ → ℕ → ℕ

@@ -2,19 +2,21 @@
 use Prim.Native.Nat.{_<_, ℕ}
 use mathlib.Core.Bool.{Bool, _&&_, _||_, false, false≢true, not, true, true≢false}
 use mathlib.Core.Logic.{_↔_}
-use mathlib.Core.Option.{none, some}
-use mathlib.Core.Path.{_∙_, _≡_, ap, refl, sym}
+use mathlib.Core.Option.{some}
+use mathlib.Core.Path.{_∙_, _≡_, refl, sym}
 use lib.Dec.{eqb, ltb}
+use Rattle.base.proofs.Flagged.{flagged-each-iff, flagged-is-iff}
 use Rattle.base.proofs.Scan.{all-at, all-of, none-at, some-of-none}
-use Rattle.base.proofs.Tests.{and-both, and-false-iff, and-iff, and-left, bool-ext, never, not-iff, or-iff, split}
+use Rattle.base.proofs.Tests.{and-both, and-false-iff, and-iff, and-left, bool-ext, eqb-iff, not-iff, or-iff, split}
 use Rattle.base.specs.Maps.{flagged, isSome}
 use Rattle.base.specs.Scan.{allBelow, someBelow}
 use Rattle.blockcache.proofs.Waiting.{write-holds-iff}
-use Rattle.blockcache.specs.Abstract.{writesMap}
+use Rattle.blockcache.specs.Abstract.{awaitedId, writesMap}
 use Rattle.blockcache.specs.Next.{assigned}
-use Rattle.blockcache.specs.Scan.{NoLocation, hasPredecessor, heldIn, listNames, namesAt, needsCached, nodeRejected, tableRejected}
+use Rattle.blockcache.specs.Scan.{hasPredecessor, heldIn, listNames, namesAt, needsCached, nodeRejected, tableRejected}
 use Rattle.blockcache.specs.Upstream.{AllLocationsForDifferentRefsDontOverlap, FrozenLocated, In, LocsValid, NoAddr, NoPredecessors, OutstandingWrite, SameSuccs, WFCompleteIndirectionTable}
 use Rattle.blockcache.specs.Upstream.{WFIndirectionTable, assignRefToLocation}
+use Rattle.blockcache.specs.declared.Awaited.{Awaited}
 use Rattle.blockcache.specs.declared.Tables.{Tables}
 use Rattle.blockdisk.specs.Ops.{somethingIn}
 use Rattle.blockdisk.specs.declared.Brought.{Brought}
@@ -34,20 +36,11 @@ use Rattle.sectortype.specs.declared.Entry.{Entry}
 use Rattle.sectortype.specs.declared.Node.{Node}
 use Rattle.sectortype.specs.declared.Table.{Table}
 
--- A THING WITH A FLAG BESIDE IT
-
-pub flagged-none-iff : {A : Type 0} (b : Bool) (a : A) → (b ≡ false) ↔ (flagged b a ≡ none)
-flagged-none-iff true a = ((λ e. absurd (true≢false e)), (λ e. never (sym e)))
-flagged-none-iff false a = ((λ e. refl), (λ e. refl))
-
--- a statement of what is there
-pub flagged-each-iff : {A : Type 0} (b : Bool) (a : A) (P : A → Type 0) → ((t : A) → flagged b a ≡ some t → P t) ↔ (b ≡ true → P a)
-flagged-each-iff true a P = ((λ h e. h a refl), (λ h t e. let q : a ≡ t = cc in rw (← q) (h refl)))
-flagged-each-iff false a P = ((λ h e. absurd (false≢true e)), (λ h t e. never e))
-
-pub flagged-is-iff : {A : Type 0} (b : Bool) (a v : A) → (flagged b a ≡ some v) ↔ ((b ≡ true) × (a ≡ v))
-flagged-is-iff true a v = ((λ e. (refl, cc)), (λ (t, e). ap some e))
-flagged-is-iff false a v = ((λ e. never e), (λ (t, e). absurd (false≢true t)))
+-- the id that is awaited
+pub awaits-iff : (a : Awaited) (id : ℕ) → ((a .waiting && eqb (a .id) id) ≡ true) ↔ (awaitedId a ≡ some id)
+awaits-iff a id =
+    let is = flagged-is-iff (a .waiting) (a .id) id in
+    ((λ e. is .1 (simp (and-iff, eqb-iff) at e)), (λ e. simp (and-iff, eqb-iff) (is .0 e)))
 
 -- ADDRESSES
 
@@ -88,16 +81,16 @@ has-predecessor-iff t f r = (
       (λ i b. list-names (entryAt t i) r ∙ and-false-iff (entryAt t i .allocated) (hasSucc (entryAt t i .succs) r) .1 (λ a. h i (entryAt t i .succs) (graph-at t i a)))),
 )
 
--- 11 of a table write: graph.Keys <= locs.Keys
-pub no-location-iff : (t : Table) → tableForm t ≡ true → (NoLocation t ≡ false) ↔ ((r : ℕ) → In r (graphOf t) → In r (locsOf t))
-unfolding NoLocation
-no-location-iff t f = (
-  (λ e r a. let al = sym (in-graph t r) ∙ a in
-      let b = graph-bounded t f r (entryAt t r .succs) (graph-at t r al) in
-      in-locs t r ∙ not-iff (locatedIn t r) .0 (and-false-iff (allocatedIn t r) (not (locatedIn t r)) .0 (none-at (λ r. allocatedIn t r && not (locatedIn t r)) 64 r e b) al)),
-  (λ h. some-of-none (λ r. allocatedIn t r && not (locatedIn t r)) 64
-      (λ r b. and-false-iff (allocatedIn t r) (not (locatedIn t r)) .1 (λ a. not-iff (locatedIn t r) .1 (sym (in-locs t r) ∙ h r (in-graph t r ∙ a))))),
+-- 11 of a table write, and a part of the complete table: graph.Keys <= locs.Keys
+pub locs-complete-iff : (t : Table) → tableForm t ≡ true → (LocsComplete t ≡ true) ↔ ((r : ℕ) → In r (graphOf t) → In r (locsOf t))
+unfolding LocsComplete
+locs-complete-iff t f = (
+  (λ e r g. let a = sym (in-graph t r) ∙ g in in-locs t r ∙ rw a at (all-at complete 64 r e (graph-bounded t f r (entryAt t r .succs) (graph-at t r a)))),
+  (λ h. all-of complete 64 (λ r b. split (allocatedIn t r) (λ y. rw y (sym (in-locs t r) ∙ h r (in-graph t r ∙ y))) (λ y. rw y))),
 )
+  where
+    complete : ℕ → Bool
+    complete r = not (allocatedIn t r) || locatedIn t r
 
 -- 11, FZ
 pub needs-cached-iff : (ts : Tables) (r : ℕ) → (needsCached ts r ≡ false) ↔ FrozenLocated (flagged (ts .isfrozen) (indirectionTable (ts .frozen))) r
@@ -134,24 +127,19 @@ module _ (d : ℕ) (on : made d ≡ true) (t : Table) (f : tableForm t ≡ true)
   )
 
   pub complete-test-iff : (completeTest d t ≡ true) ↔ WFCompleteIndirectionTable d (indirectionTable t)
-  unfolding completeTest LocsComplete
+  unfolding completeTest
   complete-test-iff = (
-    (λ e. let h = and-iff (tableTest d t) (allBelow complete 64) .0 e in
+    (λ e. let h = and-iff (tableTest d t) (LocsComplete t) .0 e in
         let w = table-test-iff .0 (h .0) in
         record {
           valid = w .valid;
-          keys = λ r. bool-ext (isSome (graphOf t r)) (isSome (locsOf t r))
-              (λ g. let a = sym (in-graph t r) ∙ g in in-locs t r ∙ rw a at (all-at complete 64 r (h .1) (graph-bounded t f r (entryAt t r .succs) (graph-at t r a))))
-              (w .keys r);
+          keys = λ r. bool-ext (isSome (graphOf t r)) (isSome (locsOf t r)) (locs-complete-iff t f .0 (h .1) r) (w .keys r);
           root = w .root;
           graphClosed = w .graphClosed;
         }),
     (λ w. and-both (table-test-iff .1 (record { valid = w .valid; keys = λ r l. w .keys r ∙ l; root = w .root; graphClosed = w .graphClosed }))
-        (all-of complete 64 (λ r b. split (allocatedIn t r) (λ y. rw y (sym (in-locs t r) ∙ sym (w .keys r) ∙ in-graph t r ∙ y)) (λ y. rw y)))),
+        (locs-complete-iff t f .1 (λ r g. sym (w .keys r) ∙ g))),
   )
-    where
-      complete : ℕ → Bool
-      complete r = not (allocatedIn t r) || locatedIn t r
 
 -- 9 of a table's page-in
 pub table-rejected-iff : (d : ℕ) (on : made d ≡ true) (b : Brought) (t : Table) → tableForm t ≡ true →

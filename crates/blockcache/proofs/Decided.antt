@@ -7,10 +7,9 @@ use mathlib.Core.Path.{_∙_, _≡_, ap, refl, sym}
 use native.Mathlib.Omega.{arith}
 use borrow.Author.Tests.{eqb-true}
 use lib.Dec.{eqb, leb}
-use Rattle.sectortype.proofs.Rows.{flagged-ext}
+use Rattle.base.proofs.Flagged.{flagged-ext, flagged-none-iff}
 use Rattle.base.proofs.Tests.{and-iff, and-right, not-true-iff, or-true-iff}
 use Rattle.base.specs.Maps.{empty}
-use Rattle.blockcache.proofs.Bridge.{flagged-none-iff}
 use Rattle.blockcache.proofs.Forms.{CacheForm, Idle, cache-form-iff, frozen-empty, idle-iff, no-nodes-map, reads-form-iff, reads-requests, writes-form-iff, writes-requests}
 use Rattle.blockcache.proofs.InvLaws.{ready-ext}
 use Rattle.blockcache.proofs.Waiting.{reads-empty-iff, writes-empty-iff}

@@ -4,7 +4,7 @@ use Prim.Native.Nat.{ℕ}
 use mathlib.Core.Bool.{false, true}
 use mathlib.Core.Logic.{_↔_}
 use mathlib.Core.Option.{some}
-use mathlib.Core.Path.{_≡_, refl, subst, sym}
+use mathlib.Core.Path.{_≡_, refl, subst}
 use Rattle.base.proofs.Refusals.{Clear}
 use Rattle.base.proofs.Tests.{or-iff}
 use Rattle.base.specs.Refusals.{answer}
@@ -12,7 +12,7 @@ use Rattle.blockcache.proofs.EveryStep.{exact}
 use Rattle.blockcache.proofs.Forms.{well-formed-iff, WellFormed}
 use Rattle.blockcache.proofs.Frames.{frame, gate-iff, Next}
 use Rattle.blockcache.proofs.GraphSteps.{read-cached}
-use Rattle.blockcache.proofs.Numbers.{call-accepted-iff, limits-iff}
+use Rattle.blockcache.proofs.Numbers.{call-accepted-iff, limits-iff, number-decides}
 use Rattle.blockcache.specs.Abstract.{Allowed, cacheVars, callOp, readyVars}
 use Rattle.blockcache.specs.Form.{isReady}
 use Rattle.blockcache.specs.Narrowings.{narrowed, narrowedOf, stepNarrowed}
@@ -68,9 +68,7 @@ pub cache-read : (d : ℕ) (c : CacheState) (q : Call) → answer (cacheRows d c
 unfolding stepOf steps
 cache-read d c q e =
     let x = call-accepted-iff d c 17 q .0 e in
-    let is : some readStep ≡ some (x .step) = x .is in
-    let same : readStep ≡ x .step = cc in
-    let k : Clear (stepRows d c q readStep) = subst (λ s. Clear (stepRows d c q s)) (sym same) (x .clear) in
+    let k : Clear (stepRows d c q readStep) = subst (λ s. Clear (stepRows d c q s)) (number-decides 17 (x .step) readStep (x .is) refl) (x .clear) in
     let h = gate-iff (takes (c .phase) (q .vop) (q .dop) readStep) (ownRows d c q readStep) .0 k in
     (h .0 .2, refl, read-cached d c q (x .form) (h .1))
 

@@ -12,7 +12,7 @@ use Rattle.base.proofs.Tests.{not-iff, split}
 use Rattle.base.specs.Refusals.{_when_, ascending}
 use Rattle.blockcache.proofs.Bridge.{assigned-form}
 use Rattle.blockcache.proofs.FormLaws.{assigned-absent, cached-slot-form, empty-cache-form, loading-form, received-form, unlocated-form, with-awaited-form, with-ephemeral-form}
-use Rattle.blockcache.proofs.FormLaws.{with-nodes-form, with-places-form, with-reads-form, with-tables-form, with-writes-form, zero-entry-form, zero-slot-form}
+use Rattle.blockcache.proofs.FormLaws.{with-nodes-form, with-places-form, with-reads-form, with-tables-form, with-writes-form}
 use Rattle.blockcache.proofs.Forms.{CacheForm, frozen-empty, Idle, idle-iff, loading-idle, read-ref-bounded, reads-insert-form, reads-remove-form, ready-form, WellFormed}
 use Rattle.blockcache.proofs.Forms.{writes-insert-form, writes-remove-form}
 use Rattle.blockcache.proofs.Frames.{Exact, Open}
@@ -24,7 +24,7 @@ use Rattle.blockcache.proofs.OtherSteps.{clean-up-exact, crash-exact, f
 use Rattle.blockcache.proofs.ReadSteps.{page-in-node-req-exact, page-in-node-resp-exact, page-in-table-req-exact, page-in-table-resp-exact, receive-loc-exact}
 use Rattle.blockcache.proofs.WriteSteps.{write-back-node-req-exact, write-back-node-resp-exact, write-back-table-req-exact, write-back-table-resp-exact}
 use Rattle.blockcache.specs.Form.{isReady, loadingPhase, notWaiting}
-use Rattle.blockcache.specs.Next.{assigned, cachedSlot, stepNext, unlocated, waitingFor, withAwaited, withEphemeral, withNodes, withPlaces, withTables, withWrites}
+use Rattle.blockcache.specs.Next.{assigned, cachedSlot, nodeSet, stepNext, unlocated, waitingFor, withAwaited, withEphemeral, withNodes, withPlaces, withTables, withWrites}
 use Rattle.blockcache.specs.NextStep.{NextStep, OnBoth}
 use Rattle.blockcache.specs.Ops.{dopId, dopLoc, vopLoc}
 use Rattle.blockcache.specs.Rows.{ownRows, stepRows}
@@ -45,7 +45,7 @@ use Rattle.disklayout.specs.declared.Location.{Location}
 use Rattle.queue.specs.Queue.{entryOf, hasOf, insertOf, removeOf}
 use Rattle.queue.specs.declared.Request.{Request}
 use Rattle.queue.specs.declared.Requests.{Requests}
-use Rattle.sectortype.proofs.Forms.{empty-table-form, with-entry-form, with-slot-form}
+use Rattle.sectortype.proofs.Forms.{empty-table-form, with-entry-form, with-slot-form, zero-entry-form, zero-slot-form}
 use Rattle.sectortype.specs.Form.{emptyTable, withEntry, withSlot, zeroEntry, zeroSlot}
 use Rattle.sectortype.specs.declared.Node.{Node}
 use Rattle.sectortype.specs.declared.Table.{Table}
@@ -180,7 +180,7 @@ module _ (d : ℕ) (c : CacheState) (q : Call) (w : WellFormed d c q) where
           }
 
   -- Dirty and Alloc
-  set-node-form : isReady c ≡ true → CacheForm (stepNext c q dirtyStep)
+  set-node-form : isReady c ≡ true → CacheForm (nodeSet c q)
   set-node-form ok =
       let t = withEntry table r (unlocated (q .node .succs)) in
       let e = with-ephemeral-form c f ok t (with-entry-form table r (unlocated (q .node .succs)) (f .tables .ephemeral) (w .call .reference) (unlocated-form (q .node) (w .call .node))) in

@@ -2,7 +2,8 @@
 use Prim.Native.Nat.{_<_, ℕ}
 use mathlib.Core.Bool.{false, false≢true, true}
 use mathlib.Core.Path.{_∙_, _≡_, refl, sym}
-use Rattle.blockcache.proofs.Forms.{CacheForm, count-none-at, empty-reads-form, empty-writes-form, OutstandingForm, ready-form, TablesForm}
+use Rattle.base.proofs.Scan.{count-zero-at}
+use Rattle.blockcache.proofs.Forms.{CacheForm, empty-reads-form, empty-writes-form, OutstandingForm, ready-form, TablesForm}
 use Rattle.blockcache.specs.Form.{awaitedForm, emptyCache, formIn, idle, isReady, loadingAt, loadingPhase, phaseForm, placesForm, readsForm, writesForm}
 use Rattle.blockcache.specs.Next.{assigned, cachedSlot, unlocated, withAwaited, withEphemeral, withNodes, withOutstanding, withPlaces, withReads, withTables, withWrites}
 use Rattle.blockcache.specs.declared.Awaited.{Awaited}
@@ -15,19 +16,13 @@ use Rattle.blockcache.specs.declared.Tables.{Tables}
 use Rattle.disklayout.specs.Calls.{zeroLoc}
 use Rattle.disklayout.specs.declared.Location.{Location}
 use Rattle.queue.specs.declared.Requests.{Requests}
-use Rattle.sectortype.proofs.Forms.{empty-nodes-form, empty-table-form, table-iff, zero-succs-form}
-use Rattle.sectortype.specs.Form.{allocatedAt, entryAt, entryForm, nodeForm, nodesForm, slotForm, tableForm, zeroEntry, zeroSlot}
+use Rattle.sectortype.proofs.Forms.{empty-nodes-form, empty-table-form, table-iff}
+use Rattle.sectortype.specs.Form.{allocatedAt, entryAt, entryForm, nodeForm, nodesForm, slotForm, tableForm}
 use Rattle.sectortype.specs.declared.Node.{Node}
 use Rattle.sectortype.specs.declared.Nodes.{Nodes}
 use Rattle.sectortype.specs.declared.Table.{Table}
 
 -- A PLACE SET
-
-pub zero-entry-form : entryForm zeroEntry ≡ true
-zero-entry-form = rw zero-succs-form
-
-pub zero-slot-form : slotForm zeroSlot ≡ true
-zero-slot-form = rw zero-succs-form
 
 pub unlocated-form : (n : Node) → nodeForm n ≡ true → entryForm (unlocated (n .succs)) ≡ true
 unlocated-form n g = rw g
@@ -39,7 +34,7 @@ cached-slot-form n g = rw g
 pub assigned-absent : (t : Table) (r : ℕ) (l : Location) → tableForm t ≡ true → r < 64 → t .count ≡ 0 → assigned t r l ≡ t
 unfolding assigned
 assigned-absent t r l f b z =
-    let a : entryAt t r .allocated ≡ false = count-none-at (allocatedAt (t .entries)) 64 (sym (table-iff t .0 f .1 .0) ∙ z) r b in rw a
+    let a : entryAt t r .allocated ≡ false = count-zero-at (allocatedAt (t .entries)) 64 r (sym (table-iff t .0 f .1 .0) ∙ z) b in rw a
 
 -- BEFORE READY
 

@@ -1,17 +1,15 @@
 -- What the cache's written form says, part by part, and what it is for a call to be in its written form. Assumes nothing.
-use Prim.Native.Nat.{_+_, _<_, _≤_, suc, zero, ℕ}
-use mathlib.Core.Bool.{Bool, _||_, false, false≢true, true}
+use Prim.Native.Nat.{_<_, _≤_, ℕ}
+use mathlib.Core.Bool.{_||_, false, false≢true, true}
 use mathlib.Core.Logic.{_↔_}
 use mathlib.Core.Option.{some}
 use mathlib.Core.Path.{_∙_, _≡_, ap, fun-ext, refl, sym}
-use native.Mathlib.Nat.{not-suc-le-zero}
 use native.Mathlib.Omega.{arith}
 use borrow.Author.Tests.{eqb-true, le-leb, leb-true}
 use lib.Dec.{eqb, leb}
-use Rattle.base.proofs.Scan.{below-or-last}
+use Rattle.base.proofs.Scan.{count-zero-at}
 use Rattle.base.proofs.Tests.{and-iff, and-left, clash, eqb-iff, never, not-true-iff, or-true-iff, split}
 use Rattle.base.specs.Maps.{empty}
-use Rattle.base.specs.Scan.{countBelow}
 use Rattle.blockcache.specs.Form.{awaitedForm, cacheForm, formIn, idle, isReady, loadingPhase, phaseForm, placesForm, readOk, readsForm, readyPhase, writeOk, writesForm}
 use Rattle.blockcache.specs.Step.{wellFormed}
 use Rattle.blockcache.specs.declared.CacheState.{CacheState}
@@ -166,15 +164,6 @@ ready-form c r = go (c .phase) r
     go PhaseLoading r = absurd (false≢true r)
     go PhaseReady r = refl
 
--- a count of 0 counts nothing
-pub count-none-at : (g : ℕ → Bool) (n : ℕ) → countBelow g n ≡ 0 → (k : ℕ) → k < n → g k ≡ false
-unfolding countBelow
-count-none-at g zero e k b = absurd (not-suc-le-zero b)
-count-none-at g (suc n) e k b =
-    let z : countBelow g n ≡ 0 = omega arith in
-    below-or-last k n b (λ t. count-none-at g n z k t)
-    (λ h. rw h (split (g n) (λ t. absurd (let w : countBelow g n + 1 ≡ 0 = rw t at e in omega arith)) (λ t. t)))
-
 -- nothing is cached
 pub no-nodes-map : (m : Nodes) → nodesForm m ≡ true → m .count ≡ 0 → nodesMap m ≡ empty
 unfolding nodesMap
@@ -183,7 +172,7 @@ no-nodes-map m f z =
     (λ r. split (slotAt m r .present)
     (λ t. let u = nodes-iff m .0 f in
     let b : r < 64 = nodes-bounded m f r (slotAt m r .node) (nodes-at m r t) in
-    clash {b = slotAt m r .present} t (count-none-at (presentAt (m .slots)) 64 (sym (u .1 .0) ∙ z) r b))
+    clash {b = slotAt m r .present} t (count-zero-at (presentAt (m .slots)) 64 r (sym (u .1 .0) ∙ z) b))
     (λ t. rw t))
 
 -- A CALL

@@ -4,13 +4,12 @@ use mathlib.Core.Bool.{_&&_, _||_, and-false, Bool, false, false≢true, or-fals
 use mathlib.Core.Logic.{_↔_}
 use mathlib.Core.Option.{some}
 use mathlib.Core.Path.{_∙_, _≡_, refl, sym}
-use borrow.Author.Tests.{eq-eqb}
 use lib.Dec.{eqb}
-use Rattle.base.proofs.Tests.{and-both, and-iff, and-left, and-right, clash, eqb-iff, split}
-use Rattle.blockcache.proofs.Bridge.{flagged-is-iff}
+use Rattle.base.proofs.Tests.{and-both, and-left, and-right, clash, split}
+use Rattle.blockcache.proofs.Bridge.{awaits-iff}
 use Rattle.blockcache.proofs.OpKinds.{on-ready-iff}
 use Rattle.blockcache.proofs.Waiting.{writes-has}
-use Rattle.blockcache.specs.Abstract.{awaitedId, cacheVars}
+use Rattle.blockcache.specs.Abstract.{cacheVars}
 use Rattle.blockcache.specs.Form.{isReady}
 use Rattle.blockcache.specs.Ops.{dopId, dopKind, nodeReadResp, nodeWriteResp, noDop, tableReadResp, tableWriteResp}
 use Rattle.blockcache.specs.Upstream.{AwaitsNodeWrite, AwaitsTableWrite, IdleOp, In}
@@ -33,10 +32,7 @@ both-fail-iff a b h = (
 pub awaits-table-iff : (c : CacheState) (id : ℕ) → ((isReady c && (c .awaited .waiting && eqb (c .awaited .id) id)) ≡ false) ↔ (AwaitsTableWrite (cacheVars c) id → ⊥)
 awaits-table-iff c id =
     let on = on-ready-iff c (λ x. x .outstandingIndirectionTableWrite ≡ some id) in
-    let is = flagged-is-iff (c .awaited .waiting) (c .awaited .id) id in
-    let t : ((c .awaited .waiting && eqb (c .awaited .id) id) ≡ true) ↔ (awaitedId (c .awaited) ≡ some id) =
-    ((λ e. let h = simp (and-iff, eqb-iff) at e in is .1 (h .0, h .1)), (λ e. let h = is .0 e in and-both (h .0) (eq-eqb (c .awaited .id) id (h .1)))) in
-    let k = both-fail-iff (isReady c) (c .awaited .waiting && eqb (c .awaited .id) id) t in
+    let k = both-fail-iff (isReady c) (c .awaited .waiting && eqb (c .awaited .id) id) (awaits-iff (c .awaited) id) in
     ((λ e x. k .0 e (on .0 x)), (λ h. k .1 (λ y. h (on .1 y))))
 
 pub awaits-node-iff : (c : CacheState) (id : ℕ) → ((isReady c && hasOf (c .outstanding .writes) id) ≡ false) ↔ (AwaitsNodeWrite (cacheVars c) id → ⊥)

@@ -5,10 +5,10 @@ use mathlib.Core.Option.{none, some}
 use mathlib.Core.Path.{_∙_, _≡_, ap, sym}
 use borrow.Author.Tests.{eqb-false, eqb-true}
 use lib.Dec.{eqb}
-use Rattle.base.proofs.Maps.{del-other, del-some, put-some}
+use Rattle.base.proofs.Maps.{del-absent, del-in, del-other, del-some, in-del, in-put, in-put-same, put-in, put-none, put-some}
 use Rattle.base.proofs.Tests.{clash, none-iff, split}
 use Rattle.base.specs.Maps.{Map, del, isSome, put}
-use Rattle.blockcache.proofs.InvLaws.{del-absent, in-del, in-del-other, in-put, in-put-old, in-put-same, put-none, ready-ext, setEphemeral, table-is}
+use Rattle.blockcache.proofs.InvLaws.{ready-ext, setEphemeral, table-is}
 use Rattle.blockcache.specs.Upstream.{Alloc, BlockPointsToValidReferences, Dirty, Evict, In, OutstandingWrite, Ready, SameSuccs, Unalloc, WFIndirectionTable, setCache}
 use Rattle.blockcache.specs.UpstreamInv.{CacheConsistentWithSuccessors, EphemeralTableEntriesInCacheOrNotBeingWritten, IndirectionTableCacheConsistent, InvFrozen, InvReady}
 use Rattle.disklayout.specs.declared.Location.{Location}
@@ -25,7 +25,7 @@ frozen-uncached d t cache writes ref located i =
       wf = i .wf;
       consistent = λ j g. split (eqb j ref)
           (λ y. let q : j ≡ ref = eqb-true j ref y in inr (rw q (located (rw q at g))))
-          (λ y. ⊎-elim (λ x. inl (in-del-other cache ref j (eqb-false j ref y) x)) (λ x. inr x) (i .consistent j g));
+          (λ y. ⊎-elim (λ x. inl (in-del cache ref j (eqb-false j ref y) x)) (λ x. inr x) (i .consistent j g));
       overlapping = i .overlapping;
       distinct = i .distinct;
     }
@@ -61,11 +61,11 @@ module _ (d : ℕ) (s s' : Ready) (ref : ℕ) (v : InvReady d s) (u : Unalloc s 
   without-wf =
       record {
         valid = λ j l e. v .ephemeral .wf .valid j l (del-some locs ref j e .1);
-        keys = λ j i. let h = in-del locs ref j i in in-del-other graph ref j (h .0) (v .ephemeral .wf .keys j (h .1));
-        root = in-del-other graph ref 0 (λ q. u .not-root (sym q)) (v .ephemeral .wf .root);
+        keys = λ j i. let h = del-in locs ref j i in in-del graph ref j (h .0) (v .ephemeral .wf .keys j (h .1));
+        root = in-del graph ref 0 (λ q. u .not-root (sym q)) (v .ephemeral .wf .root);
         graphClosed = λ j list e k m.
             let h = del-some graph ref j e .1 in
-            in-del-other graph ref k (λ q. clash {b = hasSucc list ref} (rw q at m) (u .no-predecessors j list h)) (v .ephemeral .wf .graphClosed j list h k m);
+            in-del graph ref k (λ q. clash {b = hasSucc list ref} (rw q at m) (u .no-predecessors j list h)) (v .ephemeral .wf .graphClosed j list h k m);
       }
 
   pub unalloc-kept : InvReady d (setEphemeral s (record { locs = del locs ref; graph = del graph ref }) (del nodes ref))
@@ -74,9 +74,9 @@ module _ (d : ℕ) (s s' : Ready) (ref : ℕ) (v : InvReady d s) (u : Unalloc s 
         persistent = v .persistent;
         ephemeral = record {
           wf = without-wf;
-          consistent = λ j i. let h = in-del graph ref j i in ⊎-elim (λ x. inl (in-del-other nodes ref j (h .0) x)) (λ x. inr (in-del-other locs ref j (h .0) x)) (v .ephemeral .consistent j (h .1));
+          consistent = λ j i. let h = del-in graph ref j i in ⊎-elim (λ x. inl (in-del nodes ref j (h .0) x)) (λ x. inr (in-del locs ref j (h .0) x)) (v .ephemeral .consistent j (h .1));
           successors = λ j n list m e. v .ephemeral .successors j n list (del-some nodes ref j m .1) (del-some graph ref j e .1);
-          not-written = λ j i a k w m l e. let h = in-del graph ref j i in v .ephemeral .not-written j (h .1) (sym (del-other nodes ref j (h .0)) ∙ a) k w m l (del-some locs ref j e .1);
+          not-written = λ j i a k w m l e. let h = del-in graph ref j i in v .ephemeral .not-written j (h .1) (sym (del-other nodes ref j (h .0)) ∙ a) k w m l (del-some locs ref j e .1);
           overlapping = λ j l e. v .ephemeral .overlapping j l (del-some locs ref j e .1);
           distinct = λ i j l k e m. v .ephemeral .distinct i j l k (del-some locs ref i e .1) (del-some locs ref j m .1);
         };
@@ -112,7 +112,7 @@ module _ (d : ℕ) (s s' : Ready) (ref : ℕ) (v : InvReady d s) (u : Evict s s'
           wf = v .ephemeral .wf;
           consistent = λ j i. split (eqb j ref)
               (λ y. let q : j ≡ ref = eqb-true j ref y in inr (rw q (u .located (rw q at i))))
-              (λ y. ⊎-elim (λ x. inl (in-del-other (s .cache) ref j (eqb-false j ref y) x)) (λ x. inr x) (v .ephemeral .consistent j i));
+              (λ y. ⊎-elim (λ x. inl (in-del (s .cache) ref j (eqb-false j ref y) x)) (λ x. inr x) (v .ephemeral .consistent j i));
           successors = λ j n list m e. v .ephemeral .successors j n list (del-some (s .cache) ref j m .1) e;
           not-written = not-written-after;
           overlapping = v .ephemeral .overlapping;
@@ -143,7 +143,7 @@ module _ (d : ℕ) (s : Ready) (ref : ℕ) (list : Succs) (block : Node) (v : In
   set-wf =
       record {
         valid = λ j l e. v .ephemeral .wf .valid j l (del-some locs' ref j e .1);
-        keys = λ j i. in-put graph' ref list j (v .ephemeral .wf .keys j (in-del locs' ref j i .1));
+        keys = λ j i. in-put graph' ref list j (v .ephemeral .wf .keys j (del-in locs' ref j i .1));
         root = in-put graph' ref list 0 (v .ephemeral .wf .root);
         graphClosed = λ j l e k m.
             in-put graph' ref list k
@@ -155,7 +155,7 @@ module _ (d : ℕ) (s : Ready) (ref : ℕ) (list : Succs) (block : Node) (v : In
       split (eqb j ref)
       (λ y. let q : j ≡ ref = eqb-true j ref y in inl (rw q (in-put-same nodes' ref block)))
       (λ y. let ne = eqb-false j ref y in
-      ⊎-elim (λ x. inl (in-put nodes' ref block j x)) (λ x. inr (in-del-other locs' ref j ne x)) (v .ephemeral .consistent j (in-put-old graph' ref list j ne i)))
+      ⊎-elim (λ x. inl (in-put nodes' ref block j x)) (λ x. inr (in-del locs' ref j ne x)) (v .ephemeral .consistent j (put-in graph' ref list j ne i)))
 
   set-successors : CacheConsistentWithSuccessors (put nodes' ref block) (put graph' ref list)
   set-successors j n l m e k =
@@ -172,7 +172,7 @@ module _ (d : ℕ) (s : Ready) (ref : ℕ) (list : Succs) (block : Node) (v : In
           wf = set-wf;
           consistent = set-consistent;
           successors = set-successors;
-          not-written = λ j i a k w m l e. let h = put-none nodes' ref block j a in v .ephemeral .not-written j (in-put-old graph' ref list j (h .0) i) (h .1) k w m l (del-some locs' ref j e .1);
+          not-written = λ j i a k w m l e. let h = put-none nodes' ref block j a in v .ephemeral .not-written j (put-in graph' ref list j (h .0) i) (h .1) k w m l (del-some locs' ref j e .1);
           overlapping = λ j l e. v .ephemeral .overlapping j l (del-some locs' ref j e .1);
           distinct = λ i j l k e m. v .ephemeral .distinct i j l k (del-some locs' ref i e .1) (del-some locs' ref j m .1);
         };

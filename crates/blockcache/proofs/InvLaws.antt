@@ -1,15 +1,12 @@
--- Laws of maps that upstream's Inv stands on: keys after a put and a del, a reference that is given a location, and states by their parts.
--- Assumes nothing.
+-- Laws that upstream's Inv stands on: a reference that is given a location, and states by their parts. Assumes nothing.
 use Prim.Native.Nat.{ℕ}
-use mathlib.Core.Bool.{_&&_, false, not, true}
+use mathlib.Core.Bool.{Bool, _&&_, not, true}
 use mathlib.Core.Logic.{_⊎_, inl, inr, ⊎-elim}
 use mathlib.Core.Option.{none, some}
-use mathlib.Core.Path.{_∙_, _≡_, ap, fun-ext, refl, sym}
-use borrow.Author.Tests.{eqb-false, eqb-true}
-use lib.Dec.{eqb}
-use Rattle.base.proofs.Maps.{del-other, del-some, put-other, put-same, put-some}
-use Rattle.base.proofs.Tests.{and-left, and-right, bool-ext, clash, never, not-true-iff, some-iff, split}
-use Rattle.base.specs.Maps.{Map, del, isSome, put}
+use mathlib.Core.Path.{_∙_, _≡_, ap, refl, sym}
+use Rattle.base.proofs.Maps.{in-of, not-both, put-other, put-some, some-of}
+use Rattle.base.proofs.Tests.{and-iff, bool-ext, none-iff, not-true-iff, split}
+use Rattle.base.specs.Maps.{Map, isSome, put}
 use Rattle.blockcache.specs.Upstream.{AllLocationsForDifferentRefsDontOverlap, In, NoAddr, OutstandingWrite, Ready, WFCompleteIndirectionTable, WFIndirectionTable, assignRefToLocation}
 use Rattle.blockcache.specs.UpstreamInv.{IndirectionTableCacheConsistent, OverlappingWritesEqForIndirectionTable}
 use Rattle.disklayout.specs.Device.{deviceOf}
@@ -18,62 +15,40 @@ use Rattle.disklayout.specs.declared.Location.{Location}
 use Rattle.sectortype.specs.Abstract.{IndirectionTable}
 use Rattle.sectortype.specs.declared.Node.{Node}
 
--- KEYS
-
-module _ {A : Type 0} (m : Map A) (k : ℕ) where
-  pub in-of : (j : ℕ) {a : A} → m j ≡ some a → In j m
-  in-of j e = rw e
-
-  pub in-put : (v : A) (j : ℕ) → In j m → In j (put m k v)
-  unfolding put
-  in-put v j i = split (eqb j k) (λ t. rw t) (λ t. rw t i)
-
-  pub in-put-same : (v : A) → In k (put m k v)
-  in-put-same v = rw (put-same m k v)
-
-  pub in-put-old : (v : A) (j : ℕ) → (j ≡ k → ⊥) → In j (put m k v) → In j m
-  in-put-old v j ne i = rw (put-other m k v j ne) at i
-
-  pub in-del : (j : ℕ) → In j (del m k) → (j ≡ k → ⊥) × In j m
-  in-del j i = let a = some-iff (del m k j) .0 i in let h = del-some m k j (a .1) in (h .0, in-of j (h .1))
-
-  pub in-del-other : (j : ℕ) → (j ≡ k → ⊥) → In j m → In j (del m k)
-  in-del-other j ne i = rw (del-other m k j ne) i
-
-  -- a key that a put map lacks
-  pub put-none : (v : A) (j : ℕ) → put m k v j ≡ none → (j ≡ k → ⊥) × (m j ≡ none)
-  unfolding put
-  put-none v j e = split (eqb j k) (λ t. never (sym (rw t at e))) (λ t. (eqb-false j k t, rw t at e))
-
-  pub del-absent : m k ≡ none → del m k ≡ m
-  unfolding del
-  del-absent e = fun-ext (λ j. split (eqb j k) (λ t. let q : j ≡ k = eqb-true j k t in cc) (λ t. rw t))
-
 -- A LOCATION GIVEN
 
 module _ (t : IndirectionTable) (r : ℕ) (l : Location) where
   abbrev t' : IndirectionTable
   t' = assignRefToLocation t r l
 
+  -- the reference is in the graph, without a location
+  abbrev lacks : Bool
+  lacks = isSome (t .graph r) && not (isSome (t .locs r))
+
+  lacking : lacks ≡ true → In r (t .graph) × (t .locs r ≡ none)
+  lacking y = let h = and-iff (isSome (t .graph r)) (not (isSome (t .locs r))) .0 y in (h .0, none-iff (t .locs r) .0 (not-true-iff (isSome (t .locs r)) .0 (h .1)))
+
   -- a location of the table after it: one from before, or the one given
-  pub assign-some : (j : ℕ) (k : Location) → t' .locs j ≡ some k → (t .locs j ≡ some k) ⊎ ((j ≡ r) × (l ≡ k) × In r (t .graph))
+  pub assign-some : (j : ℕ) (k : Location) → t' .locs j ≡ some k → (t .locs j ≡ some k) ⊎ ((j ≡ r) × (l ≡ k) × In r (t .graph) × (t .locs r ≡ none))
   unfolding assignRefToLocation
   assign-some j k e =
-      split (isSome (t .graph r) && not (isSome (t .locs r)))
-      (λ y. ⊎-elim (λ x. inr (x .0, x .1, and-left (isSome (t .graph r)) (not (isSome (t .locs r))) y)) (λ x. inl (x .1)) (put-some (t .locs) r l j (rw y at e)))
-      (λ y. inl (rw y at e))
+      split lacks (λ y. let h = lacking y in ⊎-elim (λ x. inr (x .0, x .1, h .0, h .1)) (λ x. inl (x .1)) (put-some (t .locs) r l j (rw y at e))) (λ y. inl (rw y at e))
 
   -- what had a location keeps it
   pub assign-kept : (j : ℕ) → In j (t .locs) → t' .locs j ≡ t .locs j
   unfolding assignRefToLocation
-  assign-kept j i =
-      split (isSome (t .graph r) && not (isSome (t .locs r)))
-      (λ y. let absent : isSome (t .locs r) ≡ false = not-true-iff (isSome (t .locs r)) .0 (and-right (isSome (t .graph r)) (not (isSome (t .locs r))) y) in
-      rw y (put-other (t .locs) r l j (λ q. clash {b = isSome (t .locs r)} (rw q at i) absent)))
-      (λ y. rw y)
+  assign-kept j i = split lacks (λ y. rw y (put-other (t .locs) r l j (λ q. not-both (t .locs) r (rw q at i) (lacking y .1)))) (λ y. rw y)
 
   pub assign-in : (j : ℕ) → In j (t .locs) → In j (t' .locs)
   assign-in j i = rw (assign-kept j i) i
+
+  pub assign-none : (j : ℕ) → t' .locs j ≡ none → t .locs j ≡ none
+  assign-none j e = none-iff (t .locs j) .0 (split (isSome (t .locs j)) (λ i. not-both (t' .locs) j (assign-in j i) e) (λ y. y))
+
+  -- a table that has all its locations stays as it is
+  pub assign-full : ((k : ℕ) → isSome (t .graph k) ≡ isSome (t .locs k)) → t' ≡ t
+  unfolding assignRefToLocation
+  assign-full h = split lacks (λ y. let m = lacking y in not-both (t .locs) r (sym (h r) ∙ m .0) (m .1)) (λ y. rw y)
 
   pub assign-graph : t' .graph ≡ t .graph
   unfolding assignRefToLocation
@@ -84,7 +59,7 @@ module _ (t : IndirectionTable) (r : ℕ) (l : Location) where
   assign-wf d ok w =
       record {
         valid = λ j k e. ⊎-elim (λ h. w .valid j k h) (λ h. rw (h .1) at ok) (assign-some j k e);
-        keys = λ j i. let a = some-iff (t' .locs j) .0 i in ⊎-elim (λ h. w .keys j (in-of (t .locs) r j h)) (λ h. rw (h .0) (h .2)) (assign-some j (a .0) (a .1));
+        keys = λ j i. let a = some-of (t' .locs) j i in ⊎-elim (λ h. w .keys j (in-of (t .locs) j h)) (λ h. rw (h .0) (h .2)) (assign-some j (a .0) (a .1));
         root = w .root;
         graphClosed = w .graphClosed;
       }
@@ -95,7 +70,7 @@ module _ (t : IndirectionTable) (r : ℕ) (l : Location) where
       record {
         valid = λ j k e. ⊎-elim (λ h. w .valid j k h) (λ h. rw (h .1) at ok) (assign-some j k e);
         keys = λ j. bool-ext (isSome (t .graph j)) (isSome (t' .locs j)) (λ i. assign-in j (sym (w .keys j) ∙ i))
-            (λ i. let a = some-iff (t' .locs j) .0 i in ⊎-elim (λ h. w .keys j ∙ in-of (t .locs) r j h) (λ h. rw (h .0) (h .2)) (assign-some j (a .0) (a .1)));
+            (λ i. let a = some-of (t' .locs) j i in ⊎-elim (λ h. w .keys j ∙ in-of (t .locs) j h) (λ h. rw (h .0) (h .2)) (assign-some j (a .0) (a .1)));
         root = w .root;
         graphClosed = w .graphClosed;
       }

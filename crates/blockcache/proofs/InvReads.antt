@@ -4,10 +4,10 @@ use mathlib.Core.Bool.{true}
 use mathlib.Core.Logic.{inl, inr, ⊎-elim}
 use mathlib.Core.Option.{Option, none, some}
 use mathlib.Core.Path.{_∙_, _≡_, ap, subst, sym}
-use Rattle.base.proofs.Maps.{del-some, put-some}
+use Rattle.base.proofs.Maps.{del-some, in-put, put-none, put-some}
 use Rattle.base.proofs.Tests.{never}
 use Rattle.base.specs.Maps.{Map, del, empty, put}
-use Rattle.blockcache.proofs.InvLaws.{in-put, put-none, ready-ext}
+use Rattle.blockcache.proofs.InvLaws.{ready-ext}
 use Rattle.blockcache.specs.Form.{idle}
 use Rattle.blockcache.specs.Upstream.{AllLocationsForDifferentRefsDontOverlap, CleanUp, PageInIndirectionTableResp, PageInNodeReq, PageInNodeResp, Ready, WFCompleteIndirectionTable}
 use Rattle.blockcache.specs.Upstream.{setCache, setLocs, setReads, setTables}

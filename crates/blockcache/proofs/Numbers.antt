@@ -15,7 +15,7 @@ use Rattle.base.proofs.Tests.{and-both, and-iff, and-left, and-right, never, no
 use Rattle.base.specs.Lists.{nth}
 use Rattle.base.specs.Maps.{isSome}
 use Rattle.base.specs.Refusals.{_when_, answer, ascending}
-use Rattle.blockcache.proofs.EveryStep.{rows-ascend}
+use Rattle.blockcache.proofs.EveryStep.{number-of-step, rows-ascend}
 use Rattle.blockcache.proofs.Forms.{well-formed-iff, WellFormed}
 use Rattle.blockcache.specs.Rows.{stepRows}
 use Rattle.blockcache.specs.Step.{cacheRows, outsideLimits, rowsOf, wellFormed}
@@ -84,6 +84,10 @@ pub step-of-number : (n : ℕ) (step : Step) → stepOf n ≡ some step → n �
 unfolding stepOf
 step-of-number zero step e = never e
 step-of-number (suc k) step e = let h : numberOf step ≡ 1 + k = nth-number steps 1 k step steps-numbered e in omega arith
+
+-- the step whose number it is
+pub number-decides : (n : ℕ) (step k : Step) → stepOf n ≡ some step → eqb n (numberOf k) ≡ true → step ≡ k
+number-decides n step k e t = let h : stepOf n ≡ some k = ap stepOf (eqb-true n (numberOf k) t) ∙ number-of-step k in cc
 
 -- A CALL THAT IS ACCEPTED
 

@@ -39,15 +39,15 @@ use Rattle.sectortype.specs.declared.Table.{Table}
 -- the operation of a kind, with what it carries
 abbrev vopFrom : ℕ → Location → Bool → VersionOp
 vopFrom k l b =
-    cond (eqb k 1) StatesInternalOp
-    (cond (eqb k 2) JournalInternalOp
-    (cond (eqb k 3) (SendPersistentLocOp l)
-    (cond (eqb k 4) (SendFrozenLocOp l)
-    (cond (eqb k 5) (AdvanceOp b)
-    (cond (eqb k 6) FreezeOp
-    (cond (eqb k 7) CleanUpOp
-    (cond (eqb k 8) PushSyncOp
-    (cond (eqb k 9) PopSyncOp CrashOp))))))))
+    cond (eqb k internal) StatesInternalOp
+    (cond (eqb k journalInternal) JournalInternalOp
+    (cond (eqb k sendPersistentLoc) (SendPersistentLocOp l)
+    (cond (eqb k sendFrozenLoc) (SendFrozenLocOp l)
+    (cond (eqb k advance) (AdvanceOp b)
+    (cond (eqb k freeze) FreezeOp
+    (cond (eqb k cleanUp) CleanUpOp
+    (cond (eqb k pushSync) PushSyncOp
+    (cond (eqb k popSync) PopSyncOp CrashOp))))))))
 
 vop-from : (v : VersionOp) → v ≡ vopFrom (vopKind v) (vopLoc v) (vopNoOp v)
 vop-from StatesInternalOp = refl
@@ -66,30 +66,30 @@ module _ (v : VersionOp) where
   vop-is k e = vop-from v ∙ ap (λ j. vopFrom j (vopLoc v) (vopNoOp v)) (eqb-true (vopKind v) k e)
 
   pub internal-iff : (eqb (vopKind v) internal ≡ true) ↔ (v ≡ StatesInternalOp)
-  internal-iff = (vop-is 1, λ e. rw e)
+  internal-iff = (vop-is internal, λ e. rw e)
 
   pub freeze-iff : (eqb (vopKind v) freeze ≡ true) ↔ (v ≡ FreezeOp)
-  freeze-iff = (vop-is 6, λ e. rw e)
+  freeze-iff = (vop-is freeze, λ e. rw e)
 
   pub clean-up-iff : (eqb (vopKind v) cleanUp ≡ true) ↔ (v ≡ CleanUpOp)
-  clean-up-iff = (vop-is 7, λ e. rw e)
+  clean-up-iff = (vop-is cleanUp, λ e. rw e)
 
   pub crash-op-iff : (eqb (vopKind v) crash ≡ true) ↔ (v ≡ CrashOp)
-  crash-op-iff = (vop-is 10, λ e. rw e)
+  crash-op-iff = (vop-is crash, λ e. rw e)
 
   pub advance-iff : (eqb (vopKind v) advance ≡ true) ↔ ((b : Bool) × (v ≡ AdvanceOp b))
-  advance-iff = ((λ e. (vopNoOp v, vop-is 5 e)), (λ (b, e). rw e))
+  advance-iff = ((λ e. (vopNoOp v, vop-is advance e)), (λ (b, e). rw e))
 
   pub send-persistent-iff : (P : Location → Type 0) → ((l : Location) × (v ≡ SendPersistentLocOp l) × P l) ↔ ((eqb (vopKind v) sendPersistentLoc ≡ true) × P (vopLoc v))
   send-persistent-iff P = (
     (λ (l, e, p). (rw e, let q : l ≡ vopLoc v = rw e in rw q at p)),
-    (λ (k, p). (vopLoc v, vop-is 3 k, p)),
+    (λ (k, p). (vopLoc v, vop-is sendPersistentLoc k, p)),
   )
 
   pub send-frozen-iff : (P : Location → Type 0) → ((l : Location) × (v ≡ SendFrozenLocOp l) × P l) ↔ ((eqb (vopKind v) sendFrozenLoc ≡ true) × P (vopLoc v))
   send-frozen-iff P = (
     (λ (l, e, p). (rw e, let q : l ≡ vopLoc v = rw e in rw q at p)),
-    (λ (k, p). (vopLoc v, vop-is 4 k, p)),
+    (λ (k, p). (vopLoc v, vop-is sendFrozenLoc k, p)),
   )
 
 pub no-op-iff : (v : VersionOp) → (vopNoOp v ≡ true) ↔ (v ≡ AdvanceOp true)
@@ -127,25 +127,25 @@ idle-vop-iff v = (to v, ⊎-elim (λ e. rw e) (⊎-elim (λ e. rw e) (⊎-elim (
 
 abbrev dopFrom : ℕ → ℕ → Location → Brought → Node → Table → Dop
 dopFrom k id l b n t =
-    cond (eqb k 1) (reqReadIndirectionTable id l)
-    (cond (eqb k 2) (reqReadNode id l)
-    (cond (eqb k 3) (reqWriteIndirectionTable id l (indirectionTable t))
-    (cond (eqb k 4) (reqWriteNode id l n)
-    (cond (eqb k 5) (respReadIndirectionTable id (flagged (somethingIn b) (indirectionTable t)))
-    (cond (eqb k 6) (respReadNode id (flagged (somethingIn b) n))
-    (cond (eqb k 7) (respWriteIndirectionTable id)
-    (cond (eqb k 8) (respWriteNode id) noDiskOp)))))))
+    cond (eqb k tableReadReq) (reqReadIndirectionTable id l)
+    (cond (eqb k nodeReadReq) (reqReadNode id l)
+    (cond (eqb k tableWriteReq) (reqWriteIndirectionTable id l (indirectionTable t))
+    (cond (eqb k nodeWriteReq) (reqWriteNode id l n)
+    (cond (eqb k tableReadResp) (respReadIndirectionTable id (flagged (somethingIn b) (indirectionTable t)))
+    (cond (eqb k nodeReadResp) (respReadNode id (flagged (somethingIn b) n))
+    (cond (eqb k tableWriteResp) (respWriteIndirectionTable id)
+    (cond (eqb k nodeWriteResp) (respWriteNode id) noDiskOp)))))))
 
 abbrev kindOf : Dop → ℕ
-kindOf (reqReadIndirectionTable id l) = 1
-kindOf (reqReadNode id l) = 2
-kindOf (reqWriteIndirectionTable id l t) = 3
-kindOf (reqWriteNode id l n) = 4
-kindOf (respReadIndirectionTable id t) = 5
-kindOf (respReadNode id n) = 6
-kindOf (respWriteIndirectionTable id) = 7
-kindOf (respWriteNode id) = 8
-kindOf noDiskOp = 0
+kindOf (reqReadIndirectionTable id l) = tableReadReq
+kindOf (reqReadNode id l) = nodeReadReq
+kindOf (reqWriteIndirectionTable id l t) = tableWriteReq
+kindOf (reqWriteNode id l n) = nodeWriteReq
+kindOf (respReadIndirectionTable id t) = tableReadResp
+kindOf (respReadNode id n) = nodeReadResp
+kindOf (respWriteIndirectionTable id) = tableWriteResp
+kindOf (respWriteNode id) = nodeWriteResp
+kindOf noDiskOp = noDop
 
 dop-from : (op : DiskOp) (n : Node) (t : Table) → opOf op n t ≡ dopFrom (dopKind op) (dopId op) (dopLoc op) (dopBrought op) n t
 dop-from (ReqReadIndirectionTableOp id l) n t = refl
@@ -178,73 +178,73 @@ module _ (op : DiskOp) (n : Node) (t : Table) where
   kind-of k o e q = eq-eqb (dopKind op) k (sym (dop-kind op n t) ∙ ap kindOf e ∙ q)
 
   pub no-disk-op-iff : (eqb (dopKind op) noDop ≡ true) ↔ (opOf op n t ≡ noDiskOp)
-  no-disk-op-iff = (dop-is 0, λ e. kind-of 0 noDiskOp e refl)
+  no-disk-op-iff = (dop-is noDop, λ e. kind-of noDop noDiskOp e refl)
 
   pub req-read-table-iff : (P : ℕ → Location → Type 0) → OnReqReadIndirectionTable (opOf op n t) P ↔ ((eqb (dopKind op) tableReadReq ≡ true) × P (dopId op) (dopLoc op))
   req-read-table-iff P = (
-    (λ (id, l, e, p). let k = kind-of 1 (reqReadIndirectionTable id l) e refl in
-        let f : opOf op n t ≡ reqReadIndirectionTable (dopId op) (dopLoc op) = dop-is 1 k in
+    (λ (id, l, e, p). let k = kind-of tableReadReq (reqReadIndirectionTable id l) e refl in
+        let f : opOf op n t ≡ reqReadIndirectionTable (dopId op) (dopLoc op) = dop-is tableReadReq k in
         let a : id ≡ dopId op = cc in let b : l ≡ dopLoc op = cc in (k, rw (a, b) at p)),
-    (λ (k, p). (dopId op, dopLoc op, dop-is 1 k, p)),
+    (λ (k, p). (dopId op, dopLoc op, dop-is tableReadReq k, p)),
   )
 
   pub req-read-node-iff : (P : ℕ → Location → Type 0) → OnReqReadNode (opOf op n t) P ↔ ((eqb (dopKind op) nodeReadReq ≡ true) × P (dopId op) (dopLoc op))
   req-read-node-iff P = (
-    (λ (id, l, e, p). let k = kind-of 2 (reqReadNode id l) e refl in
-        let f : opOf op n t ≡ reqReadNode (dopId op) (dopLoc op) = dop-is 2 k in
+    (λ (id, l, e, p). let k = kind-of nodeReadReq (reqReadNode id l) e refl in
+        let f : opOf op n t ≡ reqReadNode (dopId op) (dopLoc op) = dop-is nodeReadReq k in
         let a : id ≡ dopId op = cc in let b : l ≡ dopLoc op = cc in (k, rw (a, b) at p)),
-    (λ (k, p). (dopId op, dopLoc op, dop-is 2 k, p)),
+    (λ (k, p). (dopId op, dopLoc op, dop-is nodeReadReq k, p)),
   )
 
   pub req-write-table-iff : (P : ℕ → Location → IndirectionTable → Type 0) →
       OnReqWriteIndirectionTable (opOf op n t) P ↔ ((eqb (dopKind op) tableWriteReq ≡ true) × P (dopId op) (dopLoc op) (indirectionTable t))
   req-write-table-iff P = (
-    (λ (id, l, u, e, p). let k = kind-of 3 (reqWriteIndirectionTable id l u) e refl in
-        let f : opOf op n t ≡ reqWriteIndirectionTable (dopId op) (dopLoc op) (indirectionTable t) = dop-is 3 k in
+    (λ (id, l, u, e, p). let k = kind-of tableWriteReq (reqWriteIndirectionTable id l u) e refl in
+        let f : opOf op n t ≡ reqWriteIndirectionTable (dopId op) (dopLoc op) (indirectionTable t) = dop-is tableWriteReq k in
         let a : id ≡ dopId op = cc in let b : l ≡ dopLoc op = cc in let g : u ≡ indirectionTable t = cc in (k, rw (a, b, g) at p)),
-    (λ (k, p). (dopId op, dopLoc op, indirectionTable t, dop-is 3 k, p)),
+    (λ (k, p). (dopId op, dopLoc op, indirectionTable t, dop-is tableWriteReq k, p)),
   )
 
   pub req-write-node-iff : (P : ℕ → Location → Node → Type 0) → OnReqWriteNode (opOf op n t) P ↔ ((eqb (dopKind op) nodeWriteReq ≡ true) × P (dopId op) (dopLoc op) n)
   req-write-node-iff P = (
-    (λ (id, l, m, e, p). let k = kind-of 4 (reqWriteNode id l m) e refl in
-        let f : opOf op n t ≡ reqWriteNode (dopId op) (dopLoc op) n = dop-is 4 k in
+    (λ (id, l, m, e, p). let k = kind-of nodeWriteReq (reqWriteNode id l m) e refl in
+        let f : opOf op n t ≡ reqWriteNode (dopId op) (dopLoc op) n = dop-is nodeWriteReq k in
         let a : id ≡ dopId op = cc in let b : l ≡ dopLoc op = cc in let g : m ≡ n = cc in (k, rw (a, b, g) at p)),
-    (λ (k, p). (dopId op, dopLoc op, n, dop-is 4 k, p)),
+    (λ (k, p). (dopId op, dopLoc op, n, dop-is nodeWriteReq k, p)),
   )
 
   pub resp-read-table-iff : (P : ℕ → Option IndirectionTable → Type 0) →
       OnRespReadIndirectionTable (opOf op n t) P ↔ ((eqb (dopKind op) tableReadResp ≡ true) × P (dopId op) (flagged (somethingIn (dopBrought op)) (indirectionTable t)))
   resp-read-table-iff P = (
-    (λ (id, u, e, p). let k = kind-of 5 (respReadIndirectionTable id u) e refl in
-        let f : opOf op n t ≡ respReadIndirectionTable (dopId op) (flagged (somethingIn (dopBrought op)) (indirectionTable t)) = dop-is 5 k in
+    (λ (id, u, e, p). let k = kind-of tableReadResp (respReadIndirectionTable id u) e refl in
+        let f : opOf op n t ≡ respReadIndirectionTable (dopId op) (flagged (somethingIn (dopBrought op)) (indirectionTable t)) = dop-is tableReadResp k in
         let a : id ≡ dopId op = cc in let b : u ≡ flagged (somethingIn (dopBrought op)) (indirectionTable t) = cc in (k, rw (a, b) at p)),
-    (λ (k, p). (dopId op, flagged (somethingIn (dopBrought op)) (indirectionTable t), dop-is 5 k, p)),
+    (λ (k, p). (dopId op, flagged (somethingIn (dopBrought op)) (indirectionTable t), dop-is tableReadResp k, p)),
   )
 
   pub resp-read-node-iff : (P : ℕ → Option Node → Type 0) →
       OnRespReadNode (opOf op n t) P ↔ ((eqb (dopKind op) nodeReadResp ≡ true) × P (dopId op) (flagged (somethingIn (dopBrought op)) n))
   resp-read-node-iff P = (
-    (λ (id, u, e, p). let k = kind-of 6 (respReadNode id u) e refl in
-        let f : opOf op n t ≡ respReadNode (dopId op) (flagged (somethingIn (dopBrought op)) n) = dop-is 6 k in
+    (λ (id, u, e, p). let k = kind-of nodeReadResp (respReadNode id u) e refl in
+        let f : opOf op n t ≡ respReadNode (dopId op) (flagged (somethingIn (dopBrought op)) n) = dop-is nodeReadResp k in
         let a : id ≡ dopId op = cc in let b : u ≡ flagged (somethingIn (dopBrought op)) n = cc in (k, rw (a, b) at p)),
-    (λ (k, p). (dopId op, flagged (somethingIn (dopBrought op)) n, dop-is 6 k, p)),
+    (λ (k, p). (dopId op, flagged (somethingIn (dopBrought op)) n, dop-is nodeReadResp k, p)),
   )
 
   pub resp-write-table-iff : (P : ℕ → Type 0) → OnRespWriteIndirectionTable (opOf op n t) P ↔ ((eqb (dopKind op) tableWriteResp ≡ true) × P (dopId op))
   resp-write-table-iff P = (
-    (λ (id, e, p). let k = kind-of 7 (respWriteIndirectionTable id) e refl in
-        let f : opOf op n t ≡ respWriteIndirectionTable (dopId op) = dop-is 7 k in
+    (λ (id, e, p). let k = kind-of tableWriteResp (respWriteIndirectionTable id) e refl in
+        let f : opOf op n t ≡ respWriteIndirectionTable (dopId op) = dop-is tableWriteResp k in
         let a : id ≡ dopId op = cc in (k, rw a at p)),
-    (λ (k, p). (dopId op, dop-is 7 k, p)),
+    (λ (k, p). (dopId op, dop-is tableWriteResp k, p)),
   )
 
   pub resp-write-node-iff : (P : ℕ → Type 0) → OnRespWriteNode (opOf op n t) P ↔ ((eqb (dopKind op) nodeWriteResp ≡ true) × P (dopId op))
   resp-write-node-iff P = (
-    (λ (id, e, p). let k = kind-of 8 (respWriteNode id) e refl in
-        let f : opOf op n t ≡ respWriteNode (dopId op) = dop-is 8 k in
+    (λ (id, e, p). let k = kind-of nodeWriteResp (respWriteNode id) e refl in
+        let f : opOf op n t ≡ respWriteNode (dopId op) = dop-is nodeWriteResp k in
         let a : id ≡ dopId op = cc in (k, rw a at p)),
-    (λ (k, p). (dopId op, dop-is 8 k, p)),
+    (λ (k, p). (dopId op, dop-is nodeWriteResp k, p)),
   )
 
 -- THE PHASE

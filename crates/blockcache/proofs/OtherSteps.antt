@@ -1,9 +1,9 @@
 -- Steps 12 to 14 and 18: accepted exactly where upstream allows them. Assumes nothing.
 use Prim.Native.Nat.{ℕ}
 use mathlib.Core.Path.{refl}
+use Rattle.base.proofs.Flagged.{flagged-is-iff, flagged-none-iff}
 use Rattle.base.proofs.Tests.{not-iff, or-iff}
-use Rattle.blockcache.proofs.Bridge.{flagged-is-iff, flagged-none-iff}
-use Rattle.blockcache.proofs.Forms.{CacheForm, WellFormed}
+use Rattle.blockcache.proofs.Forms.{WellFormed}
 use Rattle.blockcache.proofs.Frames.{Complete, Exact, Sound}
 use Rattle.blockcache.proofs.IdleOps.{idle-kind, idle-op}
 use Rattle.blockcache.proofs.OpKinds.{on-ready-iff}
@@ -16,12 +16,6 @@ use Rattle.blockcache.specs.declared.Call.{Call}
 use Rattle.sectortype.specs.Abstract.{indirectionTable}
 
 module _ (d : ℕ) (c : CacheState) (q : Call) (w : WellFormed d c q) where
-  abbrev r : ℕ
-  r = q .reference
-
-  abbrev f : CacheForm c
-  f = w .form
-
   -- Freeze
 
   freeze-sound : Sound d c q freezeStep

@@ -3,12 +3,12 @@ use Prim.Native.Nat.{ℕ}
 use mathlib.Core.Bool.{Bool, _||_, false, not, true}
 use mathlib.Core.Option.{some}
 use mathlib.Core.Path.{_∙_, _≡_, ap, refl, subst, sym}
-use borrow.Author.Tests.{eq-eqb, eqb-true, leb-false}
-use lib.Dec.{eqb}
+use borrow.Author.Tests.{leb-false}
+use Rattle.base.proofs.Flagged.{flagged-is-iff, flagged-none-iff}
 use Rattle.base.proofs.Refusals.{Clear}
-use Rattle.base.proofs.Tests.{and-both, and-false-iff, and-iff, and-right, none-iff, not-iff, or-iff}
+use Rattle.base.proofs.Tests.{and-both, and-false-iff, and-right, none-iff, not-iff, or-iff}
 use Rattle.base.specs.Maps.{flagged, isSome}
-use Rattle.blockcache.proofs.Bridge.{flagged-is-iff, flagged-none-iff, node-rejected-iff, table-rejected-iff}
+use Rattle.blockcache.proofs.Bridge.{awaits-iff, node-rejected-iff, table-rejected-iff}
 use Rattle.blockcache.proofs.Forms.{CacheForm, WellFormed, loading-idle, no-nodes-map, read-ref-bounded, reads-requests, writes-requests}
 use Rattle.blockcache.proofs.Frames.{Complete, Exact, Sound}
 use Rattle.blockcache.proofs.OpKinds.{loading-is, on-ready-iff, unready-iff}
@@ -26,17 +26,16 @@ use Rattle.blockcache.specs.declared.Call.{Call}
 use Rattle.blockdisk.specs.Ops.{somethingIn}
 use Rattle.blockdisk.specs.declared.Brought.{Brought}
 use Rattle.disklayout.specs.Device.{deviceOf, made}
-use Rattle.disklayout.specs.Layout.{ValidIndirectionTableLocation}
+use Rattle.disklayout.specs.Layout.{ValidIndirectionTableLocation, sameLoc}
 use Rattle.disklayout.specs.declared.Location.{Location}
 use Rattle.queue.specs.Queue.{entryOf, hasOf}
 use Rattle.queue.specs.declared.Requests.{Requests}
 use Rattle.disklayout.specs.Calls.{zeroLoc}
-use Rattle.sectortype.proofs.Equal.{same-loc-iff}
+use Rattle.disklayout.proofs.Facts.{same-loc-iff}
 use Rattle.sectortype.proofs.Maps.{graph-at, graph-some, in-graph, in-nodes, locs-at, locs-some, nodes-put}
 use Rattle.sectortype.specs.Abstract.{indirectionTable, nodesMap}
 use Rattle.sectortype.specs.Form.{entryAt, slotAt}
 use Rattle.sectortype.specs.Graph.{hasSucc}
-use Rattle.sectortype.specs.Same.{sameLoc}
 use Rattle.sectortype.specs.declared.Entry.{Entry}
 use Rattle.sectortype.specs.declared.Node.{Node}
 use Rattle.sectortype.specs.declared.Table.{Table}
@@ -195,7 +194,6 @@ module _ (d : ℕ) (c : CacheState) (q : Call) (w : WellFormed d c q) where
   page-in-table-resp-sound : Sound d c q pageInIndirectionTableRespStep
   page-in-table-resp-sound taken k =
       let h = simp not-iff at k in
-      let wait = and-iff (c .awaited .waiting) (eqb (c .awaited .id) id) .0 (h .0) in
       let w = table-rejected-iff d (w .on) brings (q .table) (w .call .table) .0 (h .1 .0) in
       let i = loading-idle c (f .phase) (taken .2) in (
         readyVars (stepNext c q pageInIndirectionTableRespStep),
@@ -205,7 +203,7 @@ module _ (d : ℕ) (c : CacheState) (q : Call) (w : WellFormed d c q) where
           table = flagged-is-iff (somethingIn brings) (indirectionTable (q .table)) (indirectionTable (q .table)) .1 (w .0, refl);
           wf = w .1 .0;
           distinct = w .1 .1;
-          awaited = flagged-is-iff (c .awaited .waiting) (c .awaited .id) id .1 (wait .0, eqb-true (c .awaited .id) id (wait .1));
+          awaited = awaits-iff (c .awaited) id .0 (h .0);
           persistentIndirectionTable' = refl;
           frozenIndirectionTable' = refl;
           ephemeralIndirectionTable' = refl;
@@ -220,13 +218,12 @@ module _ (d : ℕ) (c : CacheState) (q : Call) (w : WellFormed d c q) where
 
   page-in-table-resp-complete : Complete d c q pageInIndirectionTableRespStep
   page-in-table-resp-complete s' ns (y, e, p) =
-      let wait = flagged-is-iff (c .awaited .waiting) (c .awaited .id) id .0 (p .awaited) in
       let something = flagged-is-iff (somethingIn brings) (indirectionTable (q .table)) (p .t) .0 (p .table) in
       let e : indirectionTable (q .table) ≡ p .t = something .1 in
       let wf : WFCompleteIndirectionTable d (indirectionTable (q .table)) = subst (λ x. WFCompleteIndirectionTable d x) (sym e) (p .wf) in
       let distinct : AllLocationsForDifferentRefsDontOverlap (indirectionTable (q .table)) = subst (λ x. AllLocationsForDifferentRefsDontOverlap x) (sym e) (p .distinct) in
       simp not-iff (
-        and-both (wait .0) (eq-eqb (c .awaited .id) id (wait .1)),
+        awaits-iff (c .awaited) id .1 (p .awaited),
         (table-rejected-iff d (w .on) brings (q .table) (w .call .table) .1 (something .0, (wf, distinct)), tt),
       )
 

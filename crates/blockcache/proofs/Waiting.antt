@@ -17,8 +17,8 @@ use Rattle.queue.proofs.Mapped.{mapped-at, mapped-empty-iff, mapped-has, mapped
 use Rattle.queue.specs.Queue.{entryOf, hasAddr, hasOf, insertOf, removeOf, requestAt, requestsForm}
 use Rattle.queue.specs.declared.Request.{Request}
 use Rattle.queue.specs.declared.Requests.{Requests}
-use Rattle.sectortype.proofs.Equal.{same-loc-iff}
-use Rattle.sectortype.specs.Same.{sameLoc}
+use Rattle.disklayout.proofs.Facts.{same-loc-iff}
+use Rattle.disklayout.specs.Layout.{sameLoc}
 
 -- THE WRITES
 

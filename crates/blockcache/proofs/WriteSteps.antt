@@ -5,10 +5,10 @@ use mathlib.Core.Logic.{_↔_}
 use mathlib.Core.Option.{some}
 use mathlib.Core.Path.{_∙_, _≡_, ap, refl, sym}
 use borrow.Author.Tests.{eq-eqb, eqb-true, leb-false}
-use lib.Dec.{eqb}
+use Rattle.base.proofs.Flagged.{flagged-each-iff, flagged-is-iff, flagged-none-iff}
 use Rattle.base.proofs.Refusals.{Clear}
 use Rattle.base.proofs.Tests.{and-both, and-false-iff, and-iff, and-right, not-iff, or-iff}
-use Rattle.blockcache.proofs.Bridge.{assigned-is, flagged-each-iff, flagged-is-iff, flagged-none-iff, held-iff, no-location-iff}
+use Rattle.blockcache.proofs.Bridge.{assigned-is, awaits-iff, held-iff, locs-complete-iff}
 use Rattle.blockcache.proofs.Forms.{CacheForm, WellFormed, writes-requests}
 use Rattle.blockcache.proofs.Frames.{Complete, Exact, Sound}
 use Rattle.blockcache.proofs.OpKinds.{on-ready-iff}
@@ -25,14 +25,14 @@ use Rattle.blockcache.specs.Upstream.{assignRefToLocation, setWrites}
 use Rattle.blockcache.specs.declared.CacheState.{CacheState}
 use Rattle.blockcache.specs.declared.Call.{Call}
 use Rattle.disklayout.specs.Device.{deviceOf, made}
-use Rattle.disklayout.specs.Layout.{ValidIndirectionTableLocation, ValidNodeLocation}
+use Rattle.disklayout.specs.Layout.{ValidIndirectionTableLocation, ValidNodeLocation, sameLoc}
 use Rattle.disklayout.specs.declared.Location.{Location}
 use Rattle.queue.specs.declared.Requests.{Requests}
-use Rattle.sectortype.proofs.Equal.{same-loc-iff, same-node-iff, same-table-iff, table-abstract}
+use Rattle.disklayout.proofs.Facts.{same-loc-iff}
+use Rattle.sectortype.proofs.Equal.{same-node-iff, same-table-iff, table-abstract}
 use Rattle.sectortype.proofs.Maps.{nodes-at, nodes-form-at, nodes-some}
 use Rattle.sectortype.specs.Abstract.{indirectionTable}
 use Rattle.sectortype.specs.Form.{nodeForm, slotAt}
-use Rattle.sectortype.specs.Same.{sameLoc}
 use Rattle.sectortype.specs.declared.Slot.{Slot}
 use Rattle.sectortype.specs.declared.Table.{Table}
 
@@ -160,7 +160,7 @@ module _ (d : ℕ) (c : CacheState) (q : Call) (w : WellFormed d c q) where
         record {
           valid = and-right (made d) (ValidIndirectionTableLocation (deviceOf d) loc) (place .0);
           frozen = flagged-is-iff (c .tables .isfrozen) (indirectionTable frozen) (indirectionTable (q .table)) .1 (frz .0 .0, ap indirectionTable same);
-          complete = rw same at (no-location-iff frozen (f .tables .frozen) .0 (frz .0 .1));
+          complete = rw same at (locs-complete-iff frozen (f .tables .frozen) .0 (frz .0 .1));
           no-writes = writes-empty-iff writes (writes-requests c f) .0 (eqb-true (writes .count) 0 (h .1 .1 .0));
           no-loc = flagged-none-iff (c .places .isfrozen) (c .places .frozen) .0 (frz .1);
           apart = place .1 (w .on);
@@ -178,7 +178,7 @@ module _ (d : ℕ) (c : CacheState) (q : Call) (w : WellFormed d c q) where
           (λ e. same-table-iff frozen (q .table) (f .tables .frozen) (w .call .table) .1 same),
           (
             eq-eqb (writes .count) 0 (writes-empty-iff writes (writes-requests c f) .1 (p .no-writes)),
-            (((z .0, no-location-iff frozen (f .tables .frozen) .1 (rw same (p .complete))), flagged-none-iff (c .places .isfrozen) (c .places .frozen) .1 (p .no-loc)), tt),
+            (((z .0, locs-complete-iff frozen (f .tables .frozen) .1 (rw same (p .complete))), flagged-none-iff (c .places .isfrozen) (c .places .frozen) .1 (p .no-loc)), tt),
           ),
         ),
       )
@@ -195,23 +195,21 @@ module _ (d : ℕ) (c : CacheState) (q : Call) (w : WellFormed d c q) where
   write-back-table-resp-sound taken k =
       let h = simp not-iff at k in
       let ready = taken .2 in
-      let wait = and-iff (c .awaited .waiting) (eqb (c .awaited .id) id) .0 (h .0) in
       let place = and-iff (c .places .isfrozen) (sameLoc (c .places .frozen) vloc) .0 (h .1 .0) in
       on-ready-iff (stepNext c q writeBackIndirectionTableRespStep) (λ y. WriteBackIndirectionTableResp (readyVars c) y id vloc) .1 (
         ready,
         record {
           frozen-loc = sym (flagged-is-iff (c .places .isfrozen) (c .places .frozen) vloc .1 (place .0, same-loc-iff (c .places .frozen) vloc .0 (place .1)));
-          awaited = flagged-is-iff (c .awaited .waiting) (c .awaited .id) id .1 (wait .0, eqb-true (c .awaited .id) id (wait .1));
+          awaited = awaits-iff (c .awaited) id .0 (h .0);
           next = refl;
         },
       )
 
   write-back-table-resp-complete : Complete d c q writeBackIndirectionTableRespStep
   write-back-table-resp-complete s' ns (y, e, p) =
-      let wait = flagged-is-iff (c .awaited .waiting) (c .awaited .id) id .0 (p .awaited) in
       let place = flagged-is-iff (c .places .isfrozen) (c .places .frozen) vloc .0 (sym (p .frozen-loc)) in
       simp not-iff
-      (and-both (wait .0) (eq-eqb (c .awaited .id) id (wait .1)), (and-both (place .0) (same-loc-iff (c .places .frozen) vloc .1 (place .1)), tt))
+      (awaits-iff (c .awaited) id .1 (p .awaited), (and-both (place .0) (same-loc-iff (c .places .frozen) vloc .1 (place .1)), tt))
 
   pub write-back-table-resp-exact : Exact d c q writeBackIndirectionTableRespStep
   write-back-table-resp-exact = record { sound = write-back-table-resp-sound; complete = write-back-table-resp-complete; free = λ k. refl }

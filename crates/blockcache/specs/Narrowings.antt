@@ -27,6 +27,6 @@ module _ (c : CacheState) (q : Call) where
   narrowedOf none = false
   narrowedOf (some step) = stepNarrowed step
 
--- 1, which limits-iff and step-number (proofs/Numbers.antt) say in document 01's words, and those of the step
+-- 1, which well-formed-iff (proofs/Forms.antt) and step-number (proofs/Numbers.antt) say part by part, and those of the step
 unfoldable pub narrowed : ℕ → CacheState → ℕ → Call → Bool
 narrowed d c n q = outsideLimits d c n q || narrowedOf c q (stepOf n)

@@ -88,8 +88,8 @@ module _ (c : CacheState) (q : Call) where
   loc = dopLoc (q .dop)
 
   -- a reference's node set, by Dirty and Alloc
-  abbrev withNode : CacheState
-  withNode = withNodes (withEphemeral c (withEntry (c .tables .ephemeral) r (unlocated (q .node .succs)))) (withSlot (c .nodes) r (cachedSlot (q .node)))
+  abbrev pub nodeSet : CacheState
+  nodeSet = withNodes (withEphemeral c (withEntry (c .tables .ephemeral) r (unlocated (q .node .succs)))) (withSlot (c .nodes) r (cachedSlot (q .node)))
 
   abbrev pub stepNext : Step → CacheState
   stepNext writeBackNodeReqStep =
@@ -120,7 +120,7 @@ module _ (c : CacheState) (q : Call) where
       (withTables c (record { persistent = c .tables .frozen; ephemeral = c .tables .ephemeral; isfrozen = false; frozen = emptyTable }))
       (record { persistent = c .places .frozen; isfrozen = false; frozen = zeroLoc })
   stepNext noOpStep = c
-  stepNext dirtyStep = withNode
-  stepNext allocStep = withNode
+  stepNext dirtyStep = nodeSet
+  stepNext allocStep = nodeSet
   stepNext readStep = c
   stepNext crashStep = emptyCache

@@ -1,13 +1,13 @@
 -- The refusals of each step, a row for each condition of document 01, in its order. "Allocated" means in the ephemeral graph.
 use Prim.Native.Nat.{ℕ}
-use mathlib.Core.Bool.{Bool, _&&_, _||_, cond, not, true}
+use mathlib.Core.Bool.{Bool, _&&_, _||_, not, true}
 use mathlib.Core.List.{List, [], _∷_}
 use lib.Dec.{eqb, leb}
 use Rattle.base.specs.Refusals.{Row, _when_}
 use Rattle.blockcache.specs.Form.{isReady, loadingPhase, readyPhase, unreadyPhase}
 use Rattle.blockcache.specs.Ops.{advance, cleanUp, crash, dopBrought, dopId, dopKind, dopLoc, freeze, internal, journalInternal, noDop, nodeReadReq, nodeReadResp, nodeWriteReq}
 use Rattle.blockcache.specs.Ops.{nodeWriteResp, popSync, pushSync, sendFrozenLoc, sendPersistentLoc, tableReadReq, tableReadResp, tableWriteReq, tableWriteResp, vopKind, vopLoc, vopNoOp}
-use Rattle.blockcache.specs.Scan.{NoLocation, hasPredecessor, heldIn, needsCached, nodeRejected, reads, tableRejected, writesTo}
+use Rattle.blockcache.specs.Scan.{hasPredecessor, heldIn, needsCached, nodeRejected, reads, tableRejected, writesTo}
 use Rattle.blockcache.specs.Steps.{Step, allocStep, cleanUpStep, crashStep, dirtyStep, evictStep, freezeStep, noOpStep, pageInIndirectionTableReqStep, pageInIndirectionTableRespStep}
 use Rattle.blockcache.specs.Steps.{pageInNodeReqStep, pageInNodeRespStep, readStep, receiveLocStep, unallocStep, writeBackIndirectionTableReqStep, writeBackIndirectionTableRespStep}
 use Rattle.blockcache.specs.Steps.{writeBackNodeReqStep, writeBackNodeRespStep}
@@ -18,18 +18,15 @@ use Rattle.blockcache.specs.declared.VersionOp.{VersionOp}
 use Rattle.blockdisk.specs.declared.DiskOp.{DiskOp}
 use Rattle.disklayout.specs.Calls.{flag}
 use Rattle.disklayout.specs.Device.{deviceOf}
-use Rattle.disklayout.specs.Layout.{ValidIndirectionTableLocation, ValidNodeLocation, overlap}
+use Rattle.disklayout.specs.Layout.{ValidIndirectionTableLocation, ValidNodeLocation, overlap, sameLoc}
 use Rattle.disklayout.specs.declared.Location.{Location}
 use Rattle.queue.specs.Queue.{entryOf, hasOf}
 use Rattle.queue.specs.declared.Requests.{Requests}
 use Rattle.sectortype.specs.Form.{entryAt, slotAt}
-use Rattle.sectortype.specs.Graph.{within}
-use Rattle.sectortype.specs.Same.{sameLoc, sameNode, sameTable}
+use Rattle.sectortype.specs.Graph.{LocsComplete, within}
+use Rattle.sectortype.specs.Same.{sameNode, sameTable}
 use Rattle.sectortype.specs.declared.Entry.{Entry}
 use Rattle.sectortype.specs.declared.Slot.{Slot}
-
-abbrev pub first : Bool → ℕ → ℕ → ℕ
-first b n rest = cond b n rest
 
 -- V is of this kind, D is of this kind
 abbrev pub isV : ℕ → VersionOp → Bool
@@ -133,7 +130,7 @@ module _ (d : ℕ) (c : CacheState) (q : Call) where
       (6 when (not (flag d (ValidIndirectionTableLocation (deviceOf d) loc) .yes) || flag d (overlap loc (c .places .persistent)) .yes)) ∷
       (9 when (c .tables .isfrozen && not (sameTable (c .tables .frozen) (q .table)))) ∷
       (10 when not (eqb (writes .count) 0)) ∷
-      (11 when (not (c .tables .isfrozen) || NoLocation (c .tables .frozen) || c .places .isfrozen)) ∷
+      (11 when (not (c .tables .isfrozen) || not (LocsComplete (c .tables .frozen)) || c .places .isfrozen)) ∷
       []
   ownRows writeBackIndirectionTableRespStep =
       (5 when not awaits) ∷

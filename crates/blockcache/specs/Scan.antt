@@ -11,7 +11,7 @@ use Rattle.queue.specs.Queue.{hasAddr, requestAt}
 use Rattle.queue.specs.declared.Requests.{Requests}
 use Rattle.sectortype.specs.Form.{entryAt, succAt}
 use Rattle.sectortype.specs.Graph.{DistinctAddrs, WFCompleteIndirectionTable, allocatedIn, holdsAddr, locatedIn, sameSet}
-use Rattle.sectortype.specs.Same.{sameLoc}
+use Rattle.disklayout.specs.Layout.{sameLoc}
 use Rattle.sectortype.specs.declared.Entry.{Entry}
 use Rattle.sectortype.specs.declared.Node.{Node}
 use Rattle.sectortype.specs.declared.Table.{Table}
@@ -23,10 +23,6 @@ reads q r = someBelow (λ k. ltb k (q .count) && eqb (requestAt q k .reference) 
 -- a write of the reference to this very location is outstanding
 unfoldable pub writesTo : Requests → ℕ → Location → Bool
 writesTo q r l = someBelow (λ k. ltb k (q .count) && eqb (requestAt q k .reference) r && sameLoc (requestAt q k .loc) l) 16
-
--- some allocated reference lacks a location
-unfoldable pub NoLocation : Table → Bool
-NoLocation t = someBelow (λ r. allocatedIn t r && not (locatedIn t r)) 64
 
 -- place j of a list of n, which holds s, is in use and names r
 abbrev pub namesAt : ℕ → ℕ → ℕ → ℕ → Bool

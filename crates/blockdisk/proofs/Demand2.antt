@@ -1,25 +1,25 @@
 -- Demand 2 for the disk: a call is accepted exactly where upstream's predicate allows some next state and no narrowing of document 01 refuses it,
 -- and then its own next state is one that upstream allows. For any device, disk, call and offered records. Assumes nothing.
 use Prim.Native.Nat.{ℕ}
-use mathlib.Core.Bool.{Bool, _&&_, false, false≢true, not, true}
-use mathlib.Core.List.{[], _∷_}
+use mathlib.Core.Bool.{Bool, false, false≢true, not, true}
 use mathlib.Core.Logic.{Iff·rfl, _↔_}
 use mathlib.Core.Option.{some}
 use mathlib.Core.Path.{_∙_, _≡_, ap, refl, sym}
 use lib.Dec.{leb}
-use Rattle.base.proofs.Refusals.{Clear, accepted-iff, clear-none-of}
-use Rattle.base.proofs.Tests.{and-false-iff, and-iff, and-right, not-iff, or-left}
+use Rattle.base.proofs.Refusals.{Clear}
+use Rattle.base.proofs.Tests.{and-false-iff, and-iff, and-right, not-iff, or-iff}
 use Rattle.base.specs.Maps.{flagged, isSome}
-use Rattle.base.specs.Refusals.{NoneOf, answer, holds}
-use Rattle.blockdisk.proofs.Accepting.{answer-ok-iff, disk-accepted-iff, disk-ascending, request-iff}
-use Rattle.blockdisk.proofs.Crashing.{crash-ascending, crash-ok-iff, nodes-havoc-iff, records-kept-iff, tables-havoc-iff}
+use Rattle.base.specs.Refusals.{answer}
+use Rattle.blockdisk.proofs.Accepting.{answer-ok-iff, disk-accepted-iff, request-iff}
+use Rattle.blockdisk.proofs.Crashing.{crash-ok-iff, nodes-havoc-iff, records-kept-iff, tables-havoc-iff}
 use Rattle.blockdisk.proofs.Forms.{DiskForm, disk-form-iff, node-queue-form, table-queue-form}
 use Rattle.blockdisk.proofs.Moves.{op-moves, request-places}
 use Rattle.blockdisk.proofs.Outstanding.{places-at, places-has, places-none}
 use Rattle.blockdisk.proofs.Reading.{node-is-iff, node-leaves-upstream, node-update, table-is-iff, table-leaves-nodes, table-update, upstream-of, upstream-stored}
 use Rattle.blockdisk.specs.Crash.{crashRows, crashed, emptyQueues}
-use Rattle.blockdisk.specs.Form.{diskForm, recordsChecked}
-use Rattle.blockdisk.specs.Ops.{answerRows, diskRows, nextDisk, nodePlace, opRows, requestRows, somethingIn, tablePlace, nodeNotStored, tableNotStored}
+use Rattle.blockdisk.specs.Form.{nodeAllowed, recordsChecked, tableAllowed}
+use Rattle.blockdisk.specs.Narrowings.{crashNarrowed, diskNarrowed, opNarrowed, requestNarrowed}
+use Rattle.blockdisk.specs.Ops.{answerRows, diskRows, nextDisk, opRows, requestRows, somethingIn, nodeNotStored, tableNotStored}
 use Rattle.blockdisk.specs.Records.{withNode, withTable}
 use Rattle.blockdisk.specs.Upstream.{Crash, Imap, Init, Next, Variables, diskVars, dopOf, nodesStored, opOf, places, setNodes, setTables, setWriteNodes, setWriteTables}
 use Rattle.blockdisk.specs.Upstream.{tablesStored, upstreamTables}
@@ -79,13 +79,13 @@ module _ (d : ℕ) (s : DiskState) (f : DiskForm d s) (n : Node) (t : Table) (fn
   op-allowed : (op : DiskOp) → Clear (opRows d s op n t) → Next (diskVars d s) (diskVars d (nextDisk d s op n t)) (opOf op n t)
   op-allowed (ReqReadIndirectionTableOp id l) c =
       let q = s .queues .tablereads in
-      record { fresh = places-has q id ∙ request-iff q id (tablePlace d l) .0 c .fresh; next = op-moves d s f (ReqReadIndirectionTableOp id l) n t c }
+      record { fresh = places-has q id ∙ request-iff q id (tableAllowed d l) .0 c .fresh; next = op-moves d s f (ReqReadIndirectionTableOp id l) n t c }
   op-allowed (ReqReadNodeOp id l) c =
       let q = s .queues .nodereads in
-      record { fresh = places-has q id ∙ request-iff q id (nodePlace d l) .0 c .fresh; next = op-moves d s f (ReqReadNodeOp id l) n t c }
+      record { fresh = places-has q id ∙ request-iff q id (nodeAllowed d l) .0 c .fresh; next = op-moves d s f (ReqReadNodeOp id l) n t c }
   op-allowed (ReqWriteIndirectionTableOp id l) c =
       let q = s .queues .tablewrites in
-      let r = request-iff q id (tablePlace d l) .0 c in
+      let r = request-iff q id (tableAllowed d l) .0 c in
       let p = request-places q id l (table-queue-form d q (f .tablewrites)) r in
       let x = upstreamTables d (withTable d (s .records) l t) in
       let y = table-leaves-nodes d (s .records) l t in
@@ -96,7 +96,7 @@ module _ (d : ℕ) (s : DiskState) (f : DiskForm d s) (n : Node) (t : Table) (fn
       }
   op-allowed (ReqWriteNodeOp id l) c =
       let q = s .queues .nodewrites in
-      let r = request-iff q id (nodePlace d l) .0 c in
+      let r = request-iff q id (nodeAllowed d l) .0 c in
       let p = request-places q id l (node-queue-form d q (f .nodewrites)) r in
       let x = nodesStored d (withNode d (s .records) l n) in
       let y = node-leaves-upstream d (s .records) l n in
@@ -135,20 +135,23 @@ disk-allowed d s c e =
 
 -- A CALL THAT UPSTREAM ALLOWS IS ACCEPTED, BUT FOR THE NARROWINGS
 
--- an id that is new, and neither 16 nor 18
-request-clear : (q : Requests) (id : ℕ) (allowed : Bool) → isSome (places q id) ≡ false → NoneOf (16 ∷ 18 ∷ []) (requestRows q id allowed) → Clear (requestRows q id allowed)
-request-clear q id allowed new h = (sym (places-has q id) ∙ new, (or-left (not allowed) false (h .0), (or-left (leb 16 (q .count)) false (h .1 .0), tt)))
+-- an id that is new, and no narrowing
+request-clear : (q : Requests) (id : ℕ) (allowed : Bool) → isSome (places q id) ≡ false → requestNarrowed q allowed ≡ false → Clear (requestRows q id allowed)
+request-clear q id allowed new h = let k = or-iff (not allowed) (leb 16 (q .count)) .0 h in (sym (places-has q id) ∙ new, (k .0, (k .1, tt)))
+
+request-wide : (q : Requests) (id : ℕ) (allowed : Bool) → Clear (requestRows q id allowed) → requestNarrowed q allowed ≡ false
+request-wide q id allowed c = or-iff (not allowed) (leb 16 (q .count)) .1 (c .1 .0, c .1 .1 .0)
 
 answer-clear : (q : Requests) (id : ℕ) (wrong : Bool) → isSome (places q id) ≡ true → (hasOf q id ≡ true → wrong ≡ false) → Clear (answerRows q id wrong)
 answer-clear q id wrong there right =
     let h = sym (places-has q id) ∙ there in answer-ok-iff q id wrong .1 (record { there = h; right = right h })
 
 module _ (d : ℕ) (s : DiskState) (f : DiskForm d s) (n : Node) (t : Table) (fn : nodeForm n ≡ true) (ft : tableForm t ≡ true) (s' : Variables) where
-  op-clear : (op : DiskOp) → NoneOf (16 ∷ 18 ∷ []) (opRows d s op n t) → Next (diskVars d s) s' (opOf op n t) → Clear (opRows d s op n t)
-  op-clear (ReqReadIndirectionTableOp id l) h u = request-clear (s .queues .tablereads) id (tablePlace d l) (u .fresh) h
-  op-clear (ReqReadNodeOp id l) h u = request-clear (s .queues .nodereads) id (nodePlace d l) (u .fresh) h
-  op-clear (ReqWriteIndirectionTableOp id l) h u = request-clear (s .queues .tablewrites) id (tablePlace d l) (u .fresh) h
-  op-clear (ReqWriteNodeOp id l) h u = request-clear (s .queues .nodewrites) id (nodePlace d l) (u .fresh) h
+  op-clear : (op : DiskOp) → opNarrowed d s op ≡ false → Next (diskVars d s) s' (opOf op n t) → Clear (opRows d s op n t)
+  op-clear (ReqReadIndirectionTableOp id l) h u = request-clear (s .queues .tablereads) id (tableAllowed d l) (u .fresh) h
+  op-clear (ReqReadNodeOp id l) h u = request-clear (s .queues .nodereads) id (nodeAllowed d l) (u .fresh) h
+  op-clear (ReqWriteIndirectionTableOp id l) h u = request-clear (s .queues .tablewrites) id (tableAllowed d l) (u .fresh) h
+  op-clear (ReqWriteNodeOp id l) h u = request-clear (s .queues .nodewrites) id (nodeAllowed d l) (u .fresh) h
   op-clear (RespReadIndirectionTableOp id b) h u =
       let q = s .queues .tablereads in
       answer-clear q id (tableNotStored d s id b t) (u .there)
@@ -161,34 +164,50 @@ module _ (d : ℕ) (s : DiskState) (f : DiskForm d s) (n : Node) (t : Table) (fn
   op-clear (RespWriteNodeOp id) h u = answer-clear (s .queues .nodewrites) id false (u .there) (λ a. refl)
   op-clear NoDiskOp h u = tt
 
+-- an accepted operation is not narrowed
+op-wide : (d : ℕ) (s : DiskState) (n : Node) (t : Table) (op : DiskOp) → Clear (opRows d s op n t) → opNarrowed d s op ≡ false
+op-wide d s n t (ReqReadIndirectionTableOp id l) c = request-wide (s .queues .tablereads) id (tableAllowed d l) c
+op-wide d s n t (ReqReadNodeOp id l) c = request-wide (s .queues .nodereads) id (nodeAllowed d l) c
+op-wide d s n t (ReqWriteIndirectionTableOp id l) c = request-wide (s .queues .tablewrites) id (tableAllowed d l) c
+op-wide d s n t (ReqWriteNodeOp id l) c = request-wide (s .queues .nodewrites) id (nodeAllowed d l) c
+op-wide d s n t (RespReadIndirectionTableOp id b) c = refl
+op-wide d s n t (RespReadNodeOp id b) c = refl
+op-wide d s n t (RespWriteIndirectionTableOp id) c = refl
+op-wide d s n t (RespWriteNodeOp id) c = refl
+op-wide d s n t NoDiskOp c = refl
+
+-- what no narrowing of a call says
+disk-wide-iff : (d : ℕ) (s : DiskState) (c : DiskCall) →
+    (diskNarrowed d s c ≡ false) ↔ (((DiskForm d s × (nodeForm (c .node) ≡ true)) × (tableForm (c .table) ≡ true)) × (opNarrowed d s (c .op) ≡ false))
+unfolding diskNarrowed
+disk-wide-iff d s c = simp (or-iff, not-iff, and-iff, disk-form-iff) Iff·rfl
+
+crash-wide-iff : (d : ℕ) (s : DiskState) (o : Records) →
+    (crashNarrowed d s o ≡ false) ↔ ((DiskForm d s × (recordsChecked d o .form ≡ true)) × (recordsChecked d o .placed ≡ true))
+unfolding crashNarrowed
+crash-wide-iff d s o = simp (or-iff, not-iff, and-iff, disk-form-iff) Iff·rfl
+
 -- THE THEOREMS
 
--- the narrowings of a call are 1, 16 and 18
 pub disk-accepted : (d : ℕ) (s : DiskState) (c : DiskCall) →
-    (answer (diskRows d s c) ≡ 0) ↔ (NoneOf (1 ∷ 16 ∷ 18 ∷ []) (diskRows d s c) × ((s' : Variables) × Next (diskVars d s) s' (dopOf c)))
+    (answer (diskRows d s c) ≡ 0) ↔ ((diskNarrowed d s c ≡ false) × ((s' : Variables) × Next (diskVars d s) s' (dopOf c)))
 disk-accepted d s c = (
-  (λ e. (
-    clear-none-of (1 ∷ 16 ∷ 18 ∷ []) (diskRows d s c) (accepted-iff (diskRows d s c) (disk-ascending d s c) .0 e),
+  (λ e. let a = disk-accepted-iff d s c .0 e in (
+    disk-wide-iff d s c .1 (((a .disk, a .node), a .table), op-wide d s (c .node) (c .table) (c .op) (a .rows)),
     (diskVars d (nextDisk d s (c .op) (c .node) (c .table)), disk-allowed d s c e),
   )),
-  (λ (h, v). accept h (v .0) (v .1)),
+  (λ (h, v). let g = disk-wide-iff d s c .0 h in
+      let f = g .0 .0 in
+      let rows = op-clear d s (f .0) (c .node) (c .table) (f .1) (g .0 .1) (v .0) (c .op) (g .1) (v .1) in
+      disk-accepted-iff d s c .1 (record { disk = f .0; node = f .1; table = g .0 .1; rows = rows })),
 )
-  where
-    accept : NoneOf (1 ∷ 16 ∷ 18 ∷ []) (diskRows d s c) → (s' : Variables) → Next (diskVars d s) s' (dopOf c) → answer (diskRows d s c) ≡ 0
-    accept h s' u =
-        let one = or-left (not (diskForm d s && nodeForm (c .node) && tableForm (c .table))) (holds 1 (opRows d s (c .op) (c .node) (c .table))) (h .0) in
-        let g = simp (not-iff, disk-form-iff, and-iff) at one in
-        disk-accepted-iff d s c .1
-        (record { disk = g .0 .0; node = g .0 .1; table = g .1; rows = op-clear d s (g .0 .0) (c .node) (c .table) (g .0 .1) (g .1) s' (c .op) (h .1) u })
 
--- of a crash they are 1 and the places of the offered records, a part of 19
 pub crash-accepted : (d : ℕ) (s : DiskState) (o : Records) →
-    (answer (crashRows d s o) ≡ 0) ↔ (NoneOf (1 ∷ []) (crashRows d s o) × (recordsChecked d o .placed ≡ true) × Crash (diskVars d s) (diskVars d (crashed s o)))
+    (answer (crashRows d s o) ≡ 0) ↔ ((crashNarrowed d s o ≡ false) × Crash (diskVars d s) (diskVars d (crashed s o)))
 crash-accepted d s o = (
   (λ e. let c = crash-ok-iff d s o .0 e in
       let k = records-kept-iff (s .queues) (s .records) o .0 (c .kept) in (
-        clear-none-of (1 ∷ []) (crashRows d s o) (accepted-iff (crashRows d s o) (crash-ascending d s o) .0 e),
-        c .placed,
+        crash-wide-iff d s o .1 ((c .disk, c .form), c .placed),
         record {
           no-table-reads = places-none;
           no-node-reads = places-none;
@@ -198,19 +217,17 @@ crash-accepted d s o = (
           nodes-kept = nodes-havoc-iff d s o (c .disk) (c .form) .0 (k .1);
         },
       )),
-  (λ (h, placed, u). accept h placed u),
+  (λ (h, u). let g = crash-wide-iff d s o .0 h in
+      let f = g .0 .0 in
+      let r = g .0 .1 in
+      crash-ok-iff d s o .1
+      (record {
+        disk = f;
+        form = r;
+        placed = g .1;
+        kept = records-kept-iff (s .queues) (s .records) o .1 (tables-havoc-iff d s o f r .1 (u .tables-kept), nodes-havoc-iff d s o f r .1 (u .nodes-kept));
+      })),
 )
-  where
-    accept : NoneOf (1 ∷ []) (crashRows d s o) → recordsChecked d o .placed ≡ true → Crash (diskVars d s) (diskVars d (crashed s o)) → answer (crashRows d s o) ≡ 0
-    accept h placed u =
-        let g = simp (not-iff, disk-form-iff, and-iff) at (or-left (not (diskForm d s && recordsChecked d o .form)) false (h .0)) in
-        crash-ok-iff d s o .1
-        (record {
-          disk = g .0;
-          form = g .1;
-          placed = placed;
-          kept = records-kept-iff (s .queues) (s .records) o .1 (tables-havoc-iff d s o (g .0) (g .1) .1 (u .tables-kept), nodes-havoc-iff d s o (g .0) (g .1) .1 (u .nodes-kept));
-        })
 
 -- a disk with nothing outstanding meets upstream's Init
 pub disk-init : (d : ℕ) (s : DiskState) → s .queues ≡ emptyQueues → Init (diskVars d s)

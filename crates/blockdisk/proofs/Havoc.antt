@@ -9,12 +9,11 @@ use Rattle.base.proofs.Tests.{and-iff, clash, not-iff, or-iff, or-true-iff}
 use Rattle.blockdisk.proofs.Outstanding.{written-iff}
 use Rattle.blockdisk.proofs.RecordArray.{Formed, Holds, Laws, Placed, RecordArray, reads, reads-iff, recordAt}
 use Rattle.blockdisk.specs.Upstream.{UntouchedLoc, havocMap, places}
-use Rattle.disklayout.proofs.Facts.{refuted}
+use Rattle.disklayout.proofs.Facts.{refuted, same-loc-iff}
 use Rattle.disklayout.specs.declared.Location.{Location}
 use Rattle.queue.specs.Queue.{hasAddr, requestsForm}
 use Rattle.queue.specs.declared.Requests.{Requests}
-use Rattle.sectortype.proofs.Equal.{same-loc-iff}
-use Rattle.sectortype.specs.Same.{sameLoc}
+use Rattle.disklayout.specs.Layout.{sameLoc}
 
 module _ {R A : Type 0} (s : RecordArray R A) (q : Requests) where
   -- a record x that is there is unchanged in y, unless a write is outstanding at its address
@@ -56,8 +55,8 @@ module _ {R A : Type 0} (s : RecordArray R A) (q : Requests) where
   pub untouched-iff : Laws s → requestsForm q ≡ true → ((id : ℕ) (l : Location) → places q id ≡ some l → s .place l ≡ true) →
       (p : Location) → s .place p ≡ true → (hasAddr q (p .addr) ≡ false) ↔ UntouchedLoc p (places q)
   untouched-iff w form queued p ok = (
-    (λ e id l h. refuted (λ o. written-iff q (p .addr) form .0 e id l h (sym (w .crossing p l ok (queued id l h) .0 o)))),
-    (λ u. written-iff q (p .addr) form .1 (λ id l h e. clash (w .crossing p l ok (queued id l h) .1 (sym e)) (u id l h))),
+    (λ e id l h. refuted (λ o. written-iff q (p .addr) form .0 e id l h (sym (w .overlapping p l ok (queued id l h) .0 o)))),
+    (λ u. written-iff q (p .addr) form .1 (λ id l h e. clash (w .overlapping p l ok (queued id l h) .1 (sym e)) (u id l h))),
   )
 
   pub havoc-iff : Laws s → requestsForm q ≡ true → ((id : ℕ) (l : Location) → places q id ≡ some l → s .place l ≡ true) →

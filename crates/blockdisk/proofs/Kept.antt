@@ -2,9 +2,7 @@
 use Prim.Native.Nat.{_<_, ℕ}
 use mathlib.Core.Bool.{Bool, false, true}
 use mathlib.Core.List.{List}
-use mathlib.Core.Option.{some}
 use mathlib.Core.Path.{_∙_, _≡_, refl}
-use native.Mathlib.Omega.{arith}
 use borrow.Author.Tests.{eqb-true}
 use lib.Dec.{eqb}
 use lib.ListN.{getD, length, length-set, set}
@@ -14,10 +12,9 @@ use Rattle.base.specs.Refusals.{answer}
 use Rattle.blockdisk.proofs.Accepting.{RequestOk, answer-ok-iff, disk-accepted-iff, request-iff}
 use Rattle.blockdisk.proofs.Forms.{DiskForm, disk-form-iff, node-form-there, node-placed-iff, records-form-iff, records-placed-iff, table-form-there, table-placed-iff}
 use Rattle.blockdisk.proofs.Outstanding.{queue-insert, queue-remove}
-use Rattle.blockdisk.proofs.Reading.{with-node-is, with-table-is}
-use Rattle.blockdisk.proofs.RecordArrays.{node-laws, table-laws}
-use Rattle.blockdisk.specs.Form.{diskForm, nodeQueueForm, nodeRecordChecked, nodeRequestOk, recordsChecked, tableQueueForm, tableRecordChecked, tableRequestOk}
-use Rattle.blockdisk.specs.Ops.{diskRows, nextDisk, nodePlace, opRows, requestOf, tablePlace, nodeNotStored, tableNotStored}
+use Rattle.blockdisk.proofs.Reading.{node-block, table-area, with-node-is, with-table-is}
+use Rattle.blockdisk.specs.Form.{diskForm, nodeAllowed, nodeQueueForm, nodeRecordChecked, nodeRequestOk, recordsChecked, tableAllowed, tableQueueForm, tableRecordChecked, tableRequestOk}
+use Rattle.blockdisk.specs.Ops.{diskRows, nextDisk, opRows, requestOf, nodeNotStored, tableNotStored}
 use Rattle.blockdisk.specs.Records.{defaultNodeRecord, defaultTableRecord, withNode, withTable}
 use Rattle.blockdisk.specs.declared.DiskState.{DiskState}
 use Rattle.blockdisk.specs.declared.DiskCall.{DiskCall}
@@ -30,7 +27,7 @@ use Rattle.blockdisk.specs.declared.TableRecord.{TableRecord}
 use Rattle.disklayout.proofs.Devices.{device-good}
 use Rattle.disklayout.proofs.NodeBlocks.{node-place-in-of}
 use Rattle.disklayout.proofs.TableAreas.{table-place-in-of}
-use Rattle.disklayout.specs.Blocks.{NodeBlockOf, NodePlace, TableAreaOf}
+use Rattle.disklayout.specs.Blocks.{NodePlace}
 use Rattle.disklayout.specs.Device.{deviceOf, made}
 use Rattle.disklayout.specs.Layout.{ValidIndirectionTableLocation}
 use Rattle.disklayout.specs.declared.Location.{Location}
@@ -51,93 +48,79 @@ set-each g z l n k v b e h j c =
 
 module _ (d : ℕ) (r : Records) (on : made d ≡ true) (form : recordsChecked d r .form ≡ true) (placed : recordsChecked d r .placed ≡ true) (l : Location) where
   module _ (x : Node) (allowed : NodePlace (deviceOf d) l ≡ true) where
-    abbrev block : ℕ
-    block = node-laws d .numbered l allowed .0
-
     abbrev new-node : NodeRecord
     new-node = record { present = true; loc = l; node = x }
 
-    abbrev node-after : Records
-    node-after = record { tables = r .tables; nodes = set (r .nodes) block new-node }
-
-    node-number : NodeBlockOf (deviceOf d) (l .addr) ≡ some block
-    node-number = node-laws d .numbered l allowed .1
-
-    node-fits : block < length (r .nodes)
-    node-fits = omega (arith, records-form-iff d r .0 form .nodes-long, node-laws d .below (l .addr) block node-number)
+    abbrev node-after : ℕ → Records
+    node-after k = record { tables = r .tables; nodes = set (r .nodes) k new-node }
 
     pub with-node-form : nodeForm x ≡ true → recordsChecked d (withNode d r l x) .form ≡ true
     with-node-form f =
+        let (k, at, fits) = node-block d r form l allowed in
         let h = records-form-iff d r .0 form in
-        rw (with-node-is d r l x block on node-number)
-        (records-form-iff d node-after .1
+        rw (with-node-is d r l x k on at)
+        (records-form-iff d (node-after k) .1
         (record {
-          nodes-long = length-set (r .nodes) block new-node ∙ h .nodes-long;
+          nodes-long = length-set (r .nodes) k new-node ∙ h .nodes-long;
           tables-long = h .tables-long;
-          nodes-form = set-each (λ j y. nodeRecordChecked d j y .form) defaultNodeRecord (r .nodes) 128 block new-node node-fits (node-form-there d block new-node refl f) (h .nodes-form);
+          nodes-form = set-each (λ j y. nodeRecordChecked d j y .form) defaultNodeRecord (r .nodes) 128 k new-node fits (node-form-there d k new-node refl f) (h .nodes-form);
           tables-form = h .tables-form;
         }))
 
     pub with-node-placed : recordsChecked d (withNode d r l x) .placed ≡ true
     with-node-placed =
+        let (k, at, fits) = node-block d r form l allowed in
         let h = records-placed-iff d r .0 placed in
-        let p = node-place-in-of (deviceOf d) (device-good d) block l allowed .1 node-number in
-        let in-place = node-placed-iff d block new-node .1 (λ e. (on, p)) in
-        rw (with-node-is d r l x block on node-number)
-        (records-placed-iff d node-after .1
+        let p = node-place-in-of (deviceOf d) (device-good d) k l allowed .1 at in
+        let in-place = node-placed-iff d k new-node .1 (λ e. (on, p)) in
+        rw (with-node-is d r l x k on at)
+        (records-placed-iff d (node-after k) .1
         (record {
-          nodes-placed = set-each (λ j y. nodeRecordChecked d j y .placed) defaultNodeRecord (r .nodes) 128 block new-node node-fits in-place (h .nodes-placed);
+          nodes-placed = set-each (λ j y. nodeRecordChecked d j y .placed) defaultNodeRecord (r .nodes) 128 k new-node fits in-place (h .nodes-placed);
           tables-placed = h .tables-placed;
         }))
 
   module _ (x : Table) (allowed : ValidIndirectionTableLocation (deviceOf d) l ≡ true) where
-    abbrev area : ℕ
-    area = table-laws d .numbered l allowed .0
-
     abbrev new-table : TableRecord
     new-table = record { present = true; loc = l; table = x }
 
-    abbrev table-after : Records
-    table-after = record { tables = set (r .tables) area new-table; nodes = r .nodes }
-
-    table-number : TableAreaOf (deviceOf d) (l .addr) ≡ some area
-    table-number = table-laws d .numbered l allowed .1
-
-    table-fits : area < length (r .tables)
-    table-fits = omega (arith, records-form-iff d r .0 form .tables-long, table-laws d .below (l .addr) area table-number)
+    abbrev table-after : ℕ → Records
+    table-after k = record { tables = set (r .tables) k new-table; nodes = r .nodes }
 
     pub with-table-form : tableForm x ≡ true → recordsChecked d (withTable d r l x) .form ≡ true
     with-table-form f =
+        let (k, at, fits) = table-area d r form l allowed in
         let h = records-form-iff d r .0 form in
-        rw (with-table-is d r l x area on table-number)
-        (records-form-iff d table-after .1
+        rw (with-table-is d r l x k on at)
+        (records-form-iff d (table-after k) .1
         (record {
-          tables-long = length-set (r .tables) area new-table ∙ h .tables-long;
+          tables-long = length-set (r .tables) k new-table ∙ h .tables-long;
           nodes-long = h .nodes-long;
-          tables-form = set-each (λ j y. tableRecordChecked d j y .form) defaultTableRecord (r .tables) 2 area new-table table-fits (table-form-there d area new-table refl f) (h .tables-form);
+          tables-form = set-each (λ j y. tableRecordChecked d j y .form) defaultTableRecord (r .tables) 2 k new-table fits (table-form-there d k new-table refl f) (h .tables-form);
           nodes-form = h .nodes-form;
         }))
 
     pub with-table-placed : recordsChecked d (withTable d r l x) .placed ≡ true
     with-table-placed =
+        let (k, at, fits) = table-area d r form l allowed in
         let h = records-placed-iff d r .0 placed in
-        let p = table-place-in-of (deviceOf d) area l allowed .1 table-number in
-        let in-place = table-placed-iff d area new-table .1 (λ e. (on, p)) in
-        rw (with-table-is d r l x area on table-number)
-        (records-placed-iff d table-after .1
+        let p = table-place-in-of (deviceOf d) k l allowed .1 at in
+        let in-place = table-placed-iff d k new-table .1 (λ e. (on, p)) in
+        rw (with-table-is d r l x k on at)
+        (records-placed-iff d (table-after k) .1
         (record {
-          tables-placed = set-each (λ j y. tableRecordChecked d j y .placed) defaultTableRecord (r .tables) 2 area new-table table-fits in-place (h .tables-placed);
+          tables-placed = set-each (λ j y. tableRecordChecked d j y .placed) defaultTableRecord (r .tables) 2 k new-table fits in-place (h .tables-placed);
           nodes-placed = h .nodes-placed;
         }))
 
 -- THE QUEUES
 
 module _ (d : ℕ) (q : Requests) (id : ℕ) where
-  pub table-request-form : (l : Location) → tableQueueForm d q ≡ true → RequestOk q id (tablePlace d l) → tableQueueForm d (insertOf q (requestOf id l)) ≡ true
+  pub table-request-form : (l : Location) → tableQueueForm d q ≡ true → RequestOk q id (tableAllowed d l) → tableQueueForm d (insertOf q (requestOf id l)) ≡ true
   unfolding tableQueueForm
   table-request-form l f r = queue-insert (tableRequestOk d) q (requestOf id l) f (r .room) (r .fresh) (r .ok)
 
-  pub node-request-form : (l : Location) → nodeQueueForm d q ≡ true → RequestOk q id (nodePlace d l) → nodeQueueForm d (insertOf q (requestOf id l)) ≡ true
+  pub node-request-form : (l : Location) → nodeQueueForm d q ≡ true → RequestOk q id (nodeAllowed d l) → nodeQueueForm d (insertOf q (requestOf id l)) ≡ true
   unfolding nodeQueueForm
   node-request-form l f r = queue-insert (nodeRequestOk d) q (requestOf id l) f (r .room) (r .fresh) (r .ok)
 
@@ -154,18 +137,18 @@ module _ (d : ℕ) (q : Requests) (id : ℕ) where
 module _ (d : ℕ) (s : DiskState) (f : DiskForm d s) where
   pub op-form-kept : (op : DiskOp) (n : Node) (t : Table) → nodeForm n ≡ true → tableForm t ≡ true → Clear (opRows d s op n t) → DiskForm d (nextDisk d s op n t)
   op-form-kept (ReqReadIndirectionTableOp id l) n t a b c =
-      let q = table-request-form d (s .queues .tablereads) id l (f .tablereads) (request-iff (s .queues .tablereads) id (tablePlace d l) .0 c) in search
+      let q = table-request-form d (s .queues .tablereads) id l (f .tablereads) (request-iff (s .queues .tablereads) id (tableAllowed d l) .0 c) in search
   op-form-kept (ReqReadNodeOp id l) n t a b c =
-      let q = node-request-form d (s .queues .nodereads) id l (f .nodereads) (request-iff (s .queues .nodereads) id (nodePlace d l) .0 c) in search
+      let q = node-request-form d (s .queues .nodereads) id l (f .nodereads) (request-iff (s .queues .nodereads) id (nodeAllowed d l) .0 c) in search
   op-form-kept (ReqWriteIndirectionTableOp id l) n t a b c =
-      let r = request-iff (s .queues .tablewrites) id (tablePlace d l) .0 c in
+      let r = request-iff (s .queues .tablewrites) id (tableAllowed d l) .0 c in
       let q = table-request-form d (s .queues .tablewrites) id l (f .tablewrites) r in
       let p = and-right (made d) (ValidIndirectionTableLocation (deviceOf d) l) (r .ok) in
       let x = with-table-form d (s .records) (f .on) (f .form) (f .placed) l t p b in
       let y = with-table-placed d (s .records) (f .on) (f .form) (f .placed) l t p in
       search
   op-form-kept (ReqWriteNodeOp id l) n t a b c =
-      let r = request-iff (s .queues .nodewrites) id (nodePlace d l) .0 c in
+      let r = request-iff (s .queues .nodewrites) id (nodeAllowed d l) .0 c in
       let q = node-request-form d (s .queues .nodewrites) id l (f .nodewrites) r in
       let p = and-right (made d) (NodePlace (deviceOf d) l) (r .ok) in
       let x = with-node-form d (s .records) (f .on) (f .form) (f .placed) l n p a in

@@ -10,8 +10,9 @@ use Rattle.blockdisk.proofs.Accepting.{AnswerOk, RequestOk, answer-ok-i
 use Rattle.blockdisk.proofs.Forms.{DiskForm, node-queue-form, table-queue-form}
 use Rattle.blockdisk.proofs.Outstanding.{places-insert, places-remove}
 use Rattle.blockdisk.proofs.Reading.{node-leaves-upstream, nodes-after, replacing, table-leaves-nodes, upstream-after}
-use Rattle.blockdisk.specs.Ops.{diskRows, nextDisk, nodePlace, opRows, requestOf, tablePlace, nodeNotStored, tableNotStored}
-use Rattle.blockdisk.specs.Upstream.{Dop, Imap, Variables, diskVars, dopOf, noDiskOp, opOf, places, reqReadIndirectionTable, reqReadNode}
+use Rattle.blockdisk.specs.Form.{nodeAllowed, tableAllowed}
+use Rattle.blockdisk.specs.Ops.{diskRows, nextDisk, opRows, requestOf, nodeNotStored, tableNotStored}
+use Rattle.blockdisk.specs.Upstream.{Dop, Variables, diskVars, dopOf, noDiskOp, opOf, places, reqReadIndirectionTable, reqReadNode}
 use Rattle.blockdisk.specs.Upstream.{reqWriteIndirectionTable, reqWriteNode, respReadIndirectionTable, respReadNode, respWriteIndirectionTable, respWriteNode, setNodes}
 use Rattle.blockdisk.specs.Upstream.{setReadNodes, setReadTables, setTables, setWriteNodes, setWriteTables}
 use Rattle.blockdisk.specs.declared.DiskState.{DiskState}
@@ -50,20 +51,20 @@ module _ (d : ℕ) (s : DiskState) (f : DiskForm d s) where
   pub op-moves : (op : DiskOp) (n : Node) (t : Table) → Clear (opRows d s op n t) → diskVars d (nextDisk d s op n t) ≡ nextVars (diskVars d s) (opOf op n t)
   op-moves (ReqReadIndirectionTableOp id l) n t c =
       let q = s .queues .tablereads in
-      ap (setReadTables (diskVars d s)) (request-places q id l (table-queue-form d q (f .tablereads)) (request-iff q id (tablePlace d l) .0 c))
+      ap (setReadTables (diskVars d s)) (request-places q id l (table-queue-form d q (f .tablereads)) (request-iff q id (tableAllowed d l) .0 c))
   op-moves (ReqReadNodeOp id l) n t c =
       let q = s .queues .nodereads in
-      ap (setReadNodes (diskVars d s)) (request-places q id l (node-queue-form d q (f .nodereads)) (request-iff q id (nodePlace d l) .0 c))
+      ap (setReadNodes (diskVars d s)) (request-places q id l (node-queue-form d q (f .nodereads)) (request-iff q id (nodeAllowed d l) .0 c))
   op-moves (ReqWriteIndirectionTableOp id l) n t c =
       let q = s .queues .tablewrites in
-      let r = request-iff q id (tablePlace d l) .0 c in
+      let r = request-iff q id (tableAllowed d l) .0 c in
       let p = request-places q id l (table-queue-form d q (f .tablewrites)) r in
       let x = upstream-after d (s .records) (f .on) (f .form) l t (and-right (made d) (ValidIndirectionTableLocation (deviceOf d) l) (r .ok)) in
       let y = table-leaves-nodes d (s .records) l t in
       λ i. setNodes (setTables (setWriteTables (diskVars d s) (p i)) (x i)) (y i)
   op-moves (ReqWriteNodeOp id l) n t c =
       let q = s .queues .nodewrites in
-      let r = request-iff q id (nodePlace d l) .0 c in
+      let r = request-iff q id (nodeAllowed d l) .0 c in
       let p = request-places q id l (node-queue-form d q (f .nodewrites)) r in
       let x = nodes-after d (s .records) (f .on) (f .form) l n (and-right (made d) (NodePlace (deviceOf d) l) (r .ok)) in
       let y = node-leaves-upstream d (s .records) l n in

@@ -12,10 +12,9 @@ use Rattle.blockdisk.specs.Records.{areaOf, blockOf, nodeRecordAt, readN
 use Rattle.blockdisk.specs.declared.Records.{Records}
 use Rattle.disklayout.specs.Blocks.{NodeBlockOf, TableAreaOf}
 use Rattle.disklayout.specs.Device.{deviceOf, made}
-use Rattle.disklayout.specs.Layout.{IndirectionTable1Addr, IndirectionTable2Addr, MinNodeBlockIndex, NodeBlockSize, ValidNodeAddr}
+use Rattle.disklayout.specs.Layout.{IndirectionTable1Addr, IndirectionTable2Addr, MinNodeBlockIndex, NodeBlockSize, ValidNodeAddr, sameLoc}
 use Rattle.disklayout.specs.declared.Location.{Location}
 use Rattle.disklayout.specs.declared.NumberOption.{NumberOption}
-use Rattle.sectortype.specs.Same.{sameLoc}
 use Rattle.sectortype.specs.declared.Node.{Node}
 use Rattle.sectortype.specs.declared.Table.{Table}
 

@@ -23,12 +23,13 @@ use Rattle.blockdisk.specs.declared.Records.{Records}
 use Rattle.blockdisk.specs.declared.TableRecord.{TableRecord}
 use Rattle.disklayout.specs.Blocks.{NodeBlockOf, NodePlace, TableAreaOf}
 use Rattle.disklayout.specs.Device.{deviceOf, made}
-use Rattle.disklayout.specs.Layout.{ValidIndirectionTableLocation}
+use Rattle.disklayout.specs.Layout.{ValidIndirectionTableLocation, sameLoc}
 use Rattle.disklayout.specs.declared.Location.{Location}
-use Rattle.sectortype.proofs.Equal.{same-loc-iff, same-node-iff, same-table-iff, table-abstract}
+use Rattle.disklayout.proofs.Facts.{same-loc-iff}
+use Rattle.sectortype.proofs.Equal.{same-node-iff, same-table-iff, table-abstract}
 use Rattle.sectortype.specs.Abstract.{IndirectionTable, indirectionTable}
 use Rattle.sectortype.specs.Form.{nodeForm, tableForm}
-use Rattle.sectortype.specs.Same.{sameLoc, sameNode, sameTable}
+use Rattle.sectortype.specs.Same.{sameNode, sameTable}
 use Rattle.sectortype.specs.declared.Node.{Node}
 use Rattle.sectortype.specs.declared.Table.{Table}
 
@@ -166,18 +167,24 @@ pub node-leaves-upstream : (d : ℕ) (r : Records) (l : Location) (n : Node) →
 unfolding upstreamTables
 node-leaves-upstream d r l n = ap (λ m x. Option·map indirectionTable (m x)) (node-leaves-tables d r l n)
 
+-- the block of a place, for which there is a record
+pub node-block : (d : ℕ) (r : Records) → recordsChecked d r .form ≡ true → (l : Location) → NodePlace (deviceOf d) l ≡ true →
+    (k : ℕ) × (NodeBlockOf (deviceOf d) (l .addr) ≡ some k) × (k < length (r .nodes))
+node-block d r form l place =
+    let (k, e) = node-laws d .numbered l place in (k, e, omega (arith, records-form-iff d r .0 form .nodes-long, node-laws d .below (l .addr) k e))
+
 module _ (d : ℕ) (r : Records) (on : made d ≡ true) (form : recordsChecked d r .form ≡ true) (l : Location) (n : Node) (place : NodePlace (deviceOf d) l ≡ true) where
   abbrev newNode : NodeRecord
   newNode = record { present = true; loc = l; node = n }
 
   abbrev block : ℕ
-  block = node-laws d .numbered l place .0
+  block = node-block d r form l place .0
 
   node-at : NodeBlockOf (deviceOf d) (l .addr) ≡ some block
-  node-at = node-laws d .numbered l place .1
+  node-at = node-block d r form l place .1
 
   node-fits : block < length (r .nodes)
-  node-fits = omega (arith, records-form-iff d r .0 form .nodes-long, node-laws d .below (l .addr) block node-at)
+  node-fits = node-block d r form l place .2
 
   now : nodesStored d (withNode d r l n) ≡ reads (nodeArray d) (set (r .nodes) block newNode)
   now = ap (nodesStored d) (with-node-is d r l n block on node-at) ∙ nodes-read d (record { tables = r .tables; nodes = set (r .nodes) block newNode }) on
@@ -212,18 +219,24 @@ pub table-leaves-nodes : (d : ℕ) (r : Records) (l : Location) (t : Table) → 
 unfolding nodesStored readNode withTable
 table-leaves-nodes d r l t = refl
 
+-- the area of a place, for which there is a record
+pub table-area : (d : ℕ) (r : Records) → recordsChecked d r .form ≡ true → (l : Location) → ValidIndirectionTableLocation (deviceOf d) l ≡ true →
+    (k : ℕ) × (TableAreaOf (deviceOf d) (l .addr) ≡ some k) × (k < length (r .tables))
+table-area d r form l place =
+    let (k, e) = table-laws d .numbered l place in (k, e, omega (arith, records-form-iff d r .0 form .tables-long, table-laws d .below (l .addr) k e))
+
 module _ (d : ℕ) (r : Records) (on : made d ≡ true) (form : recordsChecked d r .form ≡ true) (l : Location) (t : Table) (place : ValidIndirectionTableLocation (deviceOf d) l ≡ true) where
   abbrev newTable : TableRecord
   newTable = record { present = true; loc = l; table = t }
 
   abbrev area : ℕ
-  area = table-laws d .numbered l place .0
+  area = table-area d r form l place .0
 
   table-at : TableAreaOf (deviceOf d) (l .addr) ≡ some area
-  table-at = table-laws d .numbered l place .1
+  table-at = table-area d r form l place .1
 
   table-fits : area < length (r .tables)
-  table-fits = omega (arith, records-form-iff d r .0 form .tables-long, table-laws d .below (l .addr) area table-at)
+  table-fits = table-area d r form l place .2
 
   abbrev after : Records
   after = record { tables = set (r .tables) area newTable; nodes = r .nodes }

@@ -12,10 +12,9 @@ use Rattle.base.proofs.Maps.{flagged-some}
 use Rattle.base.proofs.Tests.{and-iff, clash, never, split}
 use Rattle.base.specs.Maps.{flagged}
 use Rattle.blockdisk.specs.Upstream.{DiskMapUpdate, Imap}
-use Rattle.disklayout.specs.Layout.{overlap}
+use Rattle.disklayout.specs.Layout.{overlap, sameLoc}
 use Rattle.disklayout.specs.declared.Location.{Location}
-use Rattle.sectortype.proofs.Equal.{same-loc-iff}
-use Rattle.sectortype.specs.Same.{sameLoc}
+use Rattle.disklayout.proofs.Facts.{same-loc-iff}
 
 pub record RecordArray (R A : Type 0) : Type 0 where
   pub there : R → Bool
@@ -35,7 +34,7 @@ pub record Laws {R A : Type 0} (s : RecordArray R A) : Type 0 where
   pub below : (a k : ℕ) → s .number a ≡ some k → k < s .size
   pub single : (a b k : ℕ) → s .number a ≡ some k → s .number b ≡ some k → a ≡ b
   pub numbered : (l : Location) → s .place l ≡ true → (k : ℕ) × (s .number (l .addr) ≡ some k)
-  pub crossing : (l k : Location) → s .place l ≡ true → s .place k ≡ true → (overlap l k ≡ true) ↔ (l .addr ≡ k .addr)
+  pub overlapping : (l k : Location) → s .place l ≡ true → s .place k ≡ true → (overlap l k ≡ true) ↔ (l .addr ≡ k .addr)
   pub same-iff : (x y : R) → s .form x ≡ true → s .form y ≡ true → (s .same x y ≡ true) ↔ (s .thing x ≡ s .thing y)
 
 module _ {R A : Type 0} (s : RecordArray R A) where
@@ -115,6 +114,6 @@ module _ {R A : Type 0} (s : RecordArray R A) where
               let j = h .1 in
               let b = placed (h .0) (w .below (p .addr) (h .0) (j .number)) (j .there) in
               let ok : s .place p ≡ true = rw (j .loc) at (b .0) in
-              let away : (p .addr ≡ s .loc v .addr → ⊥) = λ q. clash (w .crossing p (s .loc v) ok allowed .1 q) clear in
+              let away : (p .addr ≡ s .loc v .addr → ⊥) = λ q. clash (w .overlapping p (s .loc v) ok allowed .1 q) clear in
               replaced-elsewhere p away ∙ e;
         }

@@ -21,13 +21,13 @@ use Rattle.disklayout.proofs.TableAreas.{device-table, table-area-iff, table-pl
 use Rattle.disklayout.specs.Blocks.{NodeBlockOf, NodePlace, TableAreaOf}
 use Rattle.disklayout.specs.Calls.{orZero}
 use Rattle.disklayout.specs.Device.{Good, deviceOf, made}
-use Rattle.disklayout.specs.Layout.{ValidIndirectionTableLocation}
+use Rattle.disklayout.specs.Layout.{ValidIndirectionTableLocation, sameLoc}
 use Rattle.disklayout.specs.declared.Device.{Device}
 use Rattle.disklayout.specs.declared.Location.{Location}
 use Rattle.sectortype.proofs.Equal.{same-node-iff, same-table-iff, table-abstract}
 use Rattle.sectortype.specs.Abstract.{IndirectionTable, indirectionTable}
 use Rattle.sectortype.specs.Form.{nodeForm, tableForm}
-use Rattle.sectortype.specs.Same.{sameLoc, sameNode, sameTable}
+use Rattle.sectortype.specs.Same.{sameNode, sameTable}
 use Rattle.sectortype.specs.declared.Node.{Node}
 use Rattle.sectortype.specs.declared.Table.{Table}
 
@@ -74,7 +74,7 @@ node-laws d =
       below = λ a k e. node-block-iff w g a k .0 e .0;
       single = λ a b k e f. node-block-iff w g a k .0 e .1 ∙ sym (node-block-iff w g b k .0 f .1);
       numbered = λ l p. let h = node-place-iff w g l .0 p in (h .0, node-place-in-of w g (h .0) l p .0 (h .2));
-      crossing = λ l k p q.
+      overlapping = λ l k p q.
           let a = node-place-iff w g l .0 p in
           let b = node-place-iff w g k .0 q in
           let x = node-place-in-iff w g (a .0) l .0 (a .2) in
@@ -95,7 +95,7 @@ table-array-laws f d same =
       below = λ a k e. table-area-iff (deviceOf d) (device-table d) a k .0 e .0;
       single = λ a b k e h. table-area-iff (deviceOf d) (device-table d) a k .0 e .1 ∙ sym (table-area-iff (deviceOf d) (device-table d) b k .0 h .1);
       numbered = λ l p. let h = table-place-iff (deviceOf d) l .0 p in (h .0, table-place-in-of (deviceOf d) (h .0) l p .0 (h .2));
-      crossing = table-overlap-iff (deviceOf d);
+      overlapping = table-overlap-iff (deviceOf d);
       same-iff = λ x y a b. same (x .table) (y .table) a b;
     }
 

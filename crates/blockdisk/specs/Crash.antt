@@ -16,7 +16,8 @@ use Rattle.blockdisk.specs.declared.Records.{Records}
 use Rattle.blockdisk.specs.declared.TableRecord.{TableRecord}
 use Rattle.queue.specs.Queue.{hasAddr, emptyRequests}
 use Rattle.queue.specs.declared.Requests.{Requests}
-use Rattle.sectortype.specs.Same.{sameLoc, sameNode, sameTable}
+use Rattle.disklayout.specs.Layout.{sameLoc}
+use Rattle.sectortype.specs.Same.{sameNode, sameTable}
 
 abbrev pub sameTableRecord : TableRecord → TableRecord → Bool
 sameTableRecord a b = b .present && sameLoc (a .loc) (b .loc) && sameTable (a .table) (b .table)

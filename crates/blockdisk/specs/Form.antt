@@ -16,6 +16,7 @@ use Rattle.disklayout.specs.Blocks.{NodePlace, NodePlaceIn, TablePlaceIn}
 use Rattle.disklayout.specs.Calls.{flag}
 use Rattle.disklayout.specs.Device.{deviceOf, made}
 use Rattle.disklayout.specs.Layout.{ValidIndirectionTableLocation}
+use Rattle.disklayout.specs.declared.Location.{Location}
 use Rattle.queue.specs.Queue.{requestAt, requestsForm}
 use Rattle.queue.specs.declared.Request.{Request}
 use Rattle.queue.specs.declared.Requests.{Requests}
@@ -59,12 +60,19 @@ recordsChecked d r =
       placed = tablesChecked d (r .tables) .placed && nodesChecked d (r .nodes) .placed;
     }
 
--- a queued request has no reference, and a place that 16 allows
+-- a place that 16 allows
+abbrev pub tableAllowed : ℕ → Location → Bool
+tableAllowed d l = flag d (ValidIndirectionTableLocation (deviceOf d) l) .yes
+
+abbrev pub nodeAllowed : ℕ → Location → Bool
+nodeAllowed d l = flag d (NodePlace (deviceOf d) l) .yes
+
+-- a queued request has no reference, and an allowed place
 abbrev pub tableRequestOk : ℕ → Request → Bool
-tableRequestOk d w = eqb (w .reference) 0 && flag d (ValidIndirectionTableLocation (deviceOf d) (w .loc)) .yes
+tableRequestOk d w = eqb (w .reference) 0 && tableAllowed d (w .loc)
 
 abbrev pub nodeRequestOk : ℕ → Request → Bool
-nodeRequestOk d w = eqb (w .reference) 0 && flag d (NodePlace (deviceOf d) (w .loc)) .yes
+nodeRequestOk d w = eqb (w .reference) 0 && nodeAllowed d (w .loc)
 
 unfoldable pub tableQueueForm : ℕ → Requests → Bool
 tableQueueForm d q = requestsForm q && allBelow (λ k. not (ltb k (q .count)) || tableRequestOk d (requestAt q k)) 16

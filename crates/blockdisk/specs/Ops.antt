@@ -4,7 +4,7 @@ use mathlib.Core.Bool.{Bool, _&&_, cond, false, not, true}
 use mathlib.Core.List.{List, [], _∷_}
 use lib.Dec.{eqb, leb}
 use Rattle.base.specs.Refusals.{Row, _when_, answer}
-use Rattle.blockdisk.specs.Form.{diskForm}
+use Rattle.blockdisk.specs.Form.{diskForm, nodeAllowed, tableAllowed}
 use Rattle.blockdisk.specs.Records.{readNode, readTable, withNode, withTable}
 use Rattle.blockdisk.specs.declared.Brought.{Brought}
 use Rattle.blockdisk.specs.declared.Brought.the-variants.{Nothing, Something}
@@ -16,11 +16,7 @@ use Rattle.blockdisk.specs.declared.DiskOp.the-variants.{RespReadIndirec
 use Rattle.blockdisk.specs.declared.DiskOutcome.{DiskOutcome}
 use Rattle.blockdisk.specs.declared.Queues.{Queues}
 use Rattle.blockdisk.specs.declared.Records.{Records}
-use Rattle.blockdisk.specs.declared.Turn.{Turn}
-use Rattle.disklayout.specs.Blocks.{NodePlace}
-use Rattle.disklayout.specs.Calls.{flag}
-use Rattle.disklayout.specs.Device.{deviceOf}
-use Rattle.disklayout.specs.Layout.{ValidIndirectionTableLocation}
+use Rattle.blockdisk.specs.declared.QueueOutcome.{QueueOutcome}
 use Rattle.disklayout.specs.declared.Location.{Location}
 use Rattle.queue.specs.Queue.{entryOf, hasOf, insertOf, removeOf}
 use Rattle.queue.specs.declared.Request.{Request}
@@ -52,12 +48,12 @@ answerRows q id wrong =
 abbrev pub settled : {A : Type 0} → List Row → A → A → A
 settled rows next old = cond (eqb (answer rows) 0) next old
 
-unfoldable pub requestTurn : Requests → ℕ → Location → Bool → Turn
-requestTurn q id l allowed =
+unfoldable pub requestOutcome : Requests → ℕ → Location → Bool → QueueOutcome
+requestOutcome q id l allowed =
     record { answer = answer (requestRows q id allowed); queue = settled (requestRows q id allowed) (insertOf q (requestOf id l)) q }
 
-unfoldable pub answerTurn : Requests → ℕ → Bool → Turn
-answerTurn q id wrong = record { answer = answer (answerRows q id wrong); queue = settled (answerRows q id wrong) (removeOf q id) q }
+unfoldable pub answerOutcome : Requests → ℕ → Bool → QueueOutcome
+answerOutcome q id wrong = record { answer = answer (answerRows q id wrong); queue = settled (answerRows q id wrong) (removeOf q id) q }
 
 -- WHAT A READ ANSWER BRINGS
 
@@ -78,17 +74,11 @@ nodeNotStored d s id b n =
 
 -- THE ROWS OF EACH OPERATION
 
-abbrev pub tablePlace : ℕ → Location → Bool
-tablePlace d l = flag d (ValidIndirectionTableLocation (deviceOf d) l) .yes
-
-abbrev pub nodePlace : ℕ → Location → Bool
-nodePlace d l = flag d (NodePlace (deviceOf d) l) .yes
-
 abbrev pub opRows : ℕ → DiskState → DiskOp → Node → Table → List Row
-opRows d s (ReqReadIndirectionTableOp id l) n t = requestRows (s .queues .tablereads) id (tablePlace d l)
-opRows d s (ReqReadNodeOp id l) n t = requestRows (s .queues .nodereads) id (nodePlace d l)
-opRows d s (ReqWriteIndirectionTableOp id l) n t = requestRows (s .queues .tablewrites) id (tablePlace d l)
-opRows d s (ReqWriteNodeOp id l) n t = requestRows (s .queues .nodewrites) id (nodePlace d l)
+opRows d s (ReqReadIndirectionTableOp id l) n t = requestRows (s .queues .tablereads) id (tableAllowed d l)
+opRows d s (ReqReadNodeOp id l) n t = requestRows (s .queues .nodereads) id (nodeAllowed d l)
+opRows d s (ReqWriteIndirectionTableOp id l) n t = requestRows (s .queues .tablewrites) id (tableAllowed d l)
+opRows d s (ReqWriteNodeOp id l) n t = requestRows (s .queues .nodewrites) id (nodeAllowed d l)
 opRows d s (RespReadIndirectionTableOp id b) n t = answerRows (s .queues .tablereads) id (tableNotStored d s id b t)
 opRows d s (RespReadNodeOp id b) n t = answerRows (s .queues .nodereads) id (nodeNotStored d s id b n)
 opRows d s (RespWriteIndirectionTableOp id) n t = answerRows (s .queues .tablewrites) id false

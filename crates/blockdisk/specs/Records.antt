@@ -12,7 +12,7 @@ use Rattle.disklayout.specs.Device.{deviceOf}
 use Rattle.disklayout.specs.declared.Location.{Location}
 use Rattle.disklayout.specs.declared.NumberOption.{NumberOption}
 use Rattle.sectortype.specs.Form.{emptyTable, defaultSuccs, zeroNode}
-use Rattle.sectortype.specs.Same.{sameLoc}
+use Rattle.disklayout.specs.Layout.{sameLoc}
 use Rattle.sectortype.specs.declared.Node.{Node}
 use Rattle.sectortype.specs.declared.Table.{Table}
 

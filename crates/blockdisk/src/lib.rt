@@ -77,7 +77,7 @@ pub struct Checked {
 }
 
 // What a request or an answer does to its queue: document 01's number, and the queue, unchanged where the number is not 0.
-pub struct Turn {
+pub struct QueueOutcome {
     pub answer: u64,
     pub queue: Requests,
 }

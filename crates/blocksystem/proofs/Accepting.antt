@@ -47,6 +47,10 @@ module _ (d : ℕ) (n : ℕ) (q : Call) (o : Records) (s : DiskState) where
     unfolding diskAsked diskCrash
     crash-next z = rw (e, eq-eqb _ _ z)
 
+-- nothing is outstanding in an empty queue
+pub none-queued : NoneQueued (places emptyRequests)
+none-queued id k h = never (rw places-none at h)
+
 -- a crash leaves what no write was outstanding for
 pub survives : (d : ℕ) (s : DiskState) (o : Records) → answer (crashRows d s o) ≡ 0 → Survives (diskVars d s) (diskVars d (crashed s o))
 survives d s o e =
@@ -57,9 +61,6 @@ survives d s o e =
           upstream-of d o k (x .0) (crash-keeps-table d s o e k (x .0) (x .1) free) ∙ ap some (x .2);
       nodes = λ k n h free. crash-keeps-node d s o e k n h free;
     }
-  where
-    none-queued : NoneQueued (places emptyRequests)
-    none-queued id k h = never (rw places-none at h)
 
 -- BOTH
 

@@ -11,6 +11,7 @@ use Rattle.base.proofs.Refusals.{accepted-iff}
 use Rattle.base.proofs.Tests.{and-false-iff, clash, not-iff, split}
 use Rattle.base.specs.Refusals.{answer}
 use Rattle.blockcache.proofs.Demand2.{cache-accepted, cache-allowed, cache-crash}
+use Rattle.blockcache.proofs.Numbers.{number-decides}
 use Rattle.blockcache.specs.Abstract.{cacheVars, callOp}
 use Rattle.blockcache.specs.NextStep.{NextStep}
 use Rattle.blockcache.specs.Ops.{vopLoc}
@@ -31,21 +32,13 @@ use Rattle.blockdisk.specs.declared.Records.{Records}
 use Rattle.blocksystem.proofs.Accepting.{crash-answer, crash-next, disk-answer, disk-next, joined-cache, joined-disk, joined-zero}
 use Rattle.blocksystem.proofs.EveryStep.{sent-by}
 use Rattle.blocksystem.proofs.Starting.{wf-succs-iff}
-use Rattle.blocksystem.specs.Allowed.{joinedOp, joinedVop, MachineTo, NoNarrowing, SystemAllows, SystemMoves}
+use Rattle.blocksystem.specs.Allowed.{handedBack, joinedOp, joinedVop, MachineTo, NoNarrowing, SystemAllows, SystemMoves}
 use Rattle.blocksystem.specs.Joined.{diskCall, joined, joinedAnswer, startRows}
 use Rattle.blocksystem.specs.Start.{WFSuccs as wholeGraph}
-use Rattle.blocksystem.specs.Upstream.{Crash, systemVars, Variables}
+use Rattle.blocksystem.specs.Upstream.{Crash, Next, crashStep as systemCrash, machineStep, systemVars, Variables}
 use Rattle.disklayout.specs.declared.Location.{Location}
 
 -- THE OPERATIONS OF A STEP
-
-read-is : (step : Step) → stepOf 17 ≡ some step → step ≡ readStep
-unfolding stepOf steps
-read-is step e = cc
-
-start-is : (step : Step) → stepOf 10 ≡ some step → step ≡ receiveLocStep
-unfolding stepOf steps
-start-is step e = cc
 
 module _ (d : ℕ) (s s' : MVariables) (q : Call) where
   abbrev To : Dop → VersionOp → Step → Type 0
@@ -55,8 +48,7 @@ module _ (d : ℕ) (s s' : MVariables) (q : Call) where
   pub next-joined : (n : ℕ) (step : Step) → stepOf n ≡ some step → To (callOp q) (q .vop) step ↔ To (joinedOp n q) (joinedVop n q) step
   next-joined n step e =
       split (isRead n)
-      (λ t. let h : n ≡ 17 = eqb-true n 17 t in
-      let z : step ≡ readStep = read-is step (rw h at e) in
+      (λ t. let z : step ≡ readStep = number-decides n step readStep e t in
       rw z Iff·rfl)
       (λ t. rw t Iff·rfl)
 
@@ -65,7 +57,7 @@ module _ (d : ℕ) (s s' : MVariables) (q : Call) where
       (l : Location) × (q .vop ≡ SendPersistentLocOp l) × (joinedVop n q ≡ SendPersistentLocOp l)
   sends n step e t x =
       let h : n ≡ 10 = eqb-true n 10 t in
-      let z : step ≡ receiveLocStep = start-is step (rw h at e) in
+      let z : step ≡ receiveLocStep = number-decides n step receiveLocStep e t in
       let y : To (joinedOp n q) (joinedVop n q) receiveLocStep = rw z at x in
       let l = y .1 .0 in
       let v : joinedVop n q ≡ SendPersistentLocOp l = y .1 .1 in
@@ -123,21 +115,20 @@ module _ (d n : ℕ) (q : Call) (o : Records) (c : CacheState) (s : DiskState) w
 
 module _ (d : ℕ) (q : Call) (o : Records) (c : CacheState) (s : DiskState) where
   crash-op : (s' : MVariables) → ((step : Step) × (stepOf 18 ≡ some step) × NextStep d (cacheVars c) s' (callOp q) (q .vop) (q .reference) (q .node) step) → q .vop ≡ CrashOp
-  unfolding stepOf steps
-  crash-op s' (step, e, x) = let z : step ≡ crashStep = cc in (rw z at x) .0
+  crash-op s' (step, e, x) = let z : step ≡ crashStep = number-decides 18 step crashStep e refl in (rw z at x) .0
 
   crash-to : joinedAnswer d 18 q o c s ≡ 0 → (answer (crashRows d s o) ≡ 0) × Crash (systemVars d c s) (record { machine = unready; disk = diskVars d (crashed s o) }) (q .vop)
   crash-to e =
       let z = joined-zero d 18 q o c s .0 e in
       let a : answer (crashRows d s o) ≡ 0 = sym (crash-answer d 18 q o s refl) ∙ z .1 in
-      (a, record { op = crash-op (cacheVars (cacheNext c 18 q)) (cache-allowed d c 18 q (z .0)); machine = refl; disk = crash-accepted d s o .0 a .2 })
+      (a, record { op = crash-op (cacheVars (cacheNext c 18 q)) (cache-allowed d c 18 q (z .0)); machine = refl; disk = crash-accepted d s o .0 a .1 })
 
   crash-from : NoNarrowing d 18 q o c s → (m : MVariables) → Crash (systemVars d c s) (record { machine = m; disk = diskVars d (crashed s o) }) (q .vop) → joinedAnswer d 18 q o c s ≡ 0
   unfolding stepOf steps
   crash-from h m x =
       joined-zero d 18 q o c s .1 (
         cache-accepted d c 18 q .1 (h .cache, (crashStep, refl, (m, (x .op, x .machine)))),
-        crash-answer d 18 q o s refl ∙ crash-accepted d s o .1 (h .crash refl .0, h .crash refl .1, x .disk),
+        crash-answer d 18 q o s refl ∙ crash-accepted d s o .1 (h .crash refl, x .disk),
         start-iff d 18 q s .1 (λ t. clash t refl),
       )
 
@@ -153,7 +144,7 @@ module _ (d n : ℕ) (q : Call) (o : Records) (c : CacheState) (s : DiskState) w
             record {
               cache = cache-accepted d c n q .0 (z .0) .0;
               disk = λ ne. disk-accepted d s (diskCall n q) .0 (sym (disk-answer d n q o s ne) ∙ z .1) .0;
-              crash = λ t. let x = crash-accepted d s o .0 (sym (crash-answer d n q o s t) ∙ z .1) in (x .0, x .1);
+              crash = λ t. crash-accepted d s o .0 (sym (crash-answer d n q o s t) ∙ z .1) .0;
             },
             record {
               machine = λ ne. (after d n q o c s ne, machine-to d n q o c s ne e);
@@ -183,3 +174,13 @@ module _ (d n : ℕ) (q : Call) (o : Records) (c : CacheState) (s : DiskState) w
             let k : cacheVars (joined d n q o c s .cache) ≡ unready = ap cacheVars (cs ∙ ap (λ m. cacheNext c m q) h) ∙ cache-crash c q in
             rw (k, y) (crash-to d q o c s (rw h at e) .1);
       }
+
+  -- in upstream's own word: an accepted call is a step of BlockSystem's Next
+  pub joined-next : joinedAnswer d n q o c s ≡ 0 → Next d (systemVars d c s) (handedBack d n q o c s) (joinedVop n q)
+  joined-next e =
+      let m = joined-allowed e in
+      split (isCrash n)
+      (λ t. let k : n ≡ 18 = eqb-true n 18 t in
+      let v : joinedVop n q ≡ q .vop = rw k refl in
+      (systemCrash, rw v (m .crash t)))
+      (λ t. let x = m .machine t in (machineStep (joinedOp n q) (q .reference) (q .node) (x .0), x .2))

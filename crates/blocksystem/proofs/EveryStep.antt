@@ -36,12 +36,12 @@ use Rattle.blocksystem.specs.Joined.{diskCall}
 use Rattle.blocksystem.specs.Names.{names, pictureOf, picturesAfter, picturesOf, startedAt, stepPictures}
 use Rattle.blocksystem.specs.declared.Pictures.{Pictures}
 use Rattle.disklayout.specs.declared.Location.{Location}
-use Rattle.sectortype.proofs.Equal.{same-loc-iff}
-use Rattle.sectortype.proofs.Forms.{empty-nodes-form, with-slot-form, zero-node-form, zero-succs-form}
+use Rattle.disklayout.proofs.Facts.{same-loc-iff}
+use Rattle.sectortype.proofs.Forms.{empty-nodes-form, with-slot-form, zero-slot-form}
 use Rattle.sectortype.proofs.Maps.{nodes-del, nodes-put}
 use Rattle.sectortype.specs.Abstract.{nodesMap}
-use Rattle.sectortype.specs.Form.{emptyNodes, nodeForm, nodesForm, slotForm, withSlot, zeroSlot}
-use Rattle.sectortype.specs.Same.{sameLoc}
+use Rattle.sectortype.specs.Form.{emptyNodes, nodeForm, nodesForm, withSlot, zeroSlot}
+use Rattle.disklayout.specs.Layout.{sameLoc}
 use Rattle.sectortype.specs.declared.Nodes.{Nodes}
 
 -- A START AT A NAMED PLACE
@@ -63,9 +63,6 @@ started t l h =
 pub picture-form : (t : Pictures) (l : Location) → PicturesForm t → nodesForm (pictureOf t l) ≡ true
 picture-form t l f =
     split (names (t .first) l) (λ a. rw a (f .first)) (λ a. split (names (t .second) l) (λ b. rw (a, b) (f .second)) (λ b. rw (a, b) empty-nodes-form))
-
-zero-slot-form : slotForm zeroSlot ≡ true
-zero-slot-form = and-both zero-node-form (and-both refl zero-succs-form)
 
 -- THE PICTURES ARE KEPT
 

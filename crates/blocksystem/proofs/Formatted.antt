@@ -13,30 +13,29 @@ use Rattle.blockcache.specs.Form.{emptyCache}
 use Rattle.blockcache.specs.Upstream.{AllLocationsForDifferentRefsDontOverlap, WFCompleteIndirectionTable}
 use Rattle.sectortype.specs.Graph.{hasSucc}
 use Rattle.sectortype.specs.declared.Succs.{Succs}
-use Rattle.base.proofs.Maps.{put-other, put-same, put-some}
+use Rattle.base.proofs.Maps.{in-put-same, put-none, put-other, put-same, put-some}
 use Rattle.base.proofs.Tests.{and-iff, clash, never}
 use Rattle.base.specs.Maps.{empty, put}
 use Rattle.blockcache.proofs.FormLaws.{empty-cache-form}
 use Rattle.blockcache.proofs.Forms.{cache-form-iff}
 use Rattle.blockdisk.proofs.Crashing.{crashed-form, empty-records-form, empty-records-placed}
 use Rattle.blockdisk.proofs.Kept.{with-node-form, with-node-placed, with-table-form, with-table-placed}
-use Rattle.blockdisk.proofs.Outstanding.{places-none}
 use Rattle.blockdisk.proofs.Reading.{node-written, table-leaves-nodes, table-written, upstream-of, with-node-is, with-table-is}
 use Rattle.blockdisk.specs.Form.{diskForm, recordsChecked}
 use Rattle.blockdisk.specs.Records.{emptyRecords, withNode, withTable}
-use Rattle.blockdisk.specs.Upstream.{diskVars, nodesStored, places, upstreamTables}
+use Rattle.blockdisk.specs.Upstream.{diskVars, nodesStored, upstreamTables}
 use Rattle.blockdisk.specs.declared.Records.{Records}
 use Rattle.disklayout.specs.Blocks.{NodeBlockOf, NodePlace, TableAreaOf}
 use Rattle.disklayout.specs.Device.{deviceOf, devices, made}
 use Rattle.disklayout.specs.Layout.{ValidIndirectionTableAddr, ValidIndirectionTableLocation, ValidNodeAddr, ValidNodeLocation}
 use Rattle.disklayout.specs.declared.Location.{Location}
-use Rattle.queue.specs.Queue.{emptyRequests}
 use Rattle.sectortype.proofs.Forms.{empty-nodes-form, empty-table-form, with-entry-form, with-slot-form, zero-succs-form}
 use Rattle.sectortype.proofs.Maps.{empty-graph, empty-locs, empty-nodes, graph-put, locs-put, nodes-put}
 use Rattle.sectortype.specs.Abstract.{graphOf, indirectionTable, locsOf, nodesMap}
 use Rattle.sectortype.specs.Form.{emptyNodes, emptyTable, nodesForm, succAt, tableForm, zeroNode, zeroSuccs}
-use Rattle.blocksystem.proofs.Invariant.{Invariant, KeptOn, ListsAgree, NoneQueued}
-use Rattle.blocksystem.proofs.Laws.{in-put-same, put-none, same-put}
+use Rattle.blocksystem.proofs.Accepting.{none-queued}
+use Rattle.blocksystem.proofs.Invariant.{Invariant, KeptOn, ListsAgree}
+use Rattle.blocksystem.proofs.Laws.{same-put}
 use Rattle.blocksystem.specs.Format.{emptyDisk, formatted, formattedDisk, formattedRecords, rootNode, rootPlace, rootTable, tablePlaceOf}
 use Rattle.blocksystem.specs.Names.{firstPictures, withRoot}
 use Rattle.blocksystem.specs.Run.{start}
@@ -138,9 +137,6 @@ module _ (d x : ℕ) (on : made d ≡ true) where
   pub formatted-node : nodesStored d (formattedRecords k l x) l ≡ some (rootNode x)
   formatted-node =
       rw (records-are, table-leaves-nodes d rooted k (rootTable l)) (node-written d emptyRecords on (empty-records-form d) l (rootNode x) (root-place d on))
-
-  none-queued : NoneQueued (places emptyRequests)
-  none-queued id m h = never (rw places-none at h)
 
   pub root-complete : WFCompleteIndirectionTable d (indirectionTable (rootTable (rootPlace d)))
   root-complete =

@@ -6,7 +6,7 @@ use mathlib.Core.Option.{Option}
 use mathlib.Core.Path.{_≡_, ap, fun-ext, refl}
 use lib.Dec.{eqb}
 use borrow.Author.Tests.{eqb-true}
-use Rattle.base.proofs.Maps.{put-same, put-some}
+use Rattle.base.proofs.Maps.{in-put-same, put-same, put-some}
 use Rattle.base.proofs.Tests.{clash, never, split}
 use Rattle.base.specs.Maps.{empty, isSome, put}
 use Rattle.blockcache.specs.Upstream.{In}
@@ -19,7 +19,6 @@ use Rattle.sectortype.specs.Form.{zeroSuccs}
 use Rattle.sectortype.specs.declared.Node.{Node}
 use Rattle.sectortype.specs.declared.Succs.{Succs}
 use Rattle.blocksystem.proofs.Formatted.{formatted-is, formatted-node, no-successor, root-complete, formatted-table, root-graph, root-locs, table-place}
-use Rattle.blocksystem.proofs.Laws.{in-put-same}
 use Rattle.blocksystem.specs.Format.{formatted, formattedDisk, formattedRecords, rootNode, rootPlace, rootTable, tablePlaceOf}
 use Rattle.blocksystem.specs.Upstream.{DiskGraph, Init, NoDanglingPointers, SuccessorsAgree, systemVars}
 

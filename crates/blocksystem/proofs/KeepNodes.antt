@@ -2,21 +2,21 @@
 use Prim.Native.Nat.{ℕ}
 use mathlib.Core.Logic.{⊎-elim}
 use mathlib.Core.Option.{Option, none, some}
-use mathlib.Core.Path.{_∙_, _≡_, ap, refl, sym}
-use Rattle.blockcache.proofs.InvLaws.{ready-ext}
-use Rattle.base.proofs.Maps.{del-other, del-some, put-other, put-same, put-some}
+use mathlib.Core.Path.{_∙_, _≡_, ap, sym}
+use Rattle.blockcache.proofs.InvGraph.{alloc-fixed, dirty-fixed, unalloc-fixed}
+use Rattle.blockcache.proofs.InvLaws.{setEphemeral}
+use Rattle.base.proofs.Maps.{del-in, del-other, del-some, in-del, in-put, none-del, not-both, put-in, put-other, put-same, put-some, some-of}
 use Rattle.base.proofs.Tests.{never}
 use Rattle.base.specs.Maps.{Map, del, isSome, put}
 use Rattle.blockcache.specs.Upstream.{Alloc, Dirty, Evict, In, PageInNodeResp, Ready, SameSuccs, Unalloc, ready}
 use Rattle.blockcache.specs.UpstreamInv.{Inv}
 use Rattle.blockdisk.proofs.Moves.{nextVars}
 use Rattle.blockdisk.specs.Upstream.{AckReadNode, Imap, Variables as DVariables, respReadNode}
-use Rattle.disklayout.specs.declared.Location.{Location}
 use Rattle.sectortype.specs.Abstract.{IndirectionTable}
 use Rattle.sectortype.specs.declared.Node.{Node}
 use Rattle.sectortype.specs.declared.Succs.{Succs}
 use Rattle.blocksystem.proofs.Invariant.{FrozenOk, PictureMaps, Whole}
-use Rattle.blocksystem.proofs.Laws.{del-in, in-del, in-of, in-put, none-del, not-both, put-in, same-del, same-put, some-of}
+use Rattle.blocksystem.proofs.Laws.{same-del, same-put}
 
 -- the same pictures but for the working one
 abbrev pub workingMaps : PictureMaps → Map Node → PictureMaps
@@ -110,31 +110,12 @@ keep-evict d x y v t ref w i u =
 
 -- THE WORKING PICTURE CHANGED
 
--- the ephemeral table and the cached nodes set, all else as it was
-abbrev working : Ready → Map Location → Map Succs → Map Node → Ready
-working x locs graph cache =
-    record {
-      persistentIndirectionTable = x .persistentIndirectionTable;
-      frozenIndirectionTable = x .frozenIndirectionTable;
-      ephemeralIndirectionTable = record { locs = locs; graph = graph };
-      persistentIndirectionTableLoc = x .persistentIndirectionTableLoc;
-      frozenIndirectionTableLoc = x .frozenIndirectionTableLoc;
-      outstandingIndirectionTableWrite = x .outstandingIndirectionTableWrite;
-      outstandingBlockWrites = x .outstandingBlockWrites;
-      outstandingBlockReads = x .outstandingBlockReads;
-      cache = cache;
-    }
-
-table-of : {t : IndirectionTable} {l : Map Location} {g : Map Succs} → t .locs ≡ l → t .graph ≡ g → t ≡ record { locs = l; graph = g }
-table-of a b = λ i. record { locs = a i; graph = b i }
-
 pub keep-unalloc : (d : ℕ) (x y : Ready) (v : DVariables) (t : PictureMaps) (ref : ℕ) →
     Whole d (ready x) v t → Inv d (ready y) → Unalloc x y ref → Whole d (ready y) v (workingMaps t (del (t .working) ref))
 keep-unalloc d x y v t ref w i u =
     let p = w .phase in
     let o = p .working .pictured in
-    let is : y ≡ working x (del (x .ephemeralIndirectionTable .locs) ref) (del (x .ephemeralIndirectionTable .graph) ref) (del (x .cache) ref) =
-    let e = table-of (u .locs') (u .graph') in search ready-ext in
+    let is = unalloc-fixed x y ref u in
     rw is
     (record {
       inv = rw is at i;
@@ -151,7 +132,7 @@ keep-unalloc d x y v t ref w i u =
               (h .0, h .1, del-other (x .ephemeralIndirectionTable .locs) ref (h .0) (u .not-read j (h .0) (h .1)) ∙ h .2);
           uncached = λ j r q.
               let h = p .reads .uncached j r q in
-              (in-del (x .ephemeralIndirectionTable .graph) ref r (h .0) (u .not-read j r q), none-del (x .cache) ref r (h .1));
+              (in-del (x .ephemeralIndirectionTable .graph) ref r (u .not-read j r q) (h .0), none-del (x .cache) ref r (h .1));
         };
         working = record {
           pictured = record {
@@ -171,17 +152,15 @@ keep-unalloc d x y v t ref w i u =
     })
 
 -- a reference's node set in the cache and the picture, its list in the graph; its location, if it had one, is dropped
-module _ (d : ℕ) (x y : Ready) (v : DVariables) (t : PictureMaps) (ref : ℕ) (n : Node) (list : Succs) (locs : Map Location) (w : Whole d (ready x) v t) (i : Inv d (ready y)) where
-  abbrev put-ready : Ready
-  put-ready = working x locs (put (x .ephemeralIndirectionTable .graph) ref list) (put (x .cache) ref n)
+module _ (d : ℕ) (x y : Ready) (v : DVariables) (t : PictureMaps) (ref : ℕ) (n : Node) (list : Succs) (w : Whole d (ready x) v t) (i : Inv d (ready y)) where
+  abbrev table : IndirectionTable
+  table = x .ephemeralIndirectionTable
 
-  keep-set : y ≡ put-ready → SameSuccs list n →
-      ((k : ℕ) (l : Location) → locs k ≡ some l → (k ≡ ref → ⊥) × (x .ephemeralIndirectionTable .locs k ≡ some l)) →
-      ((k : ℕ) → (k ≡ ref → ⊥) → locs k ≡ x .ephemeralIndirectionTable .locs k) →
+  keep-set : y ≡ setEphemeral x (record { locs = del (table .locs) ref; graph = put (table .graph) ref list }) (put (x .cache) ref n) → SameSuccs list n →
       ((id k : ℕ) → x .outstandingBlockReads id ≡ some k → k ≡ ref → ⊥) →
       ((f : IndirectionTable) → x .frozenIndirectionTable ≡ some f → Unneeded f ref) →
       Whole d (ready y) v (workingMaps t (put (t .working) ref n))
-  keep-set is succs back there unread unneeded =
+  keep-set is succs unread unneeded =
       let p = w .phase in
       let o = p .working .pictured in
       rw is
@@ -195,28 +174,28 @@ module _ (d : ℕ) (x y : Ready) (v : DVariables) (t : PictureMaps) (ref : ℕ) 
           frozen-place = p .frozen-place;
           writes = p .writes;
           reads = record {
-            awaited = λ j k q. let h = p .reads .awaited j k q in (h .0, h .1, there (h .0) (unread j (h .0) (h .1)) ∙ h .2);
+            awaited = λ j k q. let h = p .reads .awaited j k q in (h .0, h .1, del-other (table .locs) ref (h .0) (unread j (h .0) (h .1)) ∙ h .2);
             uncached = λ j r q.
                 let h = p .reads .uncached j r q in
-                (in-put (x .ephemeralIndirectionTable .graph) ref list r (h .0), put-other (x .cache) ref n r (unread j r q) ∙ h .1);
+                (in-put (table .graph) ref list r (h .0), put-other (x .cache) ref n r (unread j r q) ∙ h .1);
           };
           working = record {
             pictured = record {
-              refs = same-put (t .working) (x .ephemeralIndirectionTable .graph) (o .refs) ref n list;
+              refs = same-put (t .working) (table .graph) (o .refs) ref n list;
               lists = λ r a m g q.
                   ⊎-elim
                   (λ (z : (r ≡ ref) × (list ≡ a)).
                   ⊎-elim (λ (y : (r ≡ ref) × (n ≡ m)). rw (← (z .1), ← (y .1)) succs) (λ y. absurd (y .0 (z .0))) (put-some (t .working) ref n r q))
                   (λ z. ⊎-elim (λ y. absurd (z .0 (y .0))) (λ y. o .lists r a m (z .1) (y .1)) (put-some (t .working) ref n r q))
-                  (put-some (x .ephemeralIndirectionTable .graph) ref list r g);
+                  (put-some (table .graph) ref list r g);
               located = λ r l q.
-                  let e = back r l q in
+                  let e = del-some (table .locs) ref r q in
                   let s = o .located r l (e .1) in
                   record { node = s .node; stored = s .stored; pictured = put-other (t .working) ref n r (e .0) ∙ s .pictured };
             };
             cached = λ r m g q.
                 ⊎-elim (λ (z : (r ≡ ref) × (n ≡ m)). rw (z .0) (put-same (t .working) ref n ∙ ap some (z .1)))
-                (λ z. put-other (t .working) ref n r (z .0) ∙ p .working .cached r m (put-in (x .ephemeralIndirectionTable .graph) ref list r g (z .0)) (z .1)) (put-some (x .cache) ref n r q);
+                (λ z. put-other (t .working) ref n r (z .0) ∙ p .working .cached r m (put-in (table .graph) ref list r (z .0) g) (z .1)) (put-some (x .cache) ref n r q);
           };
           frozen = λ f q. frozen-cache (p .frozen f q) ref (unneeded f q) (λ k ne. put-other (x .cache) ref n k ne);
         };
@@ -225,23 +204,17 @@ module _ (d : ℕ) (x y : Ready) (v : DVariables) (t : PictureMaps) (ref : ℕ) 
 pub keep-dirty : (d : ℕ) (x y : Ready) (v : DVariables) (t : PictureMaps) (ref : ℕ) (n : Node) →
     Whole d (ready x) v t → Inv d (ready y) → Dirty x y ref n → Whole d (ready y) v (workingMaps t (put (t .working) ref n))
 keep-dirty d x y v t ref n w i u =
-    let locs = x .ephemeralIndirectionTable .locs in
-    keep-set d x y v t ref n (u .list) (del locs ref) w i
-    (let e = table-of (u .locs') (u .graph') in search ready-ext)
+    keep-set d x y v t ref n (u .list) w i
+    (dirty-fixed x y ref n u)
     (u .succs)
-    (λ k l q. del-some locs ref k q)
-    (λ k ne. del-other locs ref k ne)
     (λ id k q z. not-both (x .cache) ref (u .cached) (rw z at (w .phase .reads .uncached id k q .1)))
     (λ f q. unneeded-located f ref (u .frozen-located f q))
 
 pub keep-alloc : (d : ℕ) (x y : Ready) (v : DVariables) (t : PictureMaps) (ref : ℕ) (n : Node) →
     Whole d (ready x) v t → Inv d (ready y) → Alloc x y ref n → Whole d (ready y) v (workingMaps t (put (t .working) ref n))
 keep-alloc d x y v t ref n w i u =
-    let locs = x .ephemeralIndirectionTable .locs in
-    keep-set d x y v t ref n (u .list) locs w i
-    (let e = table-of (u .locs') (u .graph') in search ready-ext)
+    keep-set d x y v t ref n (u .list) w i
+    (alloc-fixed d x y ref n (w .inv) u)
     (u .succs)
-    (λ k l q. ((λ z. not-both (x .ephemeralIndirectionTable .graph) ref (rw z at (w .inv .ephemeral .wf .keys k (in-of locs k q))) (u .not-allocated)), q))
-    (λ k ne. refl)
     (λ id k q z. not-both (x .ephemeralIndirectionTable .graph) ref (rw z at (w .phase .reads .uncached id k q .0)) (u .not-allocated))
     (λ f q. unneeded-uncached (w .phase .frozen f q) ref (u .not-cached))

@@ -3,9 +3,8 @@ use Prim.Native.Nat.{ℕ}
 use mathlib.Core.Logic.{⊎-elim}
 use mathlib.Core.Option.{Option, none, some}
 use mathlib.Core.Path.{_∙_, _≡_, ap, refl, sym}
-use Rattle.blockcache.proofs.InvReads.{loaded}
-use Rattle.blockcache.proofs.InvLaws.{ready-ext}
-use Rattle.base.proofs.Maps.{del-some, put-some}
+use Rattle.blockcache.proofs.InvReads.{loaded, loaded-fixed}
+use Rattle.base.proofs.Maps.{del-some, not-both, put-some, some-of}
 use Rattle.base.proofs.Tests.{clash, never}
 use Rattle.base.specs.Maps.{Map, del, isSome}
 use Rattle.blockcache.specs.Upstream.{CleanUp, Freeze, PageInIndirectionTableResp, Ready, WriteBackIndirectionTableReq, WriteBackIndirectionTableResp, loadingIndirectionTable, ready}
@@ -19,7 +18,7 @@ use Rattle.disklayout.specs.declared.Location.{Location}
 use Rattle.sectortype.specs.Abstract.{IndirectionTable}
 use Rattle.sectortype.specs.declared.Node.{Node}
 use Rattle.blocksystem.proofs.Invariant.{FrozenOk, FrozenPlaceOk, Kept, NoneQueued, PictureMaps, ReadyOk, TableWritesAwaited, Whole}
-use Rattle.blocksystem.proofs.Laws.{fewer-del, frozen-none, kept-fewer, kept-keys, kept-table-write, not-both, same-none, some-of}
+use Rattle.blocksystem.proofs.Laws.{fewer-del, frozen-none, kept-fewer, kept-keys, kept-table-write, same-none}
 
 -- NO FROZEN PLACE
 
@@ -234,7 +233,7 @@ keep-table-page-in d at read y v v' t id brought w i u a =
     })
   where
     is : y ≡ loaded (u .t) at
-    is = search ready-ext
+    is = loaded-fixed d at read y id brought u
 
     -- what is brought is what is stored at the place being loaded
     stored : v .indirectionTables at ≡ some (u .t)

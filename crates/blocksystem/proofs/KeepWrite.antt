@@ -1,13 +1,13 @@
 -- WriteBackNodeReq keeps the invariant: it writes to an address that no table and no outstanding write has. Assumes nothing.
 use Prim.Native.Nat.{ℕ}
-use mathlib.Core.Bool.{Bool, _&&_, not}
-use mathlib.Core.Logic.{_⊎_, inl, inr, ⊎-elim}
+use mathlib.Core.Logic.{⊎-elim}
 use mathlib.Core.Option.{Option, Option·map, map-eq-some-iff, none, some}
-use mathlib.Core.Path.{_∙_, _≡_, ap, refl, sym}
-use Rattle.blockcache.proofs.InvLaws.{ready-ext}
-use Rattle.base.proofs.Maps.{put-other, put-same, put-some}
-use Rattle.base.proofs.Tests.{and-iff, clash, never, none-iff, not-true-iff, split}
-use Rattle.base.specs.Maps.{Map, isSome, put}
+use mathlib.Core.Path.{_∙_, _≡_, ap, sym}
+use Rattle.blockcache.proofs.InvLaws.{assign-full, assign-graph, assign-kept, assign-none, assign-some}
+use Rattle.blockcache.proofs.InvWrites.{afterWrite, write-fixed}
+use Rattle.base.proofs.Maps.{in-of, put-other, put-same, put-some}
+use Rattle.base.proofs.Tests.{never}
+use Rattle.base.specs.Maps.{Map, put}
 use Rattle.blockcache.specs.Upstream.{In, NoAddr, OutstandingWrite, Ready, WriteBackNodeReq, assignRefToLocation, ready}
 use Rattle.blockcache.specs.UpstreamInv.{Inv}
 use Rattle.blockdisk.proofs.Moves.{nextVars}
@@ -18,69 +18,10 @@ use Rattle.sectortype.specs.Abstract.{IndirectionTable}
 use Rattle.sectortype.specs.declared.Node.{Node}
 use Rattle.blocksystem.specs.Upstream.{unlessWriting}
 use Rattle.blocksystem.proofs.Invariant.{PictureMaps, Pictured, ReadyOk, Whole, WritesApart}
-use Rattle.blocksystem.proofs.Laws.{kept-node-write, put-none, stored-elsewhere}
-
--- A TABLE THAT GETS A LOCATION
-
-module _ (t : IndirectionTable) (ref : ℕ) (loc : Location) where
-  -- the reference is in the graph, without a location
-  abbrev lacks : Bool
-  lacks = isSome (t .graph ref) && not (isSome (t .locs ref))
-
-  pub assign-graph : assignRefToLocation t ref loc .graph ≡ t .graph
-  unfolding assignRefToLocation
-  assign-graph = refl
-
-  -- a location is the new one, or one that the table had
-  pub assign-some : (j : ℕ) {k : Location} → assignRefToLocation t ref loc .locs j ≡ some k →
-      ((j ≡ ref) × (loc ≡ k) × In ref (t .graph) × (t .locs ref ≡ none)) ⊎ (t .locs j ≡ some k)
-  unfolding assignRefToLocation
-  assign-some j p =
-      split lacks
-      (λ e. let h = and-iff (isSome (t .graph ref)) (not (isSome (t .locs ref))) .0 e in
-      ⊎-elim (λ x. inl (x .0, x .1, h .0, none-iff (t .locs ref) .0 (not-true-iff (isSome (t .locs ref)) .0 (h .1)))) (λ x. inr (x .1)) (put-some (t .locs) ref loc j (rw e at p)))
-      (λ e. inr (rw e at p))
-
-  -- one that the table had stays
-  pub assign-keeps : (j : ℕ) (k : Location) → t .locs j ≡ some k → assignRefToLocation t ref loc .locs j ≡ some k
-  unfolding assignRefToLocation
-  assign-keeps j k p =
-      split lacks
-      (λ e. let h = and-iff (isSome (t .graph ref)) (not (isSome (t .locs ref))) .0 e in
-      rw e (put-other (t .locs) ref loc j (λ q. never (sym (none-iff (t .locs ref) .0 (not-true-iff (isSome (t .locs ref)) .0 (h .1))) ∙ rw q at p)) ∙ p))
-      (λ e. rw e p)
-
-  pub assign-none : (j : ℕ) → assignRefToLocation t ref loc .locs j ≡ none → t .locs j ≡ none
-  unfolding assignRefToLocation
-  assign-none j p = split lacks (λ e. put-none (t .locs) ref loc j (rw e at p) .1) (λ e. rw e at p)
-
-  -- a table that has all its locations stays as it is
-  pub assign-complete : ((k : ℕ) → isSome (t .graph k) ≡ isSome (t .locs k)) → assignRefToLocation t ref loc ≡ t
-  unfolding assignRefToLocation
-  assign-complete h =
-      split lacks
-      (λ e. let g = and-iff (isSome (t .graph ref)) (not (isSome (t .locs ref))) .0 e in
-      clash (sym (h ref) ∙ g .0) (not-true-iff (isSome (t .locs ref)) .0 (g .1)))
-      (λ e. rw e)
-
--- THE STEP
+use Rattle.blocksystem.proofs.Laws.{kept-node-write, stored-elsewhere}
 
 abbrev assignFrozen : Option IndirectionTable → ℕ → Location → Option IndirectionTable
 assignFrozen f ref loc = Option·map (λ t. assignRefToLocation t ref loc) f
-
-abbrev written : Ready → ℕ → ℕ → Location → Ready
-written x id ref loc =
-    record {
-      persistentIndirectionTable = x .persistentIndirectionTable;
-      frozenIndirectionTable = assignFrozen (x .frozenIndirectionTable) ref loc;
-      ephemeralIndirectionTable = assignRefToLocation (x .ephemeralIndirectionTable) ref loc;
-      persistentIndirectionTableLoc = x .persistentIndirectionTableLoc;
-      frozenIndirectionTableLoc = x .frozenIndirectionTableLoc;
-      outstandingIndirectionTableWrite = x .outstandingIndirectionTableWrite;
-      outstandingBlockWrites = put (x .outstandingBlockWrites) id (record { ref = ref; loc = loc });
-      outstandingBlockReads = x .outstandingBlockReads;
-      cache = x .cache;
-    }
 
 module _ (d : ℕ) (x y : Ready) (v : DVariables) (t : PictureMaps) (id ref : ℕ) (loc : Location) (n : Node) (w : Whole d (ready x) v t) (u : WriteBackNodeReq d x y id loc n ref) where
   abbrev p : ReadyOk x v t
@@ -90,12 +31,8 @@ module _ (d : ℕ) (x y : Ready) (v : DVariables) (t : PictureMaps) (id ref : �
   abbrev new : OutstandingWrite
   new = record { ref = ref; loc = loc }
 
-  frozen-is : (o : Option IndirectionTable) → x .frozenIndirectionTable ≡ o → y .frozenIndirectionTable ≡ assignFrozen o ref loc
-  frozen-is none e = u .frozen-none e
-  frozen-is (some f) e = u .frozen-some f e
-
-  is : y ≡ written x id ref loc
-  is = let e : y .frozenIndirectionTable ≡ assignFrozen (x .frozenIndirectionTable) ref loc = frozen-is (x .frozenIndirectionTable) refl in search ready-ext
+  is : y ≡ afterWrite x ref id loc
+  is = write-fixed d x y id loc n ref u
 
   -- a frozen table after the step is the one before it, with the location where it lacked one
   was : (f : IndirectionTable) → assignFrozen (x .frozenIndirectionTable) ref loc ≡ some f →
@@ -109,7 +46,7 @@ module _ (d : ℕ) (x y : Ready) (v : DVariables) (t : PictureMaps) (id ref : �
       let c = w .inv .places .frozen-loc l a in
       let same : some (c .table) ≡ some (g .0) = sym (c .is) ∙ g .1 in
       let e : c .table ≡ g .0 = cc in
-      let full = assign-complete (g .0) ref loc (rw e at (c .wf .keys)) in
+      let full = assign-full (g .0) ref loc (rw e at (c .wf .keys)) in
       g .1 ∙ ap some (sym full ∙ g .2)
 
   -- a table that may get the new location, and its picture
@@ -121,10 +58,10 @@ module _ (d : ℕ) (x y : Ready) (v : DVariables) (t : PictureMaps) (id ref : �
         lists = rw (assign-graph f ref loc) (old .lists);
         located = λ j k q.
             ⊎-elim
+            (λ z. stored-elsewhere loc n (old .located j k z) (free j k z))
             (λ (z : (j ≡ ref) × (loc ≡ k) × In ref (f .graph) × (f .locs ref ≡ none)).
             rw (← (z .1), z .0) (record { node = n; stored = replacing-same (v .nodes) loc n; pictured = here (z .2) (z .3) }))
-            (λ z. stored-elsewhere loc n (old .located j k z) (free j k z))
-            (assign-some f ref loc j q);
+            (assign-some f ref loc j k q);
       }
 
   -- the named places: the persistent table and the frozen one
@@ -169,7 +106,10 @@ module _ (d : ℕ) (x y : Ready) (v : DVariables) (t : PictureMaps) (id ref : �
             frozen-apart = λ l f a q. let e = unmoved l f a q in new-apart (f .locs) (u .free .frozen f e) (p .writes .frozen-apart l f a e);
           };
           reads = record {
-            awaited = λ j k q. let h = p .reads .awaited j k q in (h .0, h .1, assign-keeps (x .ephemeralIndirectionTable) ref loc (h .0) k (h .2));
+            awaited = λ j k q.
+                let h = p .reads .awaited j k q in
+                let e = x .ephemeralIndirectionTable in
+                (h .0, h .1, assign-kept e ref loc (h .0) (in-of (e .locs) (h .0) (h .2)) ∙ h .2);
             uncached = rw (assign-graph (x .ephemeralIndirectionTable) ref loc) (p .reads .uncached);
           };
           working = record {

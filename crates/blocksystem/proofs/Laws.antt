@@ -1,15 +1,14 @@
--- Laws of the invariant's parts: maps with a key more or less, a named place under a write, an answer and a crash. Assumes nothing.
+-- Laws of the invariant's parts: maps of the same keys with a key more or less, a named place under a write, an answer and a crash. Assumes nothing.
 use Prim.Native.Nat.{ℕ}
 use mathlib.Core.Bool.{true}
 use mathlib.Core.Logic.{⊎-elim}
 use mathlib.Core.Option.{Option, none, some}
 use mathlib.Core.Path.{_∙_, _≡_, ap, refl, sym}
 use lib.Dec.{eqb}
-use borrow.Author.Tests.{eqb-false, eqb-true}
-use Rattle.base.proofs.Maps.{del-other, del-some, put-some}
-use Rattle.base.proofs.Tests.{never, none-iff, some-iff, split}
+use Rattle.base.proofs.Maps.{del-some, put-some, some-of}
+use Rattle.base.proofs.Tests.{none-iff, split}
 use Rattle.base.specs.Maps.{Map, del, isSome, put}
-use Rattle.blockcache.specs.Upstream.{In, NoAddr}
+use Rattle.blockcache.specs.Upstream.{NoAddr}
 use Rattle.blockdisk.proofs.Reading.{replacing, replacing-other}
 use Rattle.blockdisk.specs.Upstream.{Imap}
 use Rattle.disklayout.specs.declared.Location.{Location}
@@ -18,46 +17,7 @@ use Rattle.sectortype.specs.declared.Node.{Node}
 use Rattle.blocksystem.specs.Upstream.{unlessWriting}
 use Rattle.blocksystem.proofs.Invariant.{Kept, Located, NoneQueued, NoneAt, SameKeys, StoredPictured}
 
--- MAPS
-
-module _ {A : Type 0} where
-  pub in-of : (m : Map A) (k : ℕ) {a : A} → m k ≡ some a → In k m
-  in-of m k e = rw e
-
-  pub some-of : (m : Map A) (k : ℕ) → In k m → (a : A) × (m k ≡ some a)
-  some-of m k i = some-iff (m k) .0 i
-
-  pub not-both : {X : Type 0} (m : Map A) (k : ℕ) → In k m → m k ≡ none → X
-  not-both m k i e = let d = some-of m k i in never (sym e ∙ d .1)
-
-  pub in-put-same : (m : Map A) (k : ℕ) (v : A) → In k (put m k v)
-  unfolding put
-  in-put-same m k v = split (eqb k k) (λ e. rw e) (λ e. absurd (eqb-false k k e refl))
-
-  pub in-put : (m : Map A) (k : ℕ) (v : A) (j : ℕ) → In j m → In j (put m k v)
-  unfolding put
-  in-put m k v j i = split (eqb j k) (λ e. rw e) (λ e. rw e i)
-
-  -- a key of the map with one more is the new one, or one that it had
-  pub put-in : (m : Map A) (k : ℕ) (v : A) (j : ℕ) → In j (put m k v) → (j ≡ k → ⊥) → In j m
-  unfolding put
-  put-in m k v j i ne = split (eqb j k) (λ e. absurd (ne (eqb-true j k e))) (λ e. rw e at i)
-
-  pub put-none : (m : Map A) (k : ℕ) (v : A) (j : ℕ) → put m k v j ≡ none → (j ≡ k → ⊥) × (m j ≡ none)
-  unfolding put
-  put-none m k v j p = split (eqb j k) (λ e. never (sym (rw e at p))) (λ e. (eqb-false j k e, rw e at p))
-
-  pub del-in : (m : Map A) (k j : ℕ) → In j (del m k) → (j ≡ k → ⊥) × In j m
-  unfolding del
-  del-in m k j i = split (eqb j k) (λ e. not-both (λ x. none) j (rw e at i) refl) (λ e. (eqb-false j k e, rw e at i))
-
-  pub in-del : (m : Map A) (k j : ℕ) → In j m → (j ≡ k → ⊥) → In j (del m k)
-  in-del m k j i ne = rw (del-other m k j ne) i
-
-  -- a key that the map lacks is not in the map with a key less
-  pub none-del : (m : Map A) (k j : ℕ) → m j ≡ none → del m k j ≡ none
-  unfolding del
-  none-del m k j e = split (eqb j k) (λ t. rw t) (λ t. rw t e)
+-- TWO MAPS OF THE SAME KEYS
 
 module _ {A B : Type 0} (a : Map A) (b : Map B) (same : SameKeys a b) (k : ℕ) where
   pub same-put : (v : A) (w : B) → SameKeys (put a k v) (put b k w)

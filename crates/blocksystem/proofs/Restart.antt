@@ -6,6 +6,7 @@ use mathlib.Core.List.{List}
 use mathlib.Core.Logic.{⊎-elim}
 use mathlib.Core.Option.{Option, some}
 use mathlib.Core.Path.{_∙_, _≡_, ap, refl, subst, sym}
+use Rattle.base.proofs.Maps.{some-of}
 use Rattle.base.proofs.Tests.{and-iff, none-iff, or-cases, split}
 use Rattle.base.specs.Maps.{isSome}
 use Rattle.blockcache.proofs.Demand2.{cache-read}
@@ -24,15 +25,15 @@ use Rattle.blockdisk.specs.Upstream.{diskVars}
 use Rattle.blockdisk.specs.declared.Records.{Records}
 use Rattle.disklayout.specs.Device.{made}
 use Rattle.disklayout.specs.declared.Location.{Location}
-use Rattle.sectortype.proofs.Equal.{same-loc-iff}
+use Rattle.disklayout.proofs.Facts.{same-loc-iff}
 use Rattle.sectortype.specs.Abstract.{nodesMap}
-use Rattle.sectortype.specs.Same.{sameLoc}
+use Rattle.disklayout.specs.Layout.{sameLoc}
 use Rattle.sectortype.specs.declared.Node.{Node}
 use Rattle.blocksystem.proofs.Accepting.{joined-node, joined-zero}
 use Rattle.blocksystem.proofs.Demand3.{run-keeps}
 use Rattle.blocksystem.proofs.Formatted.{formatted-holds}
 use Rattle.blocksystem.proofs.Invariant.{InPhase, Invariant, KeptOn, pictureMaps}
-use Rattle.blocksystem.proofs.Laws.{kept-keys, some-of}
+use Rattle.blocksystem.proofs.Laws.{kept-keys}
 use Rattle.blocksystem.proofs.Starting.{wf-succs-iff}
 use Rattle.blocksystem.specs.Joined.{joined, joinedAnswer}
 use Rattle.blocksystem.specs.Names.{names}

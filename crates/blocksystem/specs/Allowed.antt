@@ -1,10 +1,8 @@
 -- What demand 2 says of a joined call: which of document 01's narrowings may refuse it, and what upstream's BlockSystem allows.
 use Prim.Native.Nat.{ℕ}
 use mathlib.Core.Bool.{cond, false, true}
-use mathlib.Core.List.{[], _∷_}
 use mathlib.Core.Option.{some}
 use mathlib.Core.Path.{_≡_}
-use Rattle.base.specs.Refusals.{NoneOf}
 use Rattle.blockcache.specs.Narrowings.{narrowed}
 use Rattle.blockcache.specs.Steps.{Step as MStep, isCrash, isRead, stepOf}
 use Rattle.blockcache.specs.Upstream.{Variables as MVariables}
@@ -12,9 +10,8 @@ use Rattle.blockcache.specs.declared.CacheState.{CacheState}
 use Rattle.blockcache.specs.declared.Call.{Call}
 use Rattle.blockcache.specs.declared.VersionOp.{VersionOp}
 use Rattle.blockcache.specs.declared.VersionOp.the-variants.{StatesInternalOp}
-use Rattle.blockdisk.specs.Crash.{crashRows, crashed}
-use Rattle.blockdisk.specs.Form.{recordsChecked}
-use Rattle.blockdisk.specs.Ops.{diskRows}
+use Rattle.blockdisk.specs.Crash.{crashed}
+use Rattle.blockdisk.specs.Narrowings.{crashNarrowed, diskNarrowed}
 use Rattle.blockdisk.specs.Upstream.{Dop, diskVars, dopOf}
 use Rattle.blockdisk.specs.declared.DiskState.{DiskState}
 use Rattle.blockdisk.specs.declared.Records.{Records}
@@ -32,9 +29,8 @@ module _ (d n : ℕ) (q : Call) (o : Records) (c : CacheState) (s : DiskState) w
   -- no narrowing of cache or disk applies
   pub record NoNarrowing : Type 0 where
     pub cache : narrowed d c n q ≡ false
-    -- the disk's are 1, 16 and 18; of a crash 1 and the places of the offered records, a part of 19
-    pub disk : isCrash n ≡ false → NoneOf (1 ∷ 16 ∷ 18 ∷ []) (diskRows d s (diskCall n q))
-    pub crash : isCrash n ≡ true → NoneOf (1 ∷ []) (crashRows d s o) × (recordsChecked d o .placed ≡ true)
+    pub disk : isCrash n ≡ false → diskNarrowed d s (diskCall n q) ≡ false
+    pub crash : isCrash n ≡ true → crashNarrowed d s o ≡ false
 
   -- upstream allows the step of this number to end in s'
   abbrev pub MachineTo : Variables → Type 0

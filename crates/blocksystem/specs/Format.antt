@@ -20,7 +20,7 @@ use Rattle.blocksystem.specs.declared.Outcome.{Outcome}
 abbrev pub rootNode : ℕ → Node
 rootNode x = record { contents = x; succs = zeroSuccs }
 
--- the first node block's and table area 1's first 4,096 bytes
+-- 4,096 bytes from an address on: the root's in the first node block, its table's in area 1
 abbrev pub placeAt : ℕ → Location
 placeAt a = record { addr = a; len = 4096 }
 

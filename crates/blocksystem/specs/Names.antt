@@ -11,7 +11,7 @@ use Rattle.blockcache.specs.declared.Call.{Call}
 use Rattle.disklayout.specs.Calls.{zeroLoc}
 use Rattle.disklayout.specs.declared.Location.{Location}
 use Rattle.sectortype.specs.Form.{emptyNodes, withSlot, zeroSlot}
-use Rattle.sectortype.specs.Same.{sameLoc}
+use Rattle.disklayout.specs.Layout.{sameLoc}
 use Rattle.sectortype.specs.declared.Nodes.{Nodes}
 use Rattle.blocksystem.specs.Format.{rootNode, tablePlaceOf}
 use Rattle.blocksystem.specs.declared.Named.{Named}

@@ -1,7 +1,7 @@
 // What every step asks and hands back: the phase, the number of the first condition that holds, the outcome.
+ghost use mathlib.Core.Bool.{cond};
 ghost use mathlib.Core.Path.{_≡_};
 ghost use Rattle.blockcache.specs.Form.{loadingPhase, readyPhase, unreadyPhase};
-ghost use Rattle.blockcache.specs.Rows.{first};
 ghost use Rattle.blockcache.specs.Step.{answered};
 use blockcache::CacheOutcome;
 use blockcache::CacheState;
@@ -37,9 +37,10 @@ pub(crate) fn is_unready(phase: Phase) -> bool
     }
 }
 
-// The number where the condition holds, else what the later conditions give.
+// The number where the condition holds, else what the later conditions give. A step with many conditions asks them all and puts them in
+// order by this, in a function of its own; one with one or two returns at the first that holds.
 pub(crate) fn first_of(c: bool, n: u64, rest: u64) -> u64
-    ensures { λ r. ⌜ r ≡ first c n rest ⌝ }
+    ensures { λ r. ⌜ r ≡ cond c n rest ⌝ }
 {
     if c { n } else { rest }
 }

@@ -69,8 +69,11 @@ fn gate(number: u64, phase: Phase, version: VersionOp, disk: DiskOp) -> u64
     let ready = is_ready(phase);
     let loading = is_loading(phase);
     let unready = is_unready(phase);
-    let idle = (v == INTERNAL) | (v == JOURNAL_INTERNAL) | (v == PUSH_SYNC) | (v == POP_SYNC);
-    let none_or_answer = (d == NO_DOP)
+    let no_op_version = (v == INTERNAL)
+        | (v == JOURNAL_INTERNAL)
+        | (v == PUSH_SYNC)
+        | (v == POP_SYNC);
+    let no_op_disk = (d == NO_DOP)
         | (d == TABLE_READ_RESP)
         | (d == NODE_READ_RESP)
         | (d == TABLE_WRITE_RESP)
@@ -89,7 +92,7 @@ fn gate(number: u64, phase: Phase, version: VersionOp, disk: DiskOp) -> u64
         11 => gate_answer(v == INTERNAL, d == NO_DOP, ready),
         12 => gate_answer(v == FREEZE, d == NO_DOP, ready),
         13 => gate_answer(v == CLEAN_UP, d == NO_DOP, ready),
-        14 => gate_answer(idle, none_or_answer, true),
+        14 => gate_answer(no_op_version, no_op_disk, true),
         15 => gate_answer(v == ADVANCE, d == NO_DOP, ready),
         16 => gate_answer(v == ADVANCE, d == NO_DOP, ready),
         17 => gate_answer(true, true, ready),

@@ -148,7 +148,7 @@ pub(crate) fn call_form(q: Call) -> bool
 }
 
 // The cache that has nothing.
-pub fn unready() -> CacheState
+pub fn empty_cache() -> CacheState
     ensures { λ c. ⌜ c ≡ emptyCache ⌝ }
 {
     let nowhere = sector::zero_loc();

@@ -18,5 +18,5 @@ pub struct Cache {
 }
 
 pub use answers::is_ready;
-pub use form::unready;
+pub use form::empty_cache;
 pub use ops::vop_loc;

@@ -4,8 +4,8 @@ ghost use Rattle.blockcache.specs.Step.{pastGate};
 ghost use Rattle.blockcache.specs.Steps.{crashStep, pageInIndirectionTableReqStep, pageInIndirectionTableRespStep, receiveLocStep};
 use crate::Cache;
 use crate::answers::answered;
+use crate::form::empty_cache;
 use crate::form::loading;
-use crate::form::unready;
 use crate::ops::dop_brought;
 use crate::ops::dop_id;
 use crate::ops::dop_loc;
@@ -29,7 +29,7 @@ impl Cache {
         let ps = c.places;
         let p = ps.persistent;
         let a = c.awaited;
-        let same = sector::same_loc(loc, p);
+        let same = layout::same_loc(loc, p);
         if !same {
             return answered(c, 6);
         }
@@ -101,7 +101,7 @@ impl Cache {
     pub(crate) fn crash(self, q: Call) -> CacheOutcome
         ensures { λ o. ⌜ o ≡ pastGate (self .device) (self .state) q crashStep ⌝ }
     {
-        let next = unready();
+        let next = empty_cache();
         answered(next, 0)
     }
 }

@@ -1,7 +1,7 @@
 // Questions about the whole cache that a step's refusals ask.
 ghost use mathlib.Core.Path.{_≡_};
 ghost use Prim.Native.Nat.{_<_};
-ghost use Rattle.blockcache.specs.Scan.{reads, writesTo, NoLocation, namesAt, hasPredecessor, heldIn, needsCached, nodeRejected, tableRejected};
+ghost use Rattle.blockcache.specs.Scan.{reads, writesTo, namesAt, hasPredecessor, heldIn, needsCached, nodeRejected, tableRejected};
 use blockcache::Tables;
 use blockdisk::Brought;
 use disklayout::Location;
@@ -43,22 +43,8 @@ pub(crate) fn writes_to(q: Requests, r: u64, l: Location) -> bool
         let w = q.at[i];
         let x = wide(w.reference);
         let loc = w.loc;
-        let same = sector::same_loc(loc, l);
+        let same = layout::same_loc(loc, l);
         hit = hit | ((i < n) & (x == r) & same);
-        i += 1;
-    }
-    hit
-}
-
-// Whether some allocated reference lacks a location.
-pub(crate) fn lacks_location(t: Table) -> bool
-    ensures { λ b. ⌜ b ≡ NoLocation t ⌝ }
-{
-    let mut hit = false;
-    let mut i: usize = 0;
-    while i < 64 {
-        let e = t.entries[i];
-        hit = hit | (e.allocated & !e.located);
         i += 1;
     }
     hit

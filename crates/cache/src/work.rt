@@ -1,8 +1,8 @@
-// Steps 5 and 11 to 17: references taken out of use, evicted, frozen, cleaned up, changed and read. Each past V, D and phase.
+// Steps 5 and 11 to 17: Unalloc, Evict, Freeze, CleanUp, NoOp, Dirty, Alloc and Read. Each past V, D and phase.
 ghost use mathlib.Core.Path.{_≡_};
 ghost use Prim.Native.Nat.{_<_};
 ghost use Rattle.base.specs.Refusals.{answer};
-ghost use Rattle.blockcache.specs.Next.{stepNext};
+ghost use Rattle.blockcache.specs.Next.{nodeSet};
 ghost use Rattle.blockcache.specs.Rows.{ownRows};
 ghost use Rattle.blockcache.specs.Step.{answered, pastGate};
 ghost use Rattle.blockcache.specs.Steps.{allocStep, cleanUpStep, dirtyStep, evictStep, freezeStep, noOpStep, readStep, unallocStep};
@@ -203,7 +203,7 @@ impl Cache {
     // The reference's node: its own list goes into the graph, order and repeats kept, and it has no location.
     fn set_node(self, q: Call) -> CacheOutcome
         requires { ⌜ q .reference < 64 ⌝ }
-        ensures { λ o. ⌜ o ≡ answered 0 (stepNext (self .state) q dirtyStep) ⌝ }
+        ensures { λ o. ⌜ o ≡ answered 0 (nodeSet (self .state) q) ⌝ }
     {
         let mut c = self.state;
         let r = q.reference as usize;

@@ -13,7 +13,6 @@ use crate::ops::dop_id;
 use crate::ops::dop_loc;
 use crate::ops::vop_loc;
 use crate::scan::held;
-use crate::scan::lacks_location;
 use blockcache::Awaited;
 use blockcache::CacheOutcome;
 use blockcache::Call;
@@ -144,8 +143,8 @@ impl Cache {
         let valid = layout::valid_indirection_table_location(device, loc);
         let over = layout::overlap(device, loc, p);
         let same = sector::same_table(f, given);
-        let lacks = lacks_location(f);
-        let n11 = first_of(!ts.isfrozen | lacks | ps.isfrozen, 11, 0);
+        let complete = sector::locs_complete(f);
+        let n11 = first_of(!ts.isfrozen | !complete | ps.isfrozen, 11, 0);
         let n10 = first_of(!(w.count == 0), 10, n11);
         let n9 = first_of(ts.isfrozen & !same, 9, n10);
         first_of(!valid.yes | over.yes, 6, n9)
@@ -182,7 +181,7 @@ impl Cache {
         let a = c.awaited;
         let ps = c.places;
         let f = ps.frozen;
-        let same = sector::same_loc(f, vloc);
+        let same = layout::same_loc(f, vloc);
         let awaits = a.waiting & (a.id == id);
         if !awaits {
             return answered(c, 5);

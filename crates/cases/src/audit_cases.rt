@@ -32,7 +32,7 @@ fn audited(name: &[u8], picture: Nodes, r: Records) {
         place,
         picture,
     };
-    let cache = cache::unready();
+    let cache = cache::empty_cache();
     let store = Store {
         device: 0,
         cache,

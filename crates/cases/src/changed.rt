@@ -19,7 +19,7 @@ fn same_bool(a: bool, b: bool) -> bool {
 fn same_request(a: Request, b: Request) -> bool {
     let k = a.loc;
     let l = b.loc;
-    let placed = sector::same_loc(k, l);
+    let placed = layout::same_loc(k, l);
     (a.id == b.id) & (a.reference == b.reference) & placed
 }
 
@@ -40,7 +40,7 @@ fn same_node_record(a: NodeRecord, b: NodeRecord) -> bool {
     let there = same_bool(a.present, b.present);
     let k = a.loc;
     let l = b.loc;
-    let placed = sector::same_loc(k, l);
+    let placed = layout::same_loc(k, l);
     let m = a.node;
     let n = b.node;
     let node = sector::same_node(m, n);
@@ -51,7 +51,7 @@ fn same_table_record(a: TableRecord, b: TableRecord) -> bool {
     let there = same_bool(a.present, b.present);
     let k = a.loc;
     let l = b.loc;
-    let placed = sector::same_loc(k, l);
+    let placed = layout::same_loc(k, l);
     let s = a.table;
     let t = b.table;
     let table = sector::same_table(s, t);
@@ -110,10 +110,10 @@ fn same_places(a: Places, b: Places) -> bool {
     let flag = same_bool(a.isfrozen, b.isfrozen);
     let p = a.persistent;
     let q = b.persistent;
-    let persistent = sector::same_loc(p, q);
+    let persistent = layout::same_loc(p, q);
     let u = a.frozen;
     let v = b.frozen;
-    let frozen = sector::same_loc(u, v);
+    let frozen = layout::same_loc(u, v);
     flag & persistent & frozen
 }
 

@@ -24,8 +24,8 @@ use fixtures::one;
 use fixtures::queue_of;
 use fixtures::queued;
 use fixtures::ready;
-use fixtures::show::idle;
 use fixtures::show::internal;
+use fixtures::show::no_op_call;
 use fixtures::show::pair;
 use fixtures::stored;
 use fixtures::storing;
@@ -260,7 +260,7 @@ fn step_7() {
 
 // A cache that is loading this place.
 fn loading(loc: Location) -> CacheState {
-    let unready = cache::unready();
+    let unready = cache::empty_cache();
     let phase = Phase::Loading;
     let mut c = in_phase(unready, phase);
     let mut ps = c.places;
@@ -319,7 +319,7 @@ fn crash() {
 fn forms() {
     let c = ready();
     let none = empty();
-    let q = idle();
+    let q = no_op_call();
     let nowhere = sector::zero_loc();
     let p = one(1, 0, nowhere);
     let broken = queued(4, p);

@@ -16,7 +16,7 @@ fn same_table_record(a: TableRecord, b: TableRecord) -> bool
 {
     let k = a.loc;
     let l = b.loc;
-    let placed = sector::same_loc(k, l);
+    let placed = layout::same_loc(k, l);
     let s = a.table;
     let t = b.table;
     let same = sector::same_table(s, t);
@@ -28,7 +28,7 @@ fn same_node_record(a: NodeRecord, b: NodeRecord) -> bool
 {
     let k = a.loc;
     let l = b.loc;
-    let placed = sector::same_loc(k, l);
+    let placed = layout::same_loc(k, l);
     let s = a.node;
     let t = b.node;
     let same = sector::same_node(s, t);

@@ -78,7 +78,7 @@ fn nodes_ok(device: u64, nodes: [NodeRecord; 128]) -> Checked
 }
 
 // Stored records, and those offered to a crash, are walked once.
-pub fn records_ok(device: u64, r: Records) -> Checked
+pub(crate) fn records_ok(device: u64, r: Records) -> Checked
     ensures { λ c. ⌜ c ≡ recordsChecked device r ⌝ }
 {
     let tables = r.tables;

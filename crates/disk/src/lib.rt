@@ -6,7 +6,6 @@ mod read;
 
 use blockdisk::DiskState;
 pub use crashing::empty_queues;
-pub use form::records_ok;
 pub use read::empty_records;
 pub use read::node_at;
 pub use read::table_at;

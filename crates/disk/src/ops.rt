@@ -4,7 +4,7 @@ ghost use mathlib.Core.Bool.{_&&_, not};
 ghost use mathlib.Core.Path.{_≡_};
 ghost use Rattle.sectortype.specs.Form.{zeroNode, emptyTable};
 ghost use Rattle.sectortype.specs.Same.{sameNode, sameTable};
-ghost use Rattle.blockdisk.specs.Ops.{requestOf, requestTurn, answerTurn, somethingIn, opOutcome, diskStep};
+ghost use Rattle.blockdisk.specs.Ops.{requestOf, requestOutcome, answerOutcome, somethingIn, opOutcome, diskStep};
 use crate::Disk;
 use crate::form::queues_ok;
 use crate::form::records_ok;
@@ -17,8 +17,8 @@ use blockdisk::DiskCall;
 use blockdisk::DiskOp;
 use blockdisk::DiskOutcome;
 use blockdisk::NodeRecord;
+use blockdisk::QueueOutcome;
 use blockdisk::TableRecord;
-use blockdisk::Turn;
 use disklayout::Location;
 use queue::Request;
 use queue::Requests;
@@ -36,56 +36,56 @@ fn request(id: u64, loc: Location) -> Request
 }
 
 // A request: 15 if its id is in the queue, 16 if its place is not allowed, 18 if the queue holds 16.
-fn ask(q: Requests, id: u64, loc: Location, allowed: bool) -> Turn
-    ensures { λ t. ⌜ t ≡ requestTurn q id loc allowed ⌝ }
+fn ask(q: Requests, id: u64, loc: Location, allowed: bool) -> QueueOutcome
+    ensures { λ t. ⌜ t ≡ requestOutcome q id loc allowed ⌝ }
 {
     let known = queue::has(q, id);
     let full = 16 <= q.count;
     if known {
-        return Turn {
+        return QueueOutcome {
             answer: 15,
             queue: q,
         };
     }
     if !allowed {
-        return Turn {
+        return QueueOutcome {
             answer: 16,
             queue: q,
         };
     }
     if full {
-        return Turn {
+        return QueueOutcome {
             answer: 18,
             queue: q,
         };
     }
     let w = request(id, loc);
     let next = queue::insert(q, w);
-    Turn {
+    QueueOutcome {
         answer: 0,
         queue: next,
     }
 }
 
 // An answer: 15 if its id is not in the queue, 17 if it brings something else than is stored.
-fn take(q: Requests, id: u64, wrong: bool) -> Turn
-    ensures { λ t. ⌜ t ≡ answerTurn q id wrong ⌝ }
+fn take(q: Requests, id: u64, wrong: bool) -> QueueOutcome
+    ensures { λ t. ⌜ t ≡ answerOutcome q id wrong ⌝ }
 {
     let known = queue::has(q, id);
     if !known {
-        return Turn {
+        return QueueOutcome {
             answer: 15,
             queue: q,
         };
     }
     if wrong {
-        return Turn {
+        return QueueOutcome {
             answer: 17,
             queue: q,
         };
     }
     let next = queue::remove(q, id);
-    Turn {
+    QueueOutcome {
         answer: 0,
         queue: next,
     }
@@ -102,7 +102,7 @@ fn brings(b: Brought) -> bool
 }
 
 // Whether a table read answer brings something else than x, the record at exactly the place asked for.
-fn other_table(x: TableRecord, b: Brought, table: Table) -> bool
+fn table_not_stored(x: TableRecord, b: Brought, table: Table) -> bool
     ensures { λ r. ⌜ r ≡ (somethingIn b && not (x .present && sameTable (x .table) table)) ⌝ }
 {
     let stored = x.table;
@@ -112,7 +112,7 @@ fn other_table(x: TableRecord, b: Brought, table: Table) -> bool
 }
 
 // Whether a node read answer brings something else than x, the record at exactly the place asked for.
-fn other_node(x: NodeRecord, b: Brought, node: Node) -> bool
+fn node_not_stored(x: NodeRecord, b: Brought, node: Node) -> bool
     ensures { λ r. ⌜ r ≡ (somethingIn b && not (x .present && sameNode (x .node) node)) ⌝ }
 {
     let stored = x.node;
@@ -212,7 +212,7 @@ impl Disk {
         let records = s.records;
         let loc = w.loc;
         let x = table_at(self.device, records, loc);
-        let wrong = other_table(x, b, table);
+        let wrong = table_not_stored(x, b, table);
         let t = take(q, id, wrong);
         let n = t.answer;
         if n != 0 {
@@ -234,7 +234,7 @@ impl Disk {
         let records = s.records;
         let loc = w.loc;
         let x = node_at(self.device, records, loc);
-        let wrong = other_node(x, b, node);
+        let wrong = node_not_stored(x, b, node);
         let t = take(q, id, wrong);
         let n = t.answer;
         if n != 0 {

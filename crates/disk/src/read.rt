@@ -52,7 +52,7 @@ pub fn table_at(device: u64, r: Records, loc: Location) -> TableRecord
     let k = (area.value % 2) as usize;
     let x = r.tables[k];
     let at = x.loc;
-    let same = sector::same_loc(at, loc);
+    let same = layout::same_loc(at, loc);
     let here = area.exists & x.present & same;
     if here {
         return x;
@@ -68,7 +68,7 @@ pub fn node_at(device: u64, r: Records, loc: Location) -> NodeRecord
     let k = (block.value % 128) as usize;
     let x = r.nodes[k];
     let at = x.loc;
-    let same = sector::same_loc(at, loc);
+    let same = layout::same_loc(at, loc);
     let here = block.exists & x.present & same;
     if here {
         return x;

@@ -14,7 +14,7 @@ use Rattle.disklayout.specs.Device.{Good}
 use Rattle.disklayout.specs.Layout.{NumJournalBlocks, IndirectionTableMaxLength, NodeBlockSize, MinNodeBlockIndex}
 use Rattle.disklayout.specs.Layout.{IndirectionTable1Addr, IndirectionTable2Addr, JournalStartAddr, JournalEndAddr}
 use Rattle.disklayout.specs.Layout.{ValidIndirectionTableAddr, ValidNodeAddr, ValidJournalLocation, ValidIndirectionTableLocation, ValidNodeLocation}
-use Rattle.disklayout.specs.Layout.{sameLocation, Superblock1Location, Superblock2Location, ValidSuperblock1Location, ValidSuperblock2Location, overlap, LocationSub}
+use Rattle.disklayout.specs.Layout.{sameLoc, Superblock1Location, Superblock2Location, ValidSuperblock1Location, ValidSuperblock2Location, overlap, LocationSub}
 
 -- a test that cannot pass fails
 pub refuted : {b : Bool} → (b ≡ true → ⊥) → b ≡ false
@@ -86,17 +86,17 @@ node-iff w l =
     ((λ e. let h = simp (node-addr-iff, tests) at e in record { there = h .0; short = h .1 }), (λ n. simp (node-addr-iff, tests) (n .there, n .short)))
 
 -- a location is its address and its length
-pub same-iff : (l k : Location) → (sameLocation l k ≡ true) ↔ (l ≡ k)
-same-iff l k =
+pub same-loc-iff : (l k : Location) → (sameLoc l k ≡ true) ↔ (l ≡ k)
+same-loc-iff l k =
     ((λ e. let h = simp tests at e in λ i. record { addr = h .0 i; len = h .1 i }), (λ e. rw e (and-both (eq-eqb (k .addr) (k .addr) refl) (eq-eqb (k .len) (k .len) refl))))
 
 pub superblock1-iff : (l : Location) → (ValidSuperblock1Location l ≡ true) ↔ (l ≡ Superblock1Location)
 unfolding ValidSuperblock1Location
-superblock1-iff l = same-iff l Superblock1Location
+superblock1-iff l = same-loc-iff l Superblock1Location
 
 pub superblock2-iff : (l : Location) → (ValidSuperblock2Location l ≡ true) ↔ (l ≡ Superblock2Location)
 unfolding ValidSuperblock2Location
-superblock2-iff l = same-iff l Superblock2Location
+superblock2-iff l = same-loc-iff l Superblock2Location
 
 -- PLACES AGAINST EACH OTHER
 
@@ -108,7 +108,7 @@ pub overlap-iff : (l k : Location) → (overlap l k ≡ true) ↔ Overlap l k
 unfolding overlap
 overlap-iff l k = ((λ e. let h = simp tests at e in record { left = h .0; right = h .1 }), (λ o. simp tests (o .left, o .right)))
 
--- places that do not cross do not overlap
+-- places of which one ends where the other begins, or before, do not overlap
 pub no-overlap : (l k : Location) → (Overlap l k → ⊥) → overlap l k ≡ false
 no-overlap l k h = refuted (λ e. h (overlap-iff l k .0 e))
 

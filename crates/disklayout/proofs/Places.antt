@@ -23,7 +23,7 @@ apart b x y p q h =
 module _ (w : Device) (l k : Location) where
   -- two valid table places overlap exactly if they have one address
   pub table-overlap-iff : ValidIndirectionTableLocation w l ≡ true → ValidIndirectionTableLocation w k ≡ true → (overlap l k ≡ true) ↔ (l .addr ≡ k .addr)
-  table-overlap-iff p q = ((λ e. meet (overlap-iff l k .0 e)), (λ e. overlap-iff l k .1 (cross e)))
+  table-overlap-iff p q = ((λ e. meet (overlap-iff l k .0 e)), (λ e. overlap-iff l k .1 (overlapping e)))
     where
       t : TableLoc w l
       t = table-iff w l .0 p
@@ -36,8 +36,8 @@ module _ (w : Device) (l k : Location) where
           ⊎-elim (λ a. ⊎-elim (λ b. omega arith) (λ b. omega (arith, t .short)) (u .area))
           (λ a. ⊎-elim (λ b. omega (arith, u .short)) (λ b. omega arith) (u .area)) (t .area)
 
-      cross : l .addr ≡ k .addr → Overlap l k
-      cross e = record { left = omega (arith, t .some-bytes); right = omega (arith, u .some-bytes) }
+      overlapping : l .addr ≡ k .addr → Overlap l k
+      overlapping e = record { left = omega (arith, t .some-bytes); right = omega (arith, u .some-bytes) }
 
   -- node places that overlap have one address
   pub node-overlap-same : ValidNodeLocation w l ≡ true → ValidNodeLocation w k ≡ true → overlap l k ≡ true → l .addr ≡ k .addr

@@ -15,7 +15,7 @@ use Rattle.disklayout.specs.declared.Location.{Location}
 use Rattle.disklayout.specs.Device.{Good}
 use Rattle.disklayout.specs.Layout.{IndirectionTableMaxLength, IndirectionTable1Addr, IndirectionTable2Addr, JournalStartAddr}
 use Rattle.disklayout.specs.Layout.{ValidJournalLocation, ValidIndirectionTableLocation, ValidNodeLocation, Superblock1Location, Superblock2Location}
-use Rattle.disklayout.specs.Layout.{ValidSuperblock1Location, ValidSuperblock2Location, ValidSuperblockLocation, sameLocation, overlap}
+use Rattle.disklayout.specs.Layout.{ValidSuperblock1Location, ValidSuperblock2Location, ValidSuperblockLocation, sameLoc, overlap}
 use Rattle.disklayout.proofs.Facts.{JournalLoc, journal-iff, index-iff, TableLoc, table-iff, NodeLoc, node-iff, superblock1-iff, superblock2-iff, refuted, no-overlap}
 
 pub data Kind : Type 0 where
@@ -155,4 +155,4 @@ module _ (w : Device) (g : Good w) where
 -- what ValidSuperblockLocation ensures
 pub superblock-cases : (l : Location) → ValidSuperblockLocation l ≡ true → (ValidSuperblock1Location l ≡ true) ⊎ (ValidSuperblock2Location l ≡ true)
 unfolding ValidSuperblockLocation ValidSuperblock1Location ValidSuperblock2Location
-superblock-cases l e = or-cases (sameLocation l Superblock1Location) (sameLocation l Superblock2Location) e
+superblock-cases l e = or-cases (sameLoc l Superblock1Location) (sameLoc l Superblock2Location) e

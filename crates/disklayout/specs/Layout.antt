@@ -58,8 +58,8 @@ unfoldable pub ValidNodeLocation : Device → Location → Bool
 ValidNodeLocation w l = ValidNodeAddr w (l .addr) && leb (l .len) (NodeBlockSize w)
 
 -- upstream's == of two locations
-abbrev pub sameLocation : Location → Location → Bool
-sameLocation l k = eqb (l .addr) (k .addr) && eqb (l .len) (k .len)
+abbrev pub sameLoc : Location → Location → Bool
+sameLoc l k = eqb (l .addr) (k .addr) && eqb (l .len) (k .len)
 
 abbrev pub Superblock1Location : Location
 Superblock1Location = record { addr = 0; len = 4096 }
@@ -68,13 +68,13 @@ abbrev pub Superblock2Location : Location
 Superblock2Location = record { addr = 4096; len = 4096 }
 
 unfoldable pub ValidSuperblock1Location : Location → Bool
-ValidSuperblock1Location l = sameLocation l Superblock1Location
+ValidSuperblock1Location l = sameLoc l Superblock1Location
 
 unfoldable pub ValidSuperblock2Location : Location → Bool
-ValidSuperblock2Location l = sameLocation l Superblock2Location
+ValidSuperblock2Location l = sameLoc l Superblock2Location
 
 unfoldable pub ValidSuperblockLocation : Location → Bool
-ValidSuperblockLocation l = sameLocation l Superblock1Location || sameLocation l Superblock2Location
+ValidSuperblockLocation l = sameLoc l Superblock1Location || sameLoc l Superblock2Location
 
 unfoldable pub ValidLocation : Device → Location → Bool
 ValidLocation w l =

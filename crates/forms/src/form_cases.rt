@@ -22,8 +22,8 @@ use fixtures::show::cache_form;
 use fixtures::show::crash_answer;
 use fixtures::show::disk_brings;
 use fixtures::show::disk_form;
-use fixtures::show::idle;
 use fixtures::show::internal;
+use fixtures::show::no_op_call;
 use fixtures::show::pair;
 use fixtures::storing;
 use fixtures::table_record;
@@ -119,7 +119,7 @@ fn table_in_cache(kind: &[u8], t: Table) {
     let p = with_persistent(c, t);
     let e = with_ephemeral(c, t);
     let f = with_frozen(c, true, t);
-    let mut q = idle();
+    let mut q = no_op_call();
     q.table = t;
     let a = cache_form(p);
     let b = cache_form(e);

@@ -25,9 +25,9 @@ use fixtures::ready;
 use fixtures::show::cache_answer;
 use fixtures::show::cache_form;
 use fixtures::show::disk_form;
-use fixtures::show::idle;
 use fixtures::show::internal;
 use fixtures::show::line;
+use fixtures::show::no_op_call;
 use fixtures::show::pair;
 use fixtures::storing;
 use fixtures::table_record;
@@ -163,7 +163,7 @@ fn state(name: &[u8], what: &[u8], c: CacheState) {
 }
 
 fn phases() {
-    let unready = cache::unready();
+    let unready = cache::empty_cache();
     let loc = at(AREA1, 4096);
     let place = with_place(unready, loc);
     let waiting = with_awaited(unready, true, 5);
@@ -258,7 +258,7 @@ fn queue_places(name: &[u8], kind: u64, addr: u64) {
 // A device above 2, a step outside 1 to 18, a reference above 63.
 fn devices(name: &[u8], device: u64) {
     let c = ready();
-    let q = idle();
+    let q = no_op_call();
     let none = disk::empty_records();
     let s = storing(none);
     let node = sector::zero_node();
@@ -275,7 +275,7 @@ fn devices(name: &[u8], device: u64) {
 
 fn numbers() {
     let c = ready();
-    let q = idle();
+    let q = no_op_call();
     let a = cache_answer(c, 0, q);
     let b = cache_answer(c, 19, q);
     let d = cache_answer(c, 18446744073709551615, q);

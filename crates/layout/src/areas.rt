@@ -3,7 +3,7 @@ ghost use mathlib.Core.Path.{_≡_};
 ghost use Rattle.disklayout.specs.Device.{Good};
 ghost use Rattle.disklayout.specs.Layout.{IndirectionTable1Addr, IndirectionTable2Addr, otherIndirectionTableAddr};
 ghost use Rattle.disklayout.specs.Layout.{ValidIndirectionTableAddr, ValidNodeAddr, ValidJournalLocation};
-ghost use Rattle.disklayout.specs.Layout.{ValidIndirectionTableLocation, ValidNodeLocation, ValidLocation, sameLocation};
+ghost use Rattle.disklayout.specs.Layout.{ValidIndirectionTableLocation, ValidNodeLocation, ValidLocation, sameLoc};
 ghost use Rattle.disklayout.specs.Blocks.{FirstNodeAddr};
 use crate::sums::sum_within;
 use disklayout::Device;
@@ -97,8 +97,8 @@ pub(crate) fn is_node(w: Device, loc: Location) -> bool
     there & (loc.len <= w.block)
 }
 
-pub(crate) fn same_location(a: Location, b: Location) -> bool
-    ensures { λ r. ⌜ r ≡ sameLocation a b ⌝ }
+pub fn same_loc(a: Location, b: Location) -> bool
+    ensures { λ r. ⌜ r ≡ sameLoc a b ⌝ }
 {
     (a.addr == b.addr) & (a.len == b.len)
 }
@@ -107,8 +107,8 @@ pub(crate) fn is_place(w: Device, loc: Location) -> bool
     requires { ⌜ Good w ⌝ }
     ensures { λ r. ⌜ r ≡ ValidLocation w loc ⌝ }
 {
-    let one = same_location(loc, SUPERBLOCK1);
-    let two = same_location(loc, SUPERBLOCK2);
+    let one = same_loc(loc, SUPERBLOCK1);
+    let two = same_loc(loc, SUPERBLOCK2);
     let journal = is_journal(w, loc);
     let table = is_table(w, loc);
     let node = is_node(w, loc);

@@ -143,22 +143,22 @@ pub fn superblock2_location(device: u64) -> Place
 pub fn valid_superblock1_location(device: u64, loc: Location) -> Flag
     ensures { λ r. ⌜ r ≡ flag device (ValidSuperblock1Location loc) ⌝ }
 {
-    let yes = same_location(loc, SUPERBLOCK1);
+    let yes = same_loc(loc, SUPERBLOCK1);
     flag_when(device <= 2, yes)
 }
 
 pub fn valid_superblock2_location(device: u64, loc: Location) -> Flag
     ensures { λ r. ⌜ r ≡ flag device (ValidSuperblock2Location loc) ⌝ }
 {
-    let yes = same_location(loc, SUPERBLOCK2);
+    let yes = same_loc(loc, SUPERBLOCK2);
     flag_when(device <= 2, yes)
 }
 
 pub fn valid_superblock_location(device: u64, loc: Location) -> Flag
     ensures { λ r. ⌜ r ≡ flag device (ValidSuperblockLocation loc) ⌝ }
 {
-    let one = same_location(loc, SUPERBLOCK1);
-    let two = same_location(loc, SUPERBLOCK2);
+    let one = same_loc(loc, SUPERBLOCK1);
+    let two = same_loc(loc, SUPERBLOCK2);
     let yes = one | two;
     flag_when(device <= 2, yes)
 }

@@ -1,6 +1,7 @@
 // Upstream's DiskLayout: where on a device the superblocks, the journal, the two table areas and the node blocks lie, and which
 // places are valid. Each function and predicate of the module is a call that names its device; it returns 0 with its result, or 1
-// with zeros: a device above 2, a failed upstream `requires`, a result past 64 bits. No call has a `requires`.
+// with zeros: a device above 2, a failed upstream `requires`, a result past 64 bits. Equality of two locations names no device. No call has a
+// `requires`.
 mod answers;
 mod areas;
 mod blocks;
@@ -9,6 +10,7 @@ mod journal;
 mod rows;
 mod sums;
 
+pub use areas::same_loc;
 pub use blocks::first_node_addr;
 pub use blocks::node_block_addr;
 pub use blocks::node_block_of;

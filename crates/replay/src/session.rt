@@ -8,6 +8,8 @@ use blockdisk::Records;
 use blocksystem::Named;
 use blocksystem::Outcome;
 use blocksystem::Pictures;
+use system::CRASH;
+use system::READ;
 use system::Store;
 use words::line::Line;
 
@@ -135,7 +137,7 @@ impl Session {
         let store = sequence.store;
         let o = store.step(number, call, offered);
         let answer = o.answer;
-        if number == 17 {
+        if number == READ {
             print::read(self.tally.lines, answer, o.node);
         } else {
             print::answer(self.tally.lines, answer);
@@ -152,7 +154,7 @@ impl Session {
 
     // A step line, by what follows its first word. Only a crash is offered records other than those that are stored.
     fn step(self, number: u64, rest: &[u8]) -> Session {
-        let crash = number == 18;
+        let crash = number == CRASH;
         let q = script::request::request_of(rest, crash);
         if !q.ok {
             return self.error();

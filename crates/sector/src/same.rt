@@ -1,7 +1,7 @@
 // Equality: contents and list equal, order and repeats counted.
 ghost use mathlib.Core.Path.{_≡_};
-ghost use Rattle.sectortype.specs.Same.{sameBool, sameLoc, sameSuccs, sameNode, sameEntry, sameTable};
-use disklayout::Location;
+ghost use Rattle.disklayout.specs.Layout.{sameLoc};
+ghost use Rattle.sectortype.specs.Same.{sameBool, sameSuccs, sameNode, sameEntry, sameTable};
 use sectortype::Entry;
 use sectortype::Node;
 use sectortype::Succs;
@@ -11,12 +11,6 @@ fn same_bool(a: bool, b: bool) -> bool
     ensures { λ r. ⌜ r ≡ sameBool a b ⌝ }
 {
     (a & b) | (!a & !b)
-}
-
-pub fn same_loc(a: Location, b: Location) -> bool
-    ensures { λ r. ⌜ r ≡ sameLoc a b ⌝ }
-{
-    (a.addr == b.addr) & (a.len == b.len)
 }
 
 pub fn same_succs(a: Succs, b: Succs) -> bool
@@ -47,7 +41,7 @@ fn same_entry(a: Entry, b: Entry) -> bool
     let placed = same_bool(a.located, b.located);
     let k = a.loc;
     let l = b.loc;
-    let there = same_loc(k, l);
+    let there = layout::same_loc(k, l);
     let s = a.succs;
     let t = b.succs;
     let listed = same_succs(s, t);

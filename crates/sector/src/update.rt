@@ -13,7 +13,7 @@ use sectortype::Slot;
 use sectortype::Succs;
 use sectortype::Table;
 
-fn zero_succs() -> Succs
+pub fn zero_succs() -> Succs
     ensures { λ r. ⌜ r ≡ zeroSuccs ⌝ }
 {
     Succs {

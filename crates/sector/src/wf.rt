@@ -43,7 +43,7 @@ fn locs_in_graph(t: Table) -> bool
 }
 
 // A reference that is allocated has a location.
-fn locs_complete(t: Table) -> bool
+pub fn locs_complete(t: Table) -> bool
     ensures { λ b. ⌜ b ≡ LocsComplete t ⌝ }
 {
     let mut good = true;

@@ -1,24 +1,26 @@
 -- Two values of the written form are equal where the test says so, and where they are equal as upstream's maps. Assumes nothing.
-use Prim.Native.Nat.{_+_, _<_, ℕ}
-use mathlib.Core.Bool.{Bool, _||_, cond, false, true}
+use Prim.Native.Nat.{_<_, ℕ}
+use mathlib.Core.Bool.{Bool, _||_, false, true}
 use mathlib.Core.Logic.{Iff·rfl, _↔_}
 use mathlib.Core.Path.{_∙_, _≡_, ap, refl, sym}
 use native.Mathlib.Omega.{arith}
-use borrow.Author.Tests.{eq-eqb, ne-eqb}
+use borrow.Author.Tests.{eq-eqb}
 use lib.Dec.{eqb}
 use lib.ListN.{getD-replicate}
 use lib.Seq.{ext-getD}
-use Rattle.base.proofs.Scan.{all-at, all-iff, all-of, count-change}
-use Rattle.base.proofs.Tests.{and-both, and-iff, and-right, eqb-iff, split, tests}
-use Rattle.base.specs.Scan.{allBelow, countBelow}
+use Rattle.base.proofs.Flagged.{flagged-ext}
+use Rattle.base.proofs.Scan.{all-at, all-iff, all-of, count-zero-at}
+use Rattle.base.proofs.Tests.{and-both, and-iff, and-right, eqb-iff, tests}
+use Rattle.base.specs.Scan.{allBelow}
+use Rattle.disklayout.proofs.Facts.{same-loc-iff}
 use Rattle.disklayout.specs.declared.Location.{Location}
 use Rattle.disklayout.specs.Calls.{zeroLoc}
 use Rattle.sectortype.proofs.Forms.{empty-table-form, entry-at-form, entry-succs, nodes-of-slots, slot-at-form, succ-unused, succs-iff, table-iff, table-of-entries, zero-succs-form}
-use Rattle.sectortype.proofs.Rows.{flagged-ext}
 use Rattle.sectortype.specs.Abstract.{graphOf, indirectionTable, locsOf, nodesMap}
 use Rattle.sectortype.specs.Form.{allocatedAt, defaultEntry, emptyTable, entryAt, entryForm, locZero, nodeForm, nodeZero, nodesForm}
 use Rattle.sectortype.specs.Form.{slotAt, slotForm, succAt, succsForm, succsZero, tableForm, zeroEntry, zeroNode, zeroSlot, zeroSuccs}
-use Rattle.sectortype.specs.Same.{sameBool, sameEntry, sameLoc, sameNode, sameSuccs, sameTable}
+use Rattle.disklayout.specs.Layout.{sameLoc}
+use Rattle.sectortype.specs.Same.{sameBool, sameEntry, sameNode, sameSuccs, sameTable}
 use Rattle.sectortype.specs.declared.Entry.{Entry}
 use Rattle.sectortype.specs.declared.Node.{Node}
 use Rattle.sectortype.specs.declared.Nodes.{Nodes}
@@ -54,9 +56,6 @@ same-bool-iff true true = ((λ e. refl), (λ e. refl))
 same-bool-iff true false = ((λ e. sym e), (λ e. sym e))
 same-bool-iff false true = Iff·rfl
 same-bool-iff false false = ((λ e. refl), (λ e. refl))
-
-pub same-loc-iff : (a b : Location) → (sameLoc a b ≡ true) ↔ (a ≡ b)
-same-loc-iff a b = ((λ e. let h = simp tests at e in search loc-ext), (λ e. rw e (simp tests (refl, refl))))
 
 pub same-succs-iff : (a b : Succs) → succsForm a ≡ true → succsForm b ≡ true → (sameSuccs a b ≡ true) ↔ (a ≡ b)
 unfolding sameSuccs
@@ -119,14 +118,7 @@ table-zero-is t f z =
     (λ r b. entry-absent (entryAt t r) (entry-at-form t f r b) (free r b) ∙ sym (getD-replicate 64 r zeroEntry defaultEntry b))
   where
     free : (r : ℕ) → r < 64 → entryAt t r .allocated ≡ false
-    free r b =
-        let g = allocatedAt (t .entries) in
-        split (entryAt t r .allocated)
-        (λ a. let e = count-change g (λ k. cond (eqb k r) false (g k)) 64 r b (λ k c ne. rw (ne-eqb k r ne)) in
-        let n : countBelow g 64 ≡ 0 = sym (table-iff t .0 f .1 .0) ∙ z in
-        let u : countBelow (λ k. cond (eqb k r) false (g k)) 64 + 1 ≡ 0 = rw (a, eq-eqb r r refl, n) at e in
-        absurd (omega arith))
-        (λ a. a)
+    free r b = count-zero-at (allocatedAt (t .entries)) 64 r (sym (table-iff t .0 f .1 .0) ∙ z) b
 
 slot-no-node : (s : Slot) → slotForm s ≡ true → s .present ≡ false → s .node ≡ zeroNode
 slot-no-node s f p = node-zero-is (s .node) (rw p at (and-right (nodeForm (s .node)) (s .present || nodeZero (s .node)) f))

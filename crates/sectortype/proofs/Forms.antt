@@ -58,6 +58,12 @@ zero-succs-form = refl
 pub zero-node-form : nodeForm zeroNode ≡ true
 zero-node-form = zero-succs-form
 
+pub zero-entry-form : entryForm zeroEntry ≡ true
+zero-entry-form = rw zero-succs-form
+
+pub zero-slot-form : slotForm zeroSlot ≡ true
+zero-slot-form = rw zero-succs-form
+
 -- TABLES
 
 pub table-iff : (t : Table) →
@@ -102,7 +108,7 @@ table-of-entries a b f g h =
 
 pub empty-table-form : tableForm emptyTable ≡ true
 unfolding tableForm
-empty-table-form = rows-blank isAllocated entryForm defaultEntry zeroEntry (rw zero-succs-form) refl
+empty-table-form = rows-blank isAllocated entryForm defaultEntry zeroEntry zero-entry-form refl
 
 -- MAPS OF NODES
 
@@ -132,4 +138,4 @@ nodes-of-slots a b f g h =
 
 pub empty-nodes-form : nodesForm emptyNodes ≡ true
 unfolding nodesForm
-empty-nodes-form = rows-blank isPresent slotForm defaultSlot zeroSlot (rw zero-succs-form) refl
+empty-nodes-form = rows-blank isPresent slotForm defaultSlot zeroSlot zero-slot-form refl

@@ -11,16 +11,8 @@ use lib.Dec.{eqb}
 use lib.ListN.{getD, getD-replicate, length, length-replicate, length-set, replicate, set}
 use lib.Seq.{ext-getD, getD-set-other, getD-set-same}
 use Rattle.base.proofs.Scan.{all-iff, count-zero}
-use Rattle.base.proofs.Tests.{and-iff, eqb-iff, never, split}
-use Rattle.base.specs.Maps.{flagged}
+use Rattle.base.proofs.Tests.{and-iff, eqb-iff, split}
 use Rattle.base.specs.Scan.{allBelow, countBelow}
-
--- what is not flagged is the one blank z, so two flagged things that are equal as options are equal, flag and thing
-pub flagged-ext : {A : Type 0} (b c : Bool) (x y z : A) → (b ≡ false → x ≡ z) → (c ≡ false → y ≡ z) → flagged b x ≡ flagged c y → (b ≡ c) × (x ≡ y)
-flagged-ext true true x y z f g e = (refl, cc)
-flagged-ext true false x y z f g e = never (sym e)
-flagged-ext false true x y z f g e = never e
-flagged-ext false false x y z f g e = (refl, f refl ∙ sym (g refl))
 
 -- one place set, and any place read
 pub set-at-place : {A : Type 0} (l : List A) (r : ℕ) (e z : A) (j : ℕ) → r < length l → getD (set l r e) j z ≡ cond (eqb j r) e (getD l j z)

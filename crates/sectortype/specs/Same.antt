@@ -2,7 +2,7 @@
 use mathlib.Core.Bool.{Bool, _&&_, _||_, not}
 use lib.Dec.{eqb}
 use Rattle.base.specs.Scan.{allBelow}
-use Rattle.disklayout.specs.declared.Location.{Location}
+use Rattle.disklayout.specs.Layout.{sameLoc}
 use Rattle.sectortype.specs.Form.{entryAt, succAt}
 use Rattle.sectortype.specs.declared.Entry.{Entry}
 use Rattle.sectortype.specs.declared.Node.{Node}
@@ -11,9 +11,6 @@ use Rattle.sectortype.specs.declared.Table.{Table}
 
 abbrev pub sameBool : Bool → Bool → Bool
 sameBool a b = (a && b) || (not a && not b)
-
-abbrev pub sameLoc : Location → Location → Bool
-sameLoc a b = eqb (a .addr) (b .addr) && eqb (a .len) (b .len)
 
 unfoldable pub sameSuccs : Succs → Succs → Bool
 sameSuccs a b = eqb (a .count) (b .count) && allBelow (λ k. eqb (succAt a k) (succAt b k)) 8

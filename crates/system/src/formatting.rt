@@ -1,6 +1,6 @@
 // Formatting: the root in the first node block, its table in area 1, all else empty; and the names and pictures at first.
 ghost use mathlib.Core.Path.{_≡_};
-ghost use Rattle.blocksystem.specs.Format.{rootNode, rootTable, formattedRecords, formatted};
+ghost use Rattle.blocksystem.specs.Format.{placeAt, rootNode, rootTable, formattedRecords, formatted};
 ghost use Rattle.blocksystem.specs.Names.{zeroNamed, withRoot, firstPictures};
 use crate::Store;
 use blockdisk::DiskState;
@@ -24,8 +24,8 @@ fn root_node(contents: u64) -> Node
     n
 }
 
-fn root_place(addr: u64) -> Location
-    ensures { λ l. ⌜ l ≡ record { addr = addr; len = 4096 } ⌝ }
+fn place_at(addr: u64) -> Location
+    ensures { λ l. ⌜ l ≡ placeAt addr ⌝ }
 {
     Location { addr, len: 4096 }
 }
@@ -72,7 +72,7 @@ impl Store {
         ensures { λ o. ⌜ o ≡ formatted device contents ⌝ }
     {
         let node = sector::zero_node();
-        let cache = cache::unready();
+        let cache = cache::empty_cache();
         let queues = disk::empty_queues();
         if 2 < device {
             let records = disk::empty_records();
@@ -86,8 +86,8 @@ impl Store {
         }
         let t = layout::indirection_table1_addr(device);
         let n = layout::first_node_addr(device);
-        let at = root_place(t.value);
-        let place = root_place(n.value);
+        let at = place_at(t.value);
+        let place = place_at(n.value);
         let records = formatted_records(at, place, contents);
         let disk = DiskState { records, queues };
         Outcome {
@@ -128,7 +128,7 @@ pub fn format_pictures(device: u64, contents: u64) -> Pictures
     ensures { λ t. ⌜ t ≡ firstPictures device contents ⌝ }
 {
     let t = layout::indirection_table1_addr(device);
-    let place = root_place(t.value);
+    let place = place_at(t.value);
     let working = with_root(contents);
     let picture = working;
     let first = Named {

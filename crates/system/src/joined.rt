@@ -12,6 +12,13 @@ use blocksystem::Outcome;
 use cache::Cache;
 use disk::Disk;
 
+// The three steps that a joined call asks for by themselves: a start, a read, a crash.
+const RECEIVE_LOC: u64 = 10;
+
+pub const READ: u64 = 17;
+
+pub const CRASH: u64 = 18;
+
 // The lower of two answers, of which 0 is no refusal.
 fn lower(a: u64, b: u64) -> u64
     ensures { λ r. ⌜ r ≡ lowest a b ⌝ }
@@ -35,7 +42,7 @@ fn disk_call(number: u64, q: Call) -> DiskCall
     let node = q.node;
     let table = q.table;
     let op = q.dop;
-    if number == 17 {
+    if number == READ {
         return DiskCall {
             op: DiskOp::NoDiskOp,
             node,
@@ -73,13 +80,13 @@ impl Store {
         let state = self.disk;
         let d = Disk { device, state };
         let a = c.step(number, q);
-        let b = if number == 18 {
+        let b = if number == CRASH {
             d.crash(offered)
         } else {
             d.next(disk_call(number, q))
         };
         let mut n20: u64 = 0;
-        if number == 10 {
+        if number == RECEIVE_LOC {
             n20 = ask_start(q, d);
         }
         let answer = lower(lower(a.answer, b.answer), n20);

@@ -8,8 +8,8 @@ mod start;
 use blockcache::CacheState;
 use blockdisk::DiskState;
 
-// The store: cache and disk on one device. Its methods are the calls on cache and disk; each call gets the store that the last one handed
-// back.
+// The store: cache and disk on one device. Its methods are the calls on both; each call gets the cache and the disk that the last one
+// handed back.
 pub struct Store {
     pub device: u64,
     pub cache: CacheState,
@@ -17,4 +17,6 @@ pub struct Store {
 }
 
 pub use formatting::format_pictures;
+pub use joined::CRASH;
+pub use joined::READ;
 pub use pictures::pictures_after;

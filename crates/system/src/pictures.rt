@@ -16,7 +16,7 @@ fn names_place(m: Named, l: Location) -> bool
     ensures { λ b. ⌜ b ≡ names m l ⌝ }
 {
     let at = m.place;
-    let same = sector::same_loc(at, l);
+    let same = layout::same_loc(at, l);
     m.present & same
 }
 

@@ -1,6 +1,5 @@
 // Lists of references, and nodes, written out.
 ghost use mathlib.Core.Path.{_≡_};
-ghost use Rattle.sectortype.specs.Form.{zeroSuccs};
 ghost use Rattle.words.specs.Parsed.{noList, noNode, joinedOf, listOf, nodeOf};
 use crate::digits::Digits;
 use crate::digits::number;
@@ -22,21 +21,12 @@ pub struct NodeRead {
     pub node: Node,
 }
 
-pub fn empty_list() -> Succs
-    ensures { λ r. ⌜ r ≡ zeroSuccs ⌝ }
-{
-    Succs {
-        count: 0,
-        at: [0; 8],
-    }
-}
-
 fn no_list() -> Listed
     ensures { λ r. ⌜ r ≡ noList ⌝ }
 {
     Listed {
         ok: false,
-        succs: empty_list(),
+        succs: sector::zero_succs(),
     }
 }
 
@@ -76,7 +66,7 @@ pub fn list(w: &[u8]) -> Listed
 {
     let mut l = Listed {
         ok: true,
-        succs: empty_list(),
+        succs: sector::zero_succs(),
     };
     if w.len() == 0 {
         return l;

@@ -6,7 +6,7 @@ use borrow.Author.Count.{below-none}
 use borrow.Author.Needs.{needs}
 use lib.ListN.{getD, length, length-set, take}
 use lib.Seq.{ext-getD, getD-take, length-take-le}
-use Rattle.base.proofs.Lists.{fill-turn, length-opened, opened-at}
+use Rattle.base.proofs.Lists.{fill-turn, length-opened}
 use Rattle.base.specs.Lists.{opened}
 use Rattle.queue.proofs.open_all.Statement.{statement}
 use Rattle.queue.specs.Queue.{zeroRequest}

@@ -1,7 +1,5 @@
 -- By what the callees ensure. Assumes nothing.
 use borrow.Author.Needs.{needs}
-use Rattle.base.specs.Refusals.{answer}
-use Rattle.blockcache.specs.Step.{pastGate}
 use Rattle.cache.proofs.Cache.set_node.Statement.{statement}
 use Rattle.cache.proofs.Cache.set_node.Tie as tie
 
@@ -18,7 +16,6 @@ answered-requires : tie.Need-answered-requires
 answered-requires c κs = search needs
 
 returns : tie.Need-returns
-unfolding pastGate answer
 returns c =
     let c1 = c .before in
     let c2 = c1 .before .before in

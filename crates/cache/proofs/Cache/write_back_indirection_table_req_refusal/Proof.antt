@@ -18,8 +18,8 @@ overlap-requires c κs = search needs
 same-table-requires : tie.Need-same-table-requires
 same-table-requires c κs = search needs
 
-lacks-location-requires : tie.Need-lacks-location-requires
-lacks-location-requires c κs = search needs
+locs-complete-requires : tie.Need-locs-complete-requires
+locs-complete-requires c κs = search needs
 
 first-of-requires : tie.Need-first-of-requires
 first-of-requires c κs = search needs
@@ -46,7 +46,7 @@ returns c =
     let c8 = c7 .before .before .before .before .before .before .before .before in
     let over = rw (c8 .dop-loc .ensures) at (c6 .overlap .ensures) in
     let valid = rw (c8 .dop-loc .ensures) at (c7 .valid-indirection-table-location .ensures) in
-    simp (c .first-of4 .ensures, c1 .first-of3 .ensures, c2 .first-of2 .ensures, c3 .first-of .ensures, c4 .lacks-location .ensures, c5 .same-table .ensures, over, valid, c8 .dop-loc .ensures)
+    simp (c .first-of4 .ensures, c1 .first-of3 .ensures, c2 .first-of2 .ensures, c3 .first-of .ensures, c4 .locs-complete .ensures, c5 .same-table .ensures, over, valid, c8 .dop-loc .ensures)
 
 pub write-back-indirection-table-req-refusal-spec : {M : Type 1} → statement M
 write-back-indirection-table-req-refusal-spec =
@@ -56,7 +56,7 @@ write-back-indirection-table-req-refusal-spec =
     valid-indirection-table-location-requires
     overlap-requires
     same-table-requires
-    lacks-location-requires
+    locs-complete-requires
     first-of-requires
     first-of-requires-2
     first-of-requires-3

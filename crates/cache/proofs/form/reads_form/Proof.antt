@@ -8,7 +8,6 @@ use Rattle.base.proofs.Scan.{all-end, all-none, all-turn}
 use Rattle.base.specs.Scan.{allBelow}
 use Rattle.cache.proofs.form.reads_form.Statement.{statement}
 use Rattle.blockcache.specs.Form.{readOk, readsForm}
-use Rattle.disklayout.proofs.Devices.{good}
 use Rattle.queue.specs.Queue.{requestAt}
 use Rattle.cache.proofs.form.reads_form.Tie as tie
 

@@ -8,7 +8,6 @@ use Rattle.base.proofs.Scan.{all-end, all-none, all-turn}
 use Rattle.base.specs.Scan.{allBelow}
 use Rattle.cache.proofs.form.writes_form.Statement.{statement}
 use Rattle.blockcache.specs.Form.{writeOk, writesForm}
-use Rattle.disklayout.proofs.Devices.{good}
 use Rattle.queue.specs.Queue.{requestAt}
 use Rattle.cache.proofs.form.writes_form.Tie as tie
 

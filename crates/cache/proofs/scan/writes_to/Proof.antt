@@ -9,7 +9,7 @@ use Rattle.base.specs.Scan.{someBelow}
 use Rattle.cache.proofs.scan.writes_to.Statement.{statement}
 use Rattle.blockcache.specs.Scan.{writesTo}
 use Rattle.queue.specs.Queue.{requestAt}
-use Rattle.sectortype.specs.Same.{sameLoc}
+use Rattle.disklayout.specs.Layout.{sameLoc}
 use Rattle.cache.proofs.scan.writes_to.Tie as tie
 
 abbrev Inv-loop : tie.InvT-loop

@@ -2,7 +2,7 @@
 -- Refused: the disk as it was. Accepted: by what the callees ensure. Assumes nothing.
 use borrow.Author.Needs.{needs}
 use borrow.Author.Tests.{ne-eqb}
-use Rattle.blockdisk.specs.Ops.{answerTurn, nodeNotStored}
+use Rattle.blockdisk.specs.Ops.{answerOutcome, nodeNotStored}
 use Rattle.disk.proofs.Disk.ack_read_node.Statement.{statement}
 use Rattle.disk.proofs.Disk.ack_read_node.Tie as tie
 
@@ -12,30 +12,30 @@ entry-requires c κs = search needs
 node-at-requires : tie.Need-node-at-requires
 node-at-requires c κs = search needs
 
-other-node-requires : tie.Need-other-node-requires
-other-node-requires c κs = search needs
+node-not-stored-requires : tie.Need-node-not-stored-requires
+node-not-stored-requires c κs = search needs
 
 take-requires : tie.Need-take-requires
 take-requires c κs = search needs
 
 returns : tie.Need-returns
-unfolding answerTurn nodeNotStored
+unfolding answerOutcome nodeNotStored
 returns c =
     let x = c .before .before in
     let at = x .before .node-at .ensures in
     let w = x .before .before .before .before .entry .ensures in
-    let e = simp (c .before .take .ensures, x .other-node .ensures, at, w) at (c .if1 .taken) in
-    simp (c .before .take .ensures, x .other-node .ensures, at, w, ne-eqb _ _ e)
+    let e = simp (c .before .take .ensures, x .node-not-stored .ensures, at, w) at (c .if1 .taken) in
+    simp (c .before .take .ensures, x .node-not-stored .ensures, at, w, ne-eqb _ _ e)
 
 returns-2 : tie.Need-returns-2
-unfolding answerTurn nodeNotStored
+unfolding answerOutcome nodeNotStored
 returns-2 c =
     let x = c .before .before .before in
     let at = x .before .node-at .ensures in
     let w = x .before .before .before .before .entry .ensures in
-    let e = simp (c .before .before .take .ensures, x .other-node .ensures, at, w) at (c .before .if1 .left) in
-    simp (c .before .before .take .ensures, x .other-node .ensures, at, w, e)
+    let e = simp (c .before .before .take .ensures, x .node-not-stored .ensures, at, w) at (c .before .if1 .left) in
+    simp (c .before .before .take .ensures, x .node-not-stored .ensures, at, w, e)
 
 pub ack-read-node-spec : {M : Type 1} → statement M
 ack-read-node-spec =
-    tie.close (tie.spec entry-requires node-at-requires other-node-requires take-requires returns returns-2)
+    tie.close (tie.spec entry-requires node-at-requires node-not-stored-requires take-requires returns returns-2)

@@ -1,9 +1,10 @@
 -- Not in its written form: 1. Else arm by arm: the operation is the arm's, and the transition's own contract is the definition there. The
 -- test of the form is the definition's, by what the callees ensure of the two parts of the disk, the node and the table. Assumes nothing.
+use mathlib.Core.Path.{_≡_}
 use borrow.Author.Needs.{needs}
 use Rattle.base.specs.Refusals.{answer}
 use Rattle.blockdisk.specs.Form.{diskForm}
-use Rattle.blockdisk.specs.Ops.{diskStep}
+use Rattle.blockdisk.specs.Ops.{diskStep, opOutcome}
 use Rattle.disk.proofs.Disk.next.Statement.{statement}
 use Rattle.disk.proofs.Disk.next.Tie as tie
 
@@ -25,6 +26,15 @@ returns c =
     let t = c .before .before .before .before in
     let q = t .before .before in
     simp (rw (t .table-form .ensures, t .before .node-form .ensures, q .queues-ok .ensures, q .before .records-ok .ensures) at (c .if1 .taken))
+
+-- past the test, the operation alone decides
+formed : (i : tie.Else1) → let a = i .before .before .before .before .before .before .before .before .before .before .before .before .before .args in
+    diskStep (a .self .device) (a .self .state) (a .call) ≡ opOutcome (a .self .device) (a .self .state) (a .call .op) (a .call .node) (a .call .table)
+unfolding diskForm diskStep answer
+formed i =
+    let t = i .before .before .before .before in
+    let q = t .before .before in
+    simp (rw (t .table-form .ensures, t .before .node-form .ensures, q .queues-ok .ensures, q .before .records-ok .ensures) at (i .if1 .left))
 
 enum-known-op : tie.Need-enum-known-op
 enum-known-op c = search needs
@@ -81,85 +91,31 @@ stutter-requires : tie.Need-stutter-requires
 stutter-requires c κs = search needs
 
 returns-2 : tie.Need-returns-2
-unfolding diskForm diskStep answer
-returns-2 c =
-    let i = c .before .before .before .before in
-    let t = i .before .before .before .before in
-    let q = t .before .before in
-    let w = rw (t .table-form .ensures, t .before .node-form .ensures, q .queues-ok .ensures, q .before .records-ok .ensures) at (i .if1 .left) in
-    simp (w, c .before .before .op .given .1) (c .recv-read-indirection-table .ensures)
+returns-2 c = simp (formed (c .before .before .before .before), c .before .before .op .given .1) (c .recv-read-indirection-table .ensures)
 
 returns-3 : tie.Need-returns-3
-unfolding diskForm diskStep answer
-returns-3 c =
-    let i = c .before .before .before .before in
-    let t = i .before .before .before .before in
-    let q = t .before .before in
-    let w = rw (t .table-form .ensures, t .before .node-form .ensures, q .queues-ok .ensures, q .before .records-ok .ensures) at (i .if1 .left) in
-    simp (w, c .before .before .op2 .given .1) (c .recv-read-node .ensures)
+returns-3 c = simp (formed (c .before .before .before .before), c .before .before .op2 .given .1) (c .recv-read-node .ensures)
 
 returns-4 : tie.Need-returns-4
-unfolding diskForm diskStep answer
-returns-4 c =
-    let i = c .before .before .before .before in
-    let t = i .before .before .before .before in
-    let q = t .before .before in
-    let w = rw (t .table-form .ensures, t .before .node-form .ensures, q .queues-ok .ensures, q .before .records-ok .ensures) at (i .if1 .left) in
-    simp (w, c .before .before .op3 .given .1) (c .recv-write-indirection-table .ensures)
+returns-4 c = simp (formed (c .before .before .before .before), c .before .before .op3 .given .1) (c .recv-write-indirection-table .ensures)
 
 returns-5 : tie.Need-returns-5
-unfolding diskForm diskStep answer
-returns-5 c =
-    let i = c .before .before .before .before in
-    let t = i .before .before .before .before in
-    let q = t .before .before in
-    let w = rw (t .table-form .ensures, t .before .node-form .ensures, q .queues-ok .ensures, q .before .records-ok .ensures) at (i .if1 .left) in
-    simp (w, c .before .before .op4 .given .1) (c .recv-write-node .ensures)
+returns-5 c = simp (formed (c .before .before .before .before), c .before .before .op4 .given .1) (c .recv-write-node .ensures)
 
 returns-6 : tie.Need-returns-6
-unfolding diskForm diskStep answer
-returns-6 c =
-    let i = c .before .before .before .before in
-    let t = i .before .before .before .before in
-    let q = t .before .before in
-    let w = rw (t .table-form .ensures, t .before .node-form .ensures, q .queues-ok .ensures, q .before .records-ok .ensures) at (i .if1 .left) in
-    simp (w, c .before .before .op5 .given .1) (c .ack-read-indirection-table .ensures)
+returns-6 c = simp (formed (c .before .before .before .before), c .before .before .op5 .given .1) (c .ack-read-indirection-table .ensures)
 
 returns-7 : tie.Need-returns-7
-unfolding diskForm diskStep answer
-returns-7 c =
-    let i = c .before .before .before .before in
-    let t = i .before .before .before .before in
-    let q = t .before .before in
-    let w = rw (t .table-form .ensures, t .before .node-form .ensures, q .queues-ok .ensures, q .before .records-ok .ensures) at (i .if1 .left) in
-    simp (w, c .before .before .op6 .given .1) (c .ack-read-node .ensures)
+returns-7 c = simp (formed (c .before .before .before .before), c .before .before .op6 .given .1) (c .ack-read-node .ensures)
 
 returns-8 : tie.Need-returns-8
-unfolding diskForm diskStep answer
-returns-8 c =
-    let i = c .before .before .before .before in
-    let t = i .before .before .before .before in
-    let q = t .before .before in
-    let w = rw (t .table-form .ensures, t .before .node-form .ensures, q .queues-ok .ensures, q .before .records-ok .ensures) at (i .if1 .left) in
-    simp (w, c .before .before .op7 .given .1) (c .ack-write-indirection-table .ensures)
+returns-8 c = simp (formed (c .before .before .before .before), c .before .before .op7 .given .1) (c .ack-write-indirection-table .ensures)
 
 returns-9 : tie.Need-returns-9
-unfolding diskForm diskStep answer
-returns-9 c =
-    let i = c .before .before .before .before in
-    let t = i .before .before .before .before in
-    let q = t .before .before in
-    let w = rw (t .table-form .ensures, t .before .node-form .ensures, q .queues-ok .ensures, q .before .records-ok .ensures) at (i .if1 .left) in
-    simp (w, c .before .before .op8 .given .1) (c .ack-write-node .ensures)
+returns-9 c = simp (formed (c .before .before .before .before), c .before .before .op8 .given .1) (c .ack-write-node .ensures)
 
 returns-10 : tie.Need-returns-10
-unfolding diskForm diskStep answer
-returns-10 c =
-    let i = c .before .before .before in
-    let t = i .before .before .before .before in
-    let q = t .before .before in
-    let w = rw (t .table-form .ensures, t .before .node-form .ensures, q .queues-ok .ensures, q .before .records-ok .ensures) at (i .if1 .left) in
-    simp (w, c .before .enum-told .given .1) (c .stutter .ensures)
+returns-10 c = simp (formed (c .before .before .before), c .before .enum-told .given .1) (c .stutter .ensures)
 
 pub next-spec : {M : Type 1} → statement M
 next-spec =

@@ -2,7 +2,7 @@
 use borrow.Author.Needs.{needs}
 use borrow.Author.Tests.{ne-eqb}
 use Rattle.disk.proofs.Disk.recv_read_node.Statement.{statement}
-use Rattle.blockdisk.specs.Ops.{requestTurn}
+use Rattle.blockdisk.specs.Ops.{requestOutcome}
 use Rattle.disk.proofs.Disk.recv_read_node.Tie as tie
 
 node-place-requires : tie.Need-node-place-requires
@@ -12,13 +12,13 @@ ask-requires : tie.Need-ask-requires
 ask-requires c κs = search needs
 
 returns : tie.Need-returns
-unfolding requestTurn
+unfolding requestOutcome
 returns c =
     let e = simp (c .before .ask .ensures, c .before .before .node-place .ensures) at (c .if1 .taken) in
     simp (c .before .ask .ensures, c .before .before .node-place .ensures, ne-eqb _ _ e)
 
 returns-2 : tie.Need-returns-2
-unfolding requestTurn
+unfolding requestOutcome
 returns-2 c =
     let e = simp (c .before .before .ask .ensures, c .before .before .before .node-place .ensures) at (c .before .if1 .left) in
     simp (c .before .before .ask .ensures, c .before .before .before .node-place .ensures, e)

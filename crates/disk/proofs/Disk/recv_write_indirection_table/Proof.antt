@@ -2,7 +2,7 @@
 use borrow.Author.Needs.{needs}
 use borrow.Author.Tests.{ne-eqb}
 use Rattle.disk.proofs.Disk.recv_write_indirection_table.Statement.{statement}
-use Rattle.blockdisk.specs.Ops.{requestTurn}
+use Rattle.blockdisk.specs.Ops.{requestOutcome}
 use Rattle.disk.proofs.Disk.recv_write_indirection_table.Tie as tie
 
 valid-indirection-table-location-requires : tie.Need-valid-indirection-table-location-requires
@@ -12,7 +12,7 @@ ask-requires : tie.Need-ask-requires
 ask-requires c κs = search needs
 
 returns : tie.Need-returns
-unfolding requestTurn
+unfolding requestOutcome
 returns c =
     let e = simp (c .before .ask .ensures, c .before .before .valid-indirection-table-location .ensures) at (c .if1 .taken) in
     simp (c .before .ask .ensures, c .before .before .valid-indirection-table-location .ensures, ne-eqb _ _ e)
@@ -21,7 +21,7 @@ with-table-requires : tie.Need-with-table-requires
 with-table-requires c κs = search needs
 
 returns-2 : tie.Need-returns-2
-unfolding requestTurn
+unfolding requestOutcome
 returns-2 c =
     let e = simp (c .before .before .before .before .ask .ensures, c .before .before .before .before .before .valid-indirection-table-location .ensures) at (c .before .before .before .if1 .left) in
     simp (c .before .before .before .before .ask .ensures, c .before .before .before .before .before .valid-indirection-table-location .ensures, c .with-table .ensures, e)

@@ -3,11 +3,11 @@ use Rattle.disklayout.specs.Layout.{ValidLocation, ValidSuperblock1Location, Va
 use Rattle.layout.proofs.areas.is_place.Statement.{statement}
 use Rattle.layout.proofs.areas.is_place.Tie as tie
 
-same-location-requires : tie.Need-same-location-requires
-same-location-requires c κs = tt
+same-loc-requires : tie.Need-same-loc-requires
+same-loc-requires c κs = tt
 
-same-location-requires-2 : tie.Need-same-location-requires-2
-same-location-requires-2 c κs = tt
+same-loc-requires-2 : tie.Need-same-loc-requires-2
+same-loc-requires-2 c κs = tt
 
 is-journal-requires : tie.Need-is-journal-requires
 is-journal-requires c κs = c .before .before .pre
@@ -25,14 +25,14 @@ returns c =
     let c2 = c1 .before in
     let c3 = c2 .before in
     let c4 = c3 .before in
-    rw (c .is-node .ensures, c1 .is-table .ensures, c2 .is-journal .ensures, c3 .same-location2 .ensures, c4 .same-location .ensures)
+    rw (c .is-node .ensures, c1 .is-table .ensures, c2 .is-journal .ensures, c3 .same-loc2 .ensures, c4 .same-loc .ensures)
 
 pub is-place-spec : {M : Type 1} → statement M
 is-place-spec =
     tie.close
     (tie.spec
-    same-location-requires
-    same-location-requires-2
+    same-loc-requires
+    same-loc-requires-2
     is-journal-requires
     is-table-requires
     is-node-requires

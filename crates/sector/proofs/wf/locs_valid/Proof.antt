@@ -4,7 +4,6 @@ use mathlib.Core.Path.{_≡_}
 use borrow.Author.Needs.{needs}
 use Rattle.base.proofs.Scan.{all-end, all-none, all-turn}
 use Rattle.base.specs.Scan.{allBelow}
-use Rattle.disklayout.proofs.Devices.{good}
 use Rattle.sector.proofs.wf.locs_valid.Statement.{statement}
 use Rattle.sectortype.specs.Form.{entryAt}
 use Rattle.sectortype.specs.Graph.{LocsValid, locOk}

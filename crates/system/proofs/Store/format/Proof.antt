@@ -8,8 +8,8 @@ use Rattle.system.proofs.Store.format.Tie as tie
 zero-node-requires : tie.Need-zero-node-requires
 zero-node-requires c κs = search needs
 
-unready-requires : tie.Need-unready-requires
-unready-requires c κs = search needs
+empty-cache-requires : tie.Need-empty-cache-requires
+empty-cache-requires c κs = search needs
 
 empty-queues-requires : tie.Need-empty-queues-requires
 empty-queues-requires c κs = search needs
@@ -24,7 +24,7 @@ returns c =
     let c2 = c1 .before in
     let c3 = c2 .before in
     let c4 = c3 .before in
-    simp (lt-leb _ _ (c1 .if1 .taken), c .empty-records .ensures, c2 .empty-queues .ensures, c3 .unready .ensures, c4 .zero-node .ensures)
+    simp (lt-leb _ _ (c1 .if1 .taken), c .empty-records .ensures, c2 .empty-queues .ensures, c3 .empty-cache .ensures, c4 .zero-node .ensures)
 
 indirection-table1-addr-requires : tie.Need-indirection-table1-addr-requires
 indirection-table1-addr-requires c κs = search needs
@@ -32,11 +32,11 @@ indirection-table1-addr-requires c κs = search needs
 first-node-addr-requires : tie.Need-first-node-addr-requires
 first-node-addr-requires c κs = search needs
 
-root-place-requires : tie.Need-root-place-requires
-root-place-requires c κs = search needs
+place-at-requires : tie.Need-place-at-requires
+place-at-requires c κs = search needs
 
-root-place-requires-2 : tie.Need-root-place-requires-2
-root-place-requires-2 c κs = search needs
+place-at-requires-2 : tie.Need-place-at-requires-2
+place-at-requires-2 c κs = search needs
 
 formatted-records-requires : tie.Need-formatted-records-requires
 formatted-records-requires c κs = search needs
@@ -55,12 +55,12 @@ returns-2 c =
     simp (
       le-leb _ _ (c5 .if1 .left),
       c .formatted-records .ensures,
-      c1 .root-place2 .ensures,
-      c2 .root-place .ensures,
+      c1 .place-at2 .ensures,
+      c2 .place-at .ensures,
       c3 .first-node-addr .ensures,
       c4 .indirection-table1-addr .ensures,
       c6 .empty-queues .ensures,
-      c7 .unready .ensures,
+      c7 .empty-cache .ensures,
       c8 .zero-node .ensures,
     )
 
@@ -69,13 +69,13 @@ format-spec =
     tie.close
     (tie.spec
     zero-node-requires
-    unready-requires
+    empty-cache-requires
     empty-queues-requires
     empty-records-requires
     returns
     indirection-table1-addr-requires
     first-node-addr-requires
-    root-place-requires
-    root-place-requires-2
+    place-at-requires
+    place-at-requires-2
     formatted-records-requires
     returns-2)

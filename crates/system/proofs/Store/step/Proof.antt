@@ -33,18 +33,28 @@ lower-requires-2 c κs = search needs
 zero-node-requires : tie.Need-zero-node-requires
 zero-node-requires c κs = search needs
 
+-- what the disk is asked, read off the arms
+disk-asked : (m : tie.Joined2) → let a = m .before .before .before .before .before .args in
+    m .before .if1 .b ≡ diskAsked (a .self .device) (a .number) (a .q) (a .offered) (a .self .disk)
+unfolding diskAsked
+disk-asked m =
+    ⊎-elim (λ w. w .2 ∙ simp (eq-eqb _ _ (w .0 .taken)) (w .1 .ensures))
+    (λ w. w .3 ∙ simp (ne-eqb _ _ (w .0 .left)) (rw (w .1 .ensures) at (w .2 .ensures))) (m .before .if1 .came)
+
+-- and what a start asks of the graph
+start-asked : (m : tie.Joined2) → let a = m .before .before .before .before .before .args in
+    m .if2 .n20 ≡ answer (startRows (a .self .device) (a .number) (a .q) (a .self .disk))
+unfolding answer
+start-asked m = ⊎-elim (λ w. w .2 ∙ simp (w .0 .taken) (w .1 .ensures)) (λ w. w .1 ∙ simp (ne-eqb _ _ (w .0 .left))) (m .if2 .came)
+
 returns : tie.Need-returns
 unfolding answer diskAsked joined joinedAnswer
 returns c =
     let z = c .before .before in
     let l = z .before .before in
     let m = l .before .before in
-    let a = m .before .before .before .before .before .args in
-    let b : m .before .if1 .b ≡ diskAsked (a .self .device) (a .number) (a .q) (a .offered) (a .self .disk) =
-    ⊎-elim (λ w. w .2 ∙ simp (eq-eqb _ _ (w .0 .taken)) (w .1 .ensures))
-    (λ w. w .3 ∙ simp (ne-eqb _ _ (w .0 .left)) (rw (w .1 .ensures) at (w .2 .ensures))) (m .before .if1 .came) in
-    let n : m .if2 .n20 ≡ answer (startRows (a .self .device) (a .number) (a .q) (a .self .disk)) =
-    ⊎-elim (λ w. w .2 ∙ simp (w .0 .taken) (w .1 .ensures)) (λ w. w .1 ∙ simp (ne-eqb _ _ (w .0 .left))) (m .if2 .came) in
+    let b = disk-asked m in
+    let n = start-asked m in
     let e = simp (l .lower2 .ensures, l .before .lower .ensures, n, b, m .before .before .step .ensures) at (z .before .if3 .taken) in
     simp (c .zero-node .ensures, l .lower2 .ensures, l .before .lower .ensures, n, b, m .before .before .step .ensures, ne-eqb _ _ e)
 
@@ -53,12 +63,8 @@ unfolding answer diskAsked joined joinedAnswer
 returns-2 c =
     let l = c .before .before .before .before in
     let m = l .before .before in
-    let a = m .before .before .before .before .before .args in
-    let b : m .before .if1 .b ≡ diskAsked (a .self .device) (a .number) (a .q) (a .offered) (a .self .disk) =
-    ⊎-elim (λ w. w .2 ∙ simp (eq-eqb _ _ (w .0 .taken)) (w .1 .ensures))
-    (λ w. w .3 ∙ simp (ne-eqb _ _ (w .0 .left)) (rw (w .1 .ensures) at (w .2 .ensures))) (m .before .if1 .came) in
-    let n : m .if2 .n20 ≡ answer (startRows (a .self .device) (a .number) (a .q) (a .self .disk)) =
-    ⊎-elim (λ w. w .2 ∙ simp (w .0 .taken) (w .1 .ensures)) (λ w. w .1 ∙ simp (ne-eqb _ _ (w .0 .left))) (m .if2 .came) in
+    let b = disk-asked m in
+    let n = start-asked m in
     let e = simp (l .lower2 .ensures, l .before .lower .ensures, n, b, m .before .before .step .ensures) at (c .before .before .before .if3 .left) in
     simp (e, b, m .before .before .step .ensures)
 

@@ -1,4 +1,4 @@
--- Arm by arm, by what the method ensures. Assumes nothing.
+-- Arm by arm, by what the function called there ensures. Assumes nothing.
 use borrow.Author.Needs.{needs}
 use mathlib.Core.Path.{sym}
 use Rattle.blockcache.specs.Steps.{stepOf, steps}

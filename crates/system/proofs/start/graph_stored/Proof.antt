@@ -4,7 +4,6 @@ use mathlib.Core.Path.{_≡_}
 use borrow.Author.Needs.{needs}
 use Rattle.base.proofs.Scan.{all-end, all-none, all-turn}
 use Rattle.base.specs.Scan.{allBelow}
-use Rattle.disklayout.proofs.Devices.{good}
 use Rattle.sectortype.specs.Form.{entryAt}
 use Rattle.system.proofs.start.graph_stored.Statement.{statement}
 use Rattle.blocksystem.specs.Start.{graphStored, refAgrees}

@@ -16,16 +16,16 @@ Inv-loop w l₀ from₀ l from = (from ≤ length w) × (foldFrom listOk listSte
 abbrev μ-loop : tie.MeasureT-loop
 μ-loop w l₀ from₀ l from = length w - from
 
-empty-list-requires : tie.Need-empty-list-requires Inv-loop μ-loop
-empty-list-requires c κs = search needs
+zero-succs-requires : tie.Need-zero-succs-requires Inv-loop μ-loop
+zero-succs-requires c κs = search needs
 
 returns : tie.Need-returns Inv-loop μ-loop
 unfolding listOf
-returns c = simp (eq-eqb _ _ (c .if1 .taken), c .before .empty-list .ensures)
+returns c = simp (eq-eqb _ _ (c .if1 .taken), c .before .zero-succs .ensures)
 
 loop-holds : tie.Need-loop-holds Inv-loop μ-loop
 unfolding listOf
-loop-holds c = (search needs, simp (ne-eqb _ _ (c .if1 .left), c .before .empty-list .ensures))
+loop-holds c = (search needs, simp (ne-eqb _ _ (c .if1 .left), c .before .zero-succs .ensures))
 
 after-requires : tie.Need-after-requires Inv-loop μ-loop
 after-requires c κs = search needs
@@ -104,7 +104,7 @@ list-spec =
     (tie.spec
     Inv-loop
     μ-loop
-    empty-list-requires
+    zero-succs-requires
     returns
     loop-holds
     after-requires

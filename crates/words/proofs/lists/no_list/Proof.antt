@@ -3,11 +3,11 @@ use borrow.Author.Needs.{needs}
 use Rattle.words.proofs.lists.no_list.Statement.{statement}
 use Rattle.words.proofs.lists.no_list.Tie as tie
 
-empty-list-requires : tie.Need-empty-list-requires
-empty-list-requires c κs = search needs
+zero-succs-requires : tie.Need-zero-succs-requires
+zero-succs-requires c κs = search needs
 
 returns : tie.Need-returns
-returns c = simp (c .empty-list .ensures)
+returns c = simp (c .zero-succs .ensures)
 
 pub no-list-spec : {M : Type 1} → statement M
-no-list-spec = tie.close (tie.spec empty-list-requires returns)
+no-list-spec = tie.close (tie.spec zero-succs-requires returns)

@@ -4,7 +4,6 @@ use mathlib.Core.Bool.{_&&_}
 use mathlib.Core.Path.{_≡_, refl}
 use borrow.Author.Needs.{needs}
 use lib.ListN.{drop, length, length-set}
-use Rattle.disklayout.proofs.Devices.{good}
 use Rattle.words.proofs.Cuts.{fit-end, fit-turn}
 use Rattle.words.proofs.text.words_fit.Statement.{statement}
 use Rattle.words.specs.Cut.{fitFrom, fitOf, wordsOf}

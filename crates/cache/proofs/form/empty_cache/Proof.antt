@@ -1,7 +1,7 @@
 -- By what the callees ensure. Assumes nothing.
 use borrow.Author.Needs.{needs}
-use Rattle.cache.proofs.form.unready.Statement.{statement}
-use Rattle.cache.proofs.form.unready.Tie as tie
+use Rattle.cache.proofs.form.empty_cache.Statement.{statement}
+use Rattle.cache.proofs.form.empty_cache.Tie as tie
 
 zero-loc-requires : tie.Need-zero-loc-requires
 zero-loc-requires c κs = search needs
@@ -12,5 +12,5 @@ loading-requires c κs = search needs
 returns : tie.Need-returns
 returns c = simp (c .loading .ensures, c .before .zero-loc .ensures)
 
-pub unready-spec : {M : Type 1} → statement M
-unready-spec = tie.close (tie.spec zero-loc-requires loading-requires returns)
+pub empty-cache-spec : {M : Type 1} → statement M
+empty-cache-spec = tie.close (tie.spec zero-loc-requires loading-requires returns)
