@@ -1,22 +1,23 @@
-# expected.py REPLAY EXAMPLES: writes REPLAY/stdin, REPLAY/stdout and EXAMPLES/*.replay from the pairs below, each line with what document 01 and
-# docs/REPLAY.md say it prints, derived by hand. From the top: python3 examples/expected.py crates/replay examples
-# (line, what 01 and replay.md say it prints); None: nothing is printed
+# expected.py REPLAY EXAMPLES: writes REPLAY/stdin, REPLAY/stdout and EXAMPLES/*.replay from the pairs below, each line with what documents 01 and 02
+# and docs/REPLAY.md say it prints, derived by hand. From the top: python3 examples/expected.py crates/replay examples
+# (line, what they say it prints); None: nothing is printed
 P=[]
 def c(s): P.append((b'# '+s if s else b'',None))
 def l(s,*out): P.append((s if isinstance(s,bytes) else s.encode(),out))
 def a(s,n): l(s,'answer=%d'%n)
 def e(s): l(s,'error')
 OK='lost=0 added=0 altered=0'
-c(b'Nothing but format is taken before the first accepted one.')
+c(b'Nothing but format and place is taken before the first accepted one.')
 e('audit'); e('show'); e('step=17'); e('step=1 x')
 a('format device=3 contents=0',1)
 e('show')
+def p(device,place,kind,answer=0): l('place device=%d loc=%s'%(device,place),'answer=%d kind=%s'%(answer,kind))
+p(0,'0+4096','superblock1')
 def load():
     a('format device=0 contents=5',0)
     a('step=10 v=SendPersistentLocOp vloc=73728+4096',0)
     a('step=8 d=ReqReadIndirectionTableOp id=1 loc=73728+4096',0)
     a('step=9 d=RespReadIndirectionTableOp id=1 table=stored',0)
-c(b'')
 c(b'01, "Device 0 at its edges". Freshly loaded: Evict 0 gives 8.')
 load()
 a('step=11 ref=0',8)
@@ -169,6 +170,53 @@ def refusals():
     xa('19: a disk that lost a table that nobody was writing is no possible one.','step=18 v=CrashOp table1=none',19)
     x('Refused calls changed nothing.','audit','place=73728+4096 '+OK)
     x('18 cannot be reached by a script: 14 comes before it. The program cases shows it.','show','phase=Ready allocated=1 cached=1 writes=16 reads=0',dots('*'+'W'*16))
+
+def xp(comment,device,place,kind,answer=0):
+    c(comment.encode()); p(device,place,kind,answer)
+def places():
+    # what 01 says of its starred places: valid as the kind named, or not; below the first node address nothing but superblocks, journal and tables
+    xp('Table area 1 begins here: a table of one byte ..',0,'73728+1','table')
+    xp('.. and one of the whole area.',0,'73728+65536','table')
+    xp('No table is empty, and the journal ended here.',0,'73728+0','none')
+    xp('One byte longer than the area.',0,'73728+65537','none')
+    xp('One byte past where the area begins.',0,'73729+1','none')
+    xp('The first node block: a node may be empty ..',0,'262144+0','node')
+    xp('.. or fill its block ..',0,'262144+65536','node')
+    xp('.. and be no longer.',0,'262144+65537','none')
+    xp('A multiple of the block size, but below the first node address.',0,'196608+1','none')
+    xp("The journal's last block ..",0,'69632+4096','journal')
+    xp('.. and a range of no blocks at its start.',0,'8192+0','journal')
+    xp('A journal range that goes round, start 14 with 5 blocks: its front part ..',0,'65536+8192','journal')
+    xp('.. and its back part.',0,'8192+12288','journal')
+    xp('Places that are only compared with each other.',0,'100+0','none')
+    xp('The other of the two.',0,'99+2','none')
+    # each kind on each device: both superblocks, the journal whole and its last block, both areas, the first block, the last of the 128, the one behind
+    # it, which the 128 blocks end before and upstream's predicate does not, and the gap between table area 2 and the first node address
+    for d,journal,end,t1,t2,gap,first,size in [(0,65536,73728,73728,139264,204800,262144,65536),(1,262144,270336,270336,532480,794624,917504,131072),(2,1048576,1056768,1056768,2105344,3153920,4194304,1048576)]:
+        xp('Device %d: the first superblock.'%d,d,'0+4096','superblock1')
+        xp('The second.',d,'4096+4096','superblock2')
+        xp('The whole journal.',d,'8192+%d'%journal,'journal')
+        xp('Its last block.',d,'%d+4096'%(end-4096),'journal')
+        xp('One block more than it has.',d,'8192+%d'%(journal+4096),'none')
+        xp('Table area 1.',d,'%d+4096'%t1,'table')
+        xp('Table area 2.',d,'%d+4096'%t2,'table')
+        xp('Past table area 2 and before the first node block.',d,'%d+4096'%gap,'none')
+        xp('The first node block.',d,'%d+4096'%first,'node')
+        xp('The last of the 128.',d,'%d+%d'%(first+127*size,size),'node')
+        xp('The one behind it: a ValidNodeLocation, though refusal 16 has no block for it.',d,'%d+1'%(first+128*size),'node')
+        xp('Not where a node block begins.',d,'%d+1'%(first+4096),'none')
+    xp('About the superblocks: shorter ..',0,'0+4095','none')
+    xp('.. longer ..',0,'0+8192','none')
+    xp('.. not at a multiple of 4096 ..',0,'1+4096','none')
+    xp('.. shorter than the second ..',0,'4096+4095','none')
+    xp('.. and nothing at all.',0,'0+0','none')
+    xp('A journal place is whole blocks ..',0,'8192+4097','none')
+    xp('.. that begin where a block does.',0,'8193+4096','none')
+    xp('The last block below 2 to the 64.',0,'18446744073709486080+65536','node')
+    xp('A sum past 64 bits is no journal place.',0,'8192+18446744073709547520','none')
+    xp('The largest numbers.',2,'18446744073709551615+18446744073709551615','none')
+    xp('There is no device 3.',3,'0+4096','none',1)
+    xp('Nor any beyond.',18446744073709551615,'262144+4096','none',1)
 
 # A FULL LIFE on device 2: a crash at every kind of moment, restarts from both named places
 T1,T2,B0,B1='1056768+4096','2105344+4096','4194304+4096','5242880+4096'
@@ -411,19 +459,34 @@ x=to(4097); assert len(x)==4097; e(x)
 e(b'step=14 '+b'ref=0'*2000)
 a('step=18 v=CrashOp '+' '.join('block=%d:none'%k for k in range(2,127)),0)
 l('show','phase=Unready allocated=0 cached=0 writes=0 reads=0','blocks=oo'+'.'*125+'o')
+c(b'')
+c(b'examples/places.replay')
+n=len(P); places(); EX['places']=(n,len(P)); c(b'')
+c(b'The words of place come in either order. Both must be there, each once, and no other.')
+l('place loc=139264+1 device=0','answer=0 kind=table')
+for s in ['place','place ','place device=0','place loc=0+4096','place  device=0 loc=0+4096','place device=0 loc=0+4096 ','place device=0 loc=0+4096 loc=0+4096','place device=0 device=0 loc=0+4096','place device=0 loc=0+4096 ref=0','place device=0 loc=0+4096 contents=0','place device=0 loc=0+4096 kind=node','place device= loc=0+4096','place device=0 loc=','place device=0 loc=0','place device=0 loc=0+','place device=00 loc=0+4096','place device=0 loc=0+18446744073709551616','place device=18446744073709551616 loc=0+4096','place device=0 vloc=0+4096','place=0 device=0 loc=0+4096','places device=0 loc=0+4096','Place device=0 loc=0+4096','plac device=0 loc=0+4096','format device=0 contents=0 loc=0+4096']: e(s)
+c(b'Each key, on the lines that may not have it: a word of place, of format, of a crash and of another step.')
+KEYS=['ref=0','v=CrashOp','vloc=0+0','uiop=Op','d=NoDiskOp','id=0','loc=0+4096','node=none','table=none','table1=none','table2=none','block=127:none','device=0','contents=0']
+for i,k in enumerate(KEYS,1):
+    if i not in (7,13): e('place device=0 loc=0+4096 '+k)
+    if i not in (13,14): e('format device=0 contents=0 '+k)
+    if i>12: e('step=18 v=CrashOp '+k)
+    if i>9: e('step=14 '+k)
+c(b'The lines about places changed nothing, and were not counted as calls.')
 c(b'The last line has no line feed.')
 l('audit','place=1056768+4096 '+OK)
 out=[]; calls=acc=ref=err=0
 for n,(s,o) in enumerate(P,1):
     for x in o or (): out.append('line=%d %s'%(n,x))
-    if o and o[0].startswith('answer='):
+    if o and o[0].startswith('answer=') and ' kind=' not in o[0]:  # place is no call
         calls+=1
         if o[0].split()[0]=='answer=0': acc+=1
         else: ref+=1
     if o==('error',): err+=1
 out.append('calls=%d accepted=%d refused=%d errors=%d'%(calls,acc,ref,err))
 import sys
-HEAD={'day':'A day at the club: load, change, write back, freeze, clean up, crash, and the next morning.','crash':'A crash during clean-up: once while the new table is being written, once after it is.','refusals':'A refused call of each number that a script can reach.'}
+HEAD={'day':'A day at the club: load, change, write back, freeze, clean up, crash, and the next morning.','crash':'A crash during clean-up: once while the new table is being written, once after it is.','refusals':'A refused call of each number that a script can reach.',
+'places':'What is this place? Document 01\'s places at the edges of device 0, and places of each kind on each device.'}
 for name,(i,j) in EX.items():
     open(sys.argv[2]+'/'+name+'.replay','wb').write(('# '+HEAD[name]+'\n').encode()+b'\n'.join(s for s,_ in P[i:j])+b'\n')
 open(sys.argv[1]+'/stdin','wb').write(b'\n'.join(s for s,_ in P))

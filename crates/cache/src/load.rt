@@ -17,6 +17,7 @@ use blockcache::CacheState;
 use blockcache::Call;
 use blockcache::Phase;
 use blockcache::Tables;
+use layout::TABLE_KIND;
 
 impl Cache {
     pub(crate) fn page_in_indirection_table_req(self, q: Call) -> CacheOutcome
@@ -88,9 +89,9 @@ impl Cache {
     {
         let v = q.vop;
         let vloc = vop_loc(v);
-        let valid = layout::valid_indirection_table_location(self.device, vloc);
-        let yes = valid.yes;
-        if !yes {
+        let asked = layout::kind_of(self.device, vloc);
+        let valid = layout::is_kind(asked, TABLE_KIND);
+        if !valid {
             return answered(self.state, 6);
         }
         let next = loading(Phase::Loading, vloc);

@@ -17,6 +17,8 @@ use blockcache::Awaited;
 use blockcache::CacheOutcome;
 use blockcache::Call;
 use disklayout::Location;
+use layout::NODE_KIND;
+use layout::TABLE_KIND;
 use queue::Request;
 use sectortype::Entry;
 use sectortype::Table;
@@ -60,7 +62,8 @@ impl Cache {
         let kept = slot.node;
         let given = q.node;
         let known = queue::has(w, id);
-        let valid = layout::valid_node_location(self.device, loc);
+        let asked = layout::kind_of(self.device, loc);
+        let valid = layout::is_kind(asked, NODE_KIND);
         let used = held(ts, w, loc.addr);
         let same = sector::same_node(kept, given);
         let n14 = first_of(16 <= w.count, 14, 0);
@@ -68,7 +71,7 @@ impl Cache {
         let n9 = first_of(slot.present & !same, 9, n10);
         let n8 = first_of(!slot.present, 8, n9);
         let n7 = first_of(used, 7, n8);
-        let n6 = first_of(!valid.yes | (loc.len == 0), 6, n7);
+        let n6 = first_of(!valid | (loc.len == 0), 6, n7);
         first_of(known, 5, n6)
     }
 
@@ -140,14 +143,15 @@ impl Cache {
         let f = ts.frozen;
         let given = q.table;
         let p = ps.persistent;
-        let valid = layout::valid_indirection_table_location(device, loc);
+        let asked = layout::kind_of(device, loc);
+        let valid = layout::is_kind(asked, TABLE_KIND);
         let over = layout::overlap(device, loc, p);
         let same = sector::same_table(f, given);
         let complete = sector::locs_complete(f);
         let n11 = first_of(!ts.isfrozen | !complete | ps.isfrozen, 11, 0);
         let n10 = first_of(!(w.count == 0), 10, n11);
         let n9 = first_of(ts.isfrozen & !same, 9, n10);
-        first_of(!valid.yes | over.yes, 6, n9)
+        first_of(!valid | over.yes, 6, n9)
     }
 
     pub(crate) fn write_back_indirection_table_req(self, q: Call) -> CacheOutcome

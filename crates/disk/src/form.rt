@@ -1,4 +1,5 @@
 // The disk's one written form (number 1): each record in its own form and place, each queue in its form with places that 16 allows.
+ghost use mathlib.Core.Bool.{_||_, not};
 ghost use mathlib.Core.Path.{_≡_};
 ghost use Rattle.blockdisk.specs.Form.{tableRecordChecked, nodeRecordChecked, tablesChecked, nodesChecked, recordsChecked, tableRequestOk, nodeRequestOk, tableQueueForm, nodeQueueForm, queuesForm};
 use blockdisk::Checked;
@@ -6,6 +7,7 @@ use blockdisk::NodeRecord;
 use blockdisk::Queues;
 use blockdisk::Records;
 use blockdisk::TableRecord;
+use layout::TABLE_KIND;
 use queue::Request;
 use queue::Requests;
 
@@ -91,17 +93,26 @@ pub(crate) fn records_ok(device: u64, r: Records) -> Checked
     }
 }
 
-fn table_request_ok(device: u64, w: Request) -> bool
-    ensures { λ b. ⌜ b ≡ tableRequestOk device w ⌝ }
+// One place of a queue of table requests. Nothing is asked of one that is not used.
+fn table_request_ok(device: u64, used: bool, w: Request) -> bool
+    ensures { λ b. ⌜ b ≡ (not used || tableRequestOk device w) ⌝ }
 {
+    if !used {
+        return true;
+    }
     let loc = w.loc;
-    let allowed = layout::valid_indirection_table_location(device, loc);
-    (w.reference == 0) & allowed.yes
+    let asked = layout::kind_of(device, loc);
+    let allowed = layout::is_kind(asked, TABLE_KIND);
+    (w.reference == 0) & allowed
 }
 
-fn node_request_ok(device: u64, w: Request) -> bool
-    ensures { λ b. ⌜ b ≡ nodeRequestOk device w ⌝ }
+// One place of a queue of node requests, likewise.
+fn node_request_ok(device: u64, used: bool, w: Request) -> bool
+    ensures { λ b. ⌜ b ≡ (not used || nodeRequestOk device w) ⌝ }
 {
+    if !used {
+        return true;
+    }
     let loc = w.loc;
     let allowed = layout::node_place(device, loc);
     (w.reference == 0) & allowed.yes
@@ -116,8 +127,8 @@ fn table_queue_ok(device: u64, q: Requests) -> bool
     let mut i: usize = 0;
     while i < 16 {
         let w = q.at[i];
-        let p = table_request_ok(device, w);
-        good = good & (!(i < n) | p);
+        let p = table_request_ok(device, i < n, w);
+        good = good & p;
         i += 1;
     }
     form & good
@@ -132,8 +143,8 @@ fn node_queue_ok(device: u64, q: Requests) -> bool
     let mut i: usize = 0;
     while i < 16 {
         let w = q.at[i];
-        let p = node_request_ok(device, w);
-        good = good & (!(i < n) | p);
+        let p = node_request_ok(device, i < n, w);
+        good = good & p;
         i += 1;
     }
     form & good

@@ -20,6 +20,7 @@ use blockdisk::NodeRecord;
 use blockdisk::QueueOutcome;
 use blockdisk::TableRecord;
 use disklayout::Location;
+use layout::TABLE_KIND;
 use queue::Request;
 use queue::Requests;
 use sectortype::Node;
@@ -128,8 +129,9 @@ impl Disk {
         let mut s = self.state;
         let mut qs = s.queues;
         let q = qs.tablereads;
-        let allowed = layout::valid_indirection_table_location(self.device, loc);
-        let t = ask(q, id, loc, allowed.yes);
+        let asked = layout::kind_of(self.device, loc);
+        let allowed = layout::is_kind(asked, TABLE_KIND);
+        let t = ask(q, id, loc, allowed);
         let n = t.answer;
         if n != 0 {
             return DiskOutcome { answer: n, disk: s };
@@ -165,8 +167,9 @@ impl Disk {
         let mut s = self.state;
         let mut qs = s.queues;
         let q = qs.tablewrites;
-        let allowed = layout::valid_indirection_table_location(self.device, loc);
-        let t = ask(q, id, loc, allowed.yes);
+        let asked = layout::kind_of(self.device, loc);
+        let allowed = layout::is_kind(asked, TABLE_KIND);
+        let t = ask(q, id, loc, allowed);
         let n = t.answer;
         if n != 0 {
             return DiskOutcome { answer: n, disk: s };

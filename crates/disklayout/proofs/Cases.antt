@@ -1,5 +1,5 @@
--- The starred cases of document 01's "Device 0 at its edges", and JournalPosAdd at the edge of 64 bits: shown from the definitions
--- by one statement over one list. Then 01's line for each device, as `placemap` prints it. Assumes nothing.
+-- The starred cases of document 01's "Device 0 at its edges", JournalPosAdd at the edge of 64 bits, and what a place is: shown from the
+-- definitions by one statement over one list. Then 01's line for each device, as `placemap` prints it. Assumes nothing.
 use mathlib.Core.Path.{_≡_, refl}
 use mathlib.Core.Bool.{Bool, true, false}
 use mathlib.Core.List.{List, [], _∷_, map}
@@ -8,17 +8,18 @@ use Prim.Native.Nat.{ℕ, _^_}
 use lib.Dec.{ltb}
 use Rattle.disklayout.specs.declared.Device.{Device}
 use Rattle.disklayout.specs.declared.Location.{Location}
-use Rattle.disklayout.specs.Calls.{numberIf}
+use Rattle.disklayout.specs.Calls.{numberIf, placeKind}
 use Rattle.disklayout.specs.Device.{deviceOf, devices}
 use Rattle.disklayout.specs.Blocks.{FirstNodeAddr, NodeBlocksEnd}
 use Rattle.disklayout.specs.Layout.{IndirectionTable1Addr, IndirectionTable2Addr, JournalEndAddr, JournalStartAddr, ValidIndirectionTableAddr, ValidIndirectionTableLocation, ValidNodeAddr}
-use Rattle.disklayout.specs.Layout.{ValidNodeLocation, ValidJournalLocation, overlap}
+use Rattle.disklayout.specs.Layout.{ValidNodeLocation, ValidJournalLocation, ValidSuperblock1Location, ValidSuperblock2Location, overlap}
+use Rattle.disklayout.specs.Kinds.{kindOf, kindNumber}
 use Rattle.disklayout.specs.Journal.{JournalFrontLocation, JournalBackLocation, JournalPosAdd}
 
 abbrev pub loc : ℕ → ℕ → Location
 loc a n = record { addr = a; len = n }
 
--- a question on device 0
+-- a question, on device 0 where it names none
 pub data Case : Type 0 where
   table-place : Location → Case
   node-place : Location → Case
@@ -27,6 +28,7 @@ pub data Case : Type 0 where
   front : ℕ → ℕ → Case
   back : ℕ → ℕ → Case
   pos-add : ℕ → ℕ → Case
+  kind-on : ℕ → Location → Case
 
 pub data Answer : Type 0 where
   says : Bool → Answer
@@ -41,6 +43,7 @@ ask (overlaps l k) = says (overlap l k)
 ask (front s n) = at (JournalFrontLocation (deviceOf 0) s n)
 ask (back s n) = at (JournalBackLocation (deviceOf 0) s n)
 ask (pos-add s n) = let r = numberIf 0 (ltb (JournalPosAdd (deviceOf 0) s n) (2 ^ 64)) (JournalPosAdd (deviceOf 0) s n) in returns (r .answer) (r .value)
+ask (kind-on d l) = let r = placeKind d (kindOf (deviceOf d) l) in returns (r .answer) (kindNumber (r .kind))
 
 infix 40 _gives_
 pub data Edge : Type 0 where
@@ -73,10 +76,48 @@ edges =
     -- beside the starred ones: a sum past 64 bits whose result fits, and one whose result doesn't
     (pos-add 18446744073709551615 16 gives returns 0 18446744073709551615) ∷
     (pos-add 18446744073709551615 17 gives returns 1 0) ∷
+    -- what the starred places are, by document 02's numbers; the superblocks, and places about them
+    (kind-on 0 (loc 73728 1) gives returns 0 4) ∷
+    (kind-on 0 (loc 73728 65536) gives returns 0 4) ∷
+    (kind-on 0 (loc 73728 0) gives returns 0 0) ∷
+    (kind-on 0 (loc 73728 65537) gives returns 0 0) ∷
+    (kind-on 0 (loc 73729 1) gives returns 0 0) ∷
+    (kind-on 0 (loc 262144 0) gives returns 0 5) ∷
+    (kind-on 0 (loc 262144 65536) gives returns 0 5) ∷
+    (kind-on 0 (loc 262144 65537) gives returns 0 0) ∷
+    (kind-on 0 (loc 196608 1) gives returns 0 0) ∷
+    (kind-on 0 (loc 69632 4096) gives returns 0 3) ∷
+    (kind-on 0 (loc 8192 0) gives returns 0 3) ∷
+    (kind-on 0 (loc 0 4096) gives returns 0 1) ∷
+    (kind-on 0 (loc 4096 4096) gives returns 0 2) ∷
+    (kind-on 0 (loc 0 4095) gives returns 0 0) ∷
+    (kind-on 0 (loc 0 8192) gives returns 0 0) ∷
+    (kind-on 0 (loc 4096 0) gives returns 0 0) ∷
+    (kind-on 0 (loc 0 0) gives returns 0 0) ∷
+    -- a place of each kind on the other devices, and on device 3, which is not made
+    (kind-on 1 (loc 0 4096) gives returns 0 1) ∷
+    (kind-on 1 (loc 4096 4096) gives returns 0 2) ∷
+    (kind-on 1 (loc 266240 4096) gives returns 0 3) ∷
+    (kind-on 1 (loc 532480 4096) gives returns 0 4) ∷
+    (kind-on 1 (loc 917504 4096) gives returns 0 5) ∷
+    (kind-on 1 (loc 913408 4096) gives returns 0 0) ∷
+    (kind-on 2 (loc 0 4096) gives returns 0 1) ∷
+    (kind-on 2 (loc 4096 4096) gives returns 0 2) ∷
+    (kind-on 2 (loc 1052672 4096) gives returns 0 3) ∷
+    (kind-on 2 (loc 2105344 4096) gives returns 0 4) ∷
+    (kind-on 2 (loc 4194304 4096) gives returns 0 5) ∷
+    (kind-on 2 (loc 4190208 4096) gives returns 0 0) ∷
+    (kind-on 3 (loc 0 4096) gives returns 1 0) ∷
+    (kind-on 3 (loc 262144 4096) gives returns 1 0) ∷
     []
 
+-- one name for the definitions that the list is about
+definitions : ℕ
+unfolding ValidIndirectionTableAddr ValidIndirectionTableLocation ValidNodeAddr ValidNodeLocation ValidJournalLocation ValidSuperblock1Location ValidSuperblock2Location overlap kindOf kindNumber
+definitions = 0
+
 pub edges-shown : map asked edges ≡ map expected edges
-unfolding asked expected edges ask deviceOf devices ValidIndirectionTableAddr ValidIndirectionTableLocation ValidNodeAddr ValidNodeLocation ValidJournalLocation overlap
+unfolding asked expected edges ask deviceOf devices definitions
 edges-shown = refl
 
 -- 01's line for each device: journal start and end, both table addresses, first node address, end of the node blocks

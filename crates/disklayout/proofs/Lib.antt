@@ -4,6 +4,7 @@ pub mod Compare
 pub mod Devices
 pub mod Facts
 pub mod NodeBlocks
+pub mod PlaceKinds
 pub mod Places
 pub mod Ranges
 pub mod Results

@@ -7,8 +7,10 @@ use Prim.Native.Nat.{ℕ, _≤_}
 use borrow.Author.Tests.{leb-true, le-leb}
 use Rattle.base.specs.Maps.{isSome}
 use Rattle.base.proofs.Tests.{and-iff}
+use Rattle.disklayout.specs.declared.Kind.{Kind}
+use Rattle.disklayout.specs.declared.Kind.the-variants.{None}
 use Rattle.disklayout.specs.declared.Location.{Location}
-use Rattle.disklayout.specs.Calls.{number, flag, place, numberOption, orZero, zeroLoc}
+use Rattle.disklayout.specs.Calls.{number, flag, place, placeKind, numberOption, orZero, zeroLoc}
 use Rattle.disklayout.specs.Device.{made}
 
 pub made-iff : (d : ℕ) → (made d ≡ true) ↔ (d ≤ 2)
@@ -29,6 +31,9 @@ module _ (d : ℕ) where
     pub place-made : (l : Location) → place d l ≡ record { answer = 0; loc = l }
     place-made l = rw m
 
+    pub placeKind-made : (k : Kind) → placeKind d k ≡ record { answer = 0; kind = k }
+    placeKind-made k = rw m
+
     pub numberOption-made : (o : Option ℕ) → numberOption d o ≡ record { answer = 0; exists = isSome o; value = orZero o }
     numberOption-made o = rw m
 
@@ -41,6 +46,9 @@ module _ (d : ℕ) where
 
     pub place-refused : (l : Location) → place d l ≡ record { answer = 1; loc = zeroLoc }
     place-refused l = rw m
+
+    pub placeKind-refused : (k : Kind) → placeKind d k ≡ record { answer = 1; kind = None }
+    placeKind-refused k = rw m
 
     pub numberOption-refused : (o : Option ℕ) → numberOption d o ≡ record { answer = 1; exists = false; value = 0 }
     numberOption-refused o = rw m

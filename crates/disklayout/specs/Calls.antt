@@ -5,10 +5,13 @@ use mathlib.Core.Option.{Option, some, none}
 use Prim.Native.Nat.{ℕ}
 use Rattle.base.specs.Maps.{isSome}
 use Rattle.disklayout.specs.declared.Flag.{Flag}
+use Rattle.disklayout.specs.declared.Kind.{Kind}
+use Rattle.disklayout.specs.declared.Kind.the-variants as kind
 use Rattle.disklayout.specs.declared.Location.{Location}
 use Rattle.disklayout.specs.declared.Number.{Number}
 use Rattle.disklayout.specs.declared.NumberOption.{NumberOption}
 use Rattle.disklayout.specs.declared.Place.{Place}
+use Rattle.disklayout.specs.declared.PlaceKind.{PlaceKind}
 use Rattle.disklayout.specs.declared.PlaceOption.{PlaceOption}
 use Rattle.disklayout.specs.Device.{made}
 
@@ -41,6 +44,9 @@ placeOptionWhen ok o = record { answer = cond ok 0 1; exists = ok && isSome o; l
 abbrev pub numberOptionWhen : Bool → Option ℕ → NumberOption
 numberOptionWhen ok o = record { answer = cond ok 0 1; exists = ok && isSome o; value = cond ok (orZero o) 0 }
 
+abbrev pub placeKindWhen : Bool → Kind → PlaceKind
+placeKindWhen ok k = record { answer = cond ok 0 1; kind = cond ok k kind.None }
+
 -- CALLS THAT ASK ONLY FOR A MADE DEVICE
 
 abbrev pub number : ℕ → ℕ → Number
@@ -51,6 +57,9 @@ flag d b = flagWhen (made d) b
 
 abbrev pub place : ℕ → Location → Place
 place d l = placeWhen (made d) l
+
+abbrev pub placeKind : ℕ → Kind → PlaceKind
+placeKind d k = placeKindWhen (made d) k
 
 abbrev pub numberOption : ℕ → Option ℕ → NumberOption
 numberOption d o = numberOptionWhen (made d) o

@@ -3,4 +3,5 @@ pub mod Blocks
 pub mod Calls
 pub mod Device
 pub mod Journal
+pub mod Kinds
 pub mod Layout

@@ -15,6 +15,16 @@ pub struct Device {
     pub first: u64,
 }
 
+// What a place is (document 02, Q-5): upstream's five validity predicates as one answer. On a good row at most one of them holds.
+pub enum Kind {
+    Superblock1,
+    Superblock2,
+    Journal,
+    Table,
+    Node,
+    None,
+}
+
 // What a call returns: its answer, 0 or 1, beside its result. Where the answer is 1 the rest is zeros.
 pub struct Number {
     pub answer: u64,
@@ -42,4 +52,10 @@ pub struct NumberOption {
     pub answer: u64,
     pub exists: bool,
     pub value: u64,
+}
+
+// Where the answer is 1 the kind is none.
+pub struct PlaceKind {
+    pub answer: u64,
+    pub kind: Kind,
 }

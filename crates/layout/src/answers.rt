@@ -1,10 +1,12 @@
 // The forms of a result: 0 with the result where ok holds, else 1 with zeros.
 ghost use mathlib.Core.Path.{_≡_};
-ghost use Rattle.disklayout.specs.Calls.{numberWhen, flagWhen, placeWhen};
+ghost use Rattle.disklayout.specs.Calls.{numberWhen, flagWhen, placeWhen, placeKindWhen};
 use disklayout::Flag;
+use disklayout::Kind;
 use disklayout::Location;
 use disklayout::Number;
 use disklayout::Place;
+use disklayout::PlaceKind;
 
 pub(crate) const NOWHERE: Location = Location { addr: 0, len: 0 };
 
@@ -43,6 +45,19 @@ pub(crate) fn place_when(ok: bool, loc: Location) -> Place
         Place {
             answer: 1,
             loc: NOWHERE,
+        }
+    }
+}
+
+pub(crate) fn kind_when(ok: bool, kind: Kind) -> PlaceKind
+    ensures { λ r. ⌜ r ≡ placeKindWhen ok kind ⌝ }
+{
+    if ok {
+        PlaceKind { answer: 0, kind }
+    } else {
+        PlaceKind {
+            answer: 1,
+            kind: Kind::None,
         }
     }
 }

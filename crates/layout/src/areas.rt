@@ -1,11 +1,9 @@
-// The areas and the kinds of place, over any good row.
+// Where the areas lie and which addresses are theirs, over any good row.
 ghost use mathlib.Core.Path.{_≡_};
 ghost use Rattle.disklayout.specs.Device.{Good};
 ghost use Rattle.disklayout.specs.Layout.{IndirectionTable1Addr, IndirectionTable2Addr, otherIndirectionTableAddr};
-ghost use Rattle.disklayout.specs.Layout.{ValidIndirectionTableAddr, ValidNodeAddr, ValidJournalLocation};
-ghost use Rattle.disklayout.specs.Layout.{ValidIndirectionTableLocation, ValidNodeLocation, ValidLocation, sameLoc};
+ghost use Rattle.disklayout.specs.Layout.{ValidIndirectionTableAddr, ValidNodeAddr, sameLoc};
 ghost use Rattle.disklayout.specs.Blocks.{FirstNodeAddr};
-use crate::sums::sum_within;
 use disklayout::Device;
 use disklayout::Location;
 
@@ -69,48 +67,8 @@ pub(crate) fn is_node_addr(w: Device, addr: u64) -> bool
     (addr % w.block == 0) & (first <= addr)
 }
 
-// Upstream's index test, (addr - 2*4096) / 4096 < blocks, is addr < end; and its test that the sum fits 64 bits follows from the
-// last one, as the end does.
-pub(crate) fn is_journal(w: Device, loc: Location) -> bool
-    requires { ⌜ Good w ⌝ }
-    ensures { λ r. ⌜ r ≡ ValidJournalLocation w loc ⌝ }
-{
-    let end = table1(w);
-    let inside = sum_within(loc.addr, loc.len, end, 0);
-    let aligned = (loc.addr % PAGE == 0) & (loc.len % PAGE == 0);
-    aligned & (JOURNAL_START <= loc.addr) & (loc.addr < end) & inside
-}
-
-pub(crate) fn is_table(w: Device, loc: Location) -> bool
-    requires { ⌜ Good w ⌝ }
-    ensures { λ r. ⌜ r ≡ ValidIndirectionTableLocation w loc ⌝ }
-{
-    let there = is_table_addr(w, loc.addr);
-    there & (0 < loc.len) & (loc.len <= w.table)
-}
-
-pub(crate) fn is_node(w: Device, loc: Location) -> bool
-    requires { ⌜ Good w ⌝ }
-    ensures { λ r. ⌜ r ≡ ValidNodeLocation w loc ⌝ }
-{
-    let there = is_node_addr(w, loc.addr);
-    there & (loc.len <= w.block)
-}
-
 pub fn same_loc(a: Location, b: Location) -> bool
     ensures { λ r. ⌜ r ≡ sameLoc a b ⌝ }
 {
     (a.addr == b.addr) & (a.len == b.len)
-}
-
-pub(crate) fn is_place(w: Device, loc: Location) -> bool
-    requires { ⌜ Good w ⌝ }
-    ensures { λ r. ⌜ r ≡ ValidLocation w loc ⌝ }
-{
-    let one = same_loc(loc, SUPERBLOCK1);
-    let two = same_loc(loc, SUPERBLOCK2);
-    let journal = is_journal(w, loc);
-    let table = is_table(w, loc);
-    let node = is_node(w, loc);
-    one | two | journal | table | node
 }

@@ -10,11 +10,12 @@ ghost use Rattle.disklayout.specs.Blocks.{TableAreaAddr, TableAreaOf, NodePlace
 use crate::answers::flag_when;
 use crate::answers::number_when;
 use crate::areas::first_node;
-use crate::areas::is_node;
 use crate::areas::is_node_addr;
-use crate::areas::is_table;
 use crate::areas::table1;
 use crate::areas::table2;
+use crate::kinds::NODE_KIND;
+use crate::kinds::TABLE_KIND;
+use crate::kinds::number_in;
 use crate::rows::row;
 use disklayout::Device;
 use disklayout::Flag;
@@ -96,8 +97,8 @@ fn is_node_place_in(w: Device, k: u64, loc: Location) -> bool
 {
     if k < BLOCKS {
         let addr = block_addr(w, k);
-        let valid = is_node(w, loc);
-        return (loc.addr == addr) & valid & (loc.len != 0);
+        let kind = number_in(w, loc);
+        return (loc.addr == addr) & (kind == NODE_KIND) & (loc.len != 0);
     }
     false
 }
@@ -108,8 +109,8 @@ fn is_table_place_in(w: Device, k: u64, loc: Location) -> bool
 {
     if k < 2 {
         let addr = area_addr(w, k);
-        let valid = is_table(w, loc);
-        return (loc.addr == addr) & valid;
+        let kind = number_in(w, loc);
+        return (loc.addr == addr) & (kind == TABLE_KIND);
     }
     false
 }
@@ -118,9 +119,12 @@ fn is_node_place(w: Device, loc: Location) -> bool
     requires { ⌜ Good w ⌝ }
     ensures { λ r. ⌜ r ≡ NodePlace w loc ⌝ }
 {
+    let kind = number_in(w, loc);
+    if kind != NODE_KIND {
+        return false;
+    }
     let block = block_of(w, loc.addr);
-    let valid = is_node(w, loc);
-    block.exists & valid & (loc.len != 0)
+    block.exists & (loc.len != 0)
 }
 
 pub fn first_node_addr(device: u64) -> Number

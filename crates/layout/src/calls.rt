@@ -1,13 +1,10 @@
-// The calls on addresses, kinds of place, and places against each other.
+// The calls on addresses, and on places against each other.
 ghost use mathlib.Core.Path.{_≡_};
 ghost use Rattle.disklayout.specs.Calls.{number, flag, place};
 ghost use Rattle.disklayout.specs.Device.{deviceOf};
 ghost use Rattle.disklayout.specs.Layout.{NumJournalBlocks, IndirectionTableMaxLength, NodeBlockSize, MinNodeBlockIndex};
 ghost use Rattle.disklayout.specs.Layout.{IndirectionTable1Addr, IndirectionTable2Addr, JournalStartAddr, JournalEndAddr};
-ghost use Rattle.disklayout.specs.Layout.{ValidIndirectionTableAddr, ValidNodeAddr, ValidJournalLocation};
-ghost use Rattle.disklayout.specs.Layout.{ValidIndirectionTableLocation, ValidNodeLocation, ValidLocation};
-ghost use Rattle.disklayout.specs.Layout.{Superblock1Location, Superblock2Location};
-ghost use Rattle.disklayout.specs.Layout.{ValidSuperblock1Location, ValidSuperblock2Location, ValidSuperblockLocation};
+ghost use Rattle.disklayout.specs.Layout.{ValidIndirectionTableAddr, ValidNodeAddr, Superblock1Location, Superblock2Location};
 ghost use Rattle.disklayout.specs.Layout.{LocationSub, otherIndirectionTableAddr};
 ghost use Rattle.disklayout.specs.Layout.{overlap as Layout·overlap};
 use crate::answers::flag_when;
@@ -104,30 +101,6 @@ pub fn valid_node_addr(device: u64, addr: u64) -> Flag
     flag_when(device <= 2, yes)
 }
 
-pub fn valid_journal_location(device: u64, loc: Location) -> Flag
-    ensures { λ r. ⌜ r ≡ flag device (ValidJournalLocation (deviceOf device) loc) ⌝ }
-{
-    let w = row(device);
-    let yes = is_journal(w, loc);
-    flag_when(device <= 2, yes)
-}
-
-pub fn valid_indirection_table_location(device: u64, loc: Location) -> Flag
-    ensures { λ r. ⌜ r ≡ flag device (ValidIndirectionTableLocation (deviceOf device) loc) ⌝ }
-{
-    let w = row(device);
-    let yes = is_table(w, loc);
-    flag_when(device <= 2, yes)
-}
-
-pub fn valid_node_location(device: u64, loc: Location) -> Flag
-    ensures { λ r. ⌜ r ≡ flag device (ValidNodeLocation (deviceOf device) loc) ⌝ }
-{
-    let w = row(device);
-    let yes = is_node(w, loc);
-    flag_when(device <= 2, yes)
-}
-
 pub fn superblock1_location(device: u64) -> Place
     ensures { λ r. ⌜ r ≡ place device Superblock1Location ⌝ }
 {
@@ -138,37 +111,6 @@ pub fn superblock2_location(device: u64) -> Place
     ensures { λ r. ⌜ r ≡ place device Superblock2Location ⌝ }
 {
     place_when(device <= 2, SUPERBLOCK2)
-}
-
-pub fn valid_superblock1_location(device: u64, loc: Location) -> Flag
-    ensures { λ r. ⌜ r ≡ flag device (ValidSuperblock1Location loc) ⌝ }
-{
-    let yes = same_loc(loc, SUPERBLOCK1);
-    flag_when(device <= 2, yes)
-}
-
-pub fn valid_superblock2_location(device: u64, loc: Location) -> Flag
-    ensures { λ r. ⌜ r ≡ flag device (ValidSuperblock2Location loc) ⌝ }
-{
-    let yes = same_loc(loc, SUPERBLOCK2);
-    flag_when(device <= 2, yes)
-}
-
-pub fn valid_superblock_location(device: u64, loc: Location) -> Flag
-    ensures { λ r. ⌜ r ≡ flag device (ValidSuperblockLocation loc) ⌝ }
-{
-    let one = same_loc(loc, SUPERBLOCK1);
-    let two = same_loc(loc, SUPERBLOCK2);
-    let yes = one | two;
-    flag_when(device <= 2, yes)
-}
-
-pub fn valid_location(device: u64, loc: Location) -> Flag
-    ensures { λ r. ⌜ r ≡ flag device (ValidLocation (deviceOf device) loc) ⌝ }
-{
-    let w = row(device);
-    let yes = is_place(w, loc);
-    flag_when(device <= 2, yes)
 }
 
 pub fn overlap(device: u64, a: Location, b: Location) -> Flag

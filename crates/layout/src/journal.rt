@@ -12,8 +12,9 @@ ghost use Rattle.disklayout.specs.Journal.{JournalFrontLocation, JournalFrontRe
 use crate::answers::NOWHERE;
 use crate::areas::JOURNAL_START;
 use crate::areas::PAGE;
-use crate::areas::is_journal;
 use crate::areas::table1;
+use crate::kinds::JOURNAL_KIND;
+use crate::kinds::number_in;
 use crate::rows::row;
 use crate::sums::lies_in;
 use crate::sums::lies_outside;
@@ -287,8 +288,8 @@ pub fn journal_block_idx(device: u64, loc: Location) -> Number
     ensures { λ r. ⌜ r ≡ numberIf device (JournalBlockIdxRequires (deviceOf device) loc) (JournalBlockIdx (deviceOf device) loc) ⌝ }
 {
     let w = row(device);
-    let valid = is_journal(w, loc);
-    let ok = (device <= 2) & valid;
+    let kind = number_in(w, loc);
+    let ok = (device <= 2) & (kind == JOURNAL_KIND);
     if ok {
         let value = block_idx(w, loc);
         return Number { answer: 0, value };

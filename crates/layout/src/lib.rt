@@ -1,12 +1,14 @@
 // Upstream's DiskLayout: where on a device the superblocks, the journal, the two table areas and the node blocks lie, and which
-// places are valid. Each function and predicate of the module is a call that names its device; it returns 0 with its result, or 1
-// with zeros: a device above 2, a failed upstream `requires`, a result past 64 bits. Equality of two locations names no device. No call has a
-// `requires`.
+// places are valid. Each function and predicate of the module is a call that names its device, but for the five predicates of a place's
+// kind, which are one call, `kind_of`. A call returns 0 with its result, or 1 with zeros (none for a kind): a device above 2, a failed
+// upstream `requires`, a result past 64 bits. Three ask about nothing on a device and name none: equality of two locations, the number of a
+// kind, and whether an answer is the kind of a number. No call has a `requires`.
 mod answers;
 mod areas;
 mod blocks;
 mod calls;
 mod journal;
+mod kinds;
 mod rows;
 mod sums;
 
@@ -33,14 +35,7 @@ pub use calls::overlap;
 pub use calls::superblock1_location;
 pub use calls::superblock2_location;
 pub use calls::valid_indirection_table_addr;
-pub use calls::valid_indirection_table_location;
-pub use calls::valid_journal_location;
-pub use calls::valid_location;
 pub use calls::valid_node_addr;
-pub use calls::valid_node_location;
-pub use calls::valid_superblock_location;
-pub use calls::valid_superblock1_location;
-pub use calls::valid_superblock2_location;
 pub use journal::journal_back_location;
 pub use journal::journal_block_idx;
 pub use journal::journal_front_location;
@@ -49,3 +44,10 @@ pub use journal::journal_pos_add;
 pub use journal::journal_range_location;
 pub use journal::loc_contained_in_circular_journal_range;
 pub use journal::loc_disjoint_from_circular_journal_range;
+pub use kinds::NODE_KIND;
+pub use kinds::TABLE_KIND;
+pub use kinds::is_kind;
+pub use kinds::kind_number;
+pub use kinds::kind_of;
+pub use kinds::valid_location;
+pub use kinds::valid_superblock_location;

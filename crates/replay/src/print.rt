@@ -1,6 +1,8 @@
 // What is printed.
 use blocksystem::Counts;
+use disklayout::Kind;
 use disklayout::Location;
+use disklayout::PlaceKind;
 use libc::STDOUT_FILENO;
 use sectortype::Node;
 use sectortype::Succs;
@@ -43,6 +45,27 @@ pub fn error(line: u64) {
 pub fn answer(line: u64, answer: u64) {
     word(b"line=", line);
     word(b" answer=", answer);
+    text(b"\n");
+}
+
+fn kind(k: Kind) {
+    match k {
+        Kind::Superblock1 => text(b"superblock1"),
+        Kind::Superblock2 => text(b"superblock2"),
+        Kind::Journal => text(b"journal"),
+        Kind::Table => text(b"table"),
+        Kind::Node => text(b"node"),
+        Kind::None => text(b"none"),
+    }
+}
+
+// What a place is.
+pub fn place(line: u64, p: PlaceKind) {
+    let k = p.kind;
+    word(b"line=", line);
+    word(b" answer=", p.answer);
+    text(b" kind=");
+    kind(k);
     text(b"\n");
 }
 

@@ -8,6 +8,7 @@ use blockdisk::Records;
 use blocksystem::Named;
 use blocksystem::Outcome;
 use blocksystem::Pictures;
+use disklayout::Location;
 use system::CRASH;
 use system::READ;
 use system::Store;
@@ -116,6 +117,12 @@ impl Session {
         self
     }
 
+    // What a place is: no call on the store, so it wants no sequence and is not counted.
+    fn place(self, device: u64, loc: Location) -> Session {
+        print::place(self.tally.lines, layout::kind_of(device, loc));
+        self
+    }
+
     // A refused `format` leaves the sequence before it as it was.
     fn format(self, device: u64, contents: u64) -> Session {
         let o = Store::format(device, contents);
@@ -194,6 +201,7 @@ impl Session {
                 self
             }
             Line::Format(d, c) => self.format(d, c),
+            Line::Place(d, l) => self.place(d, l),
             Line::Skip => self,
             Line::Bad => self.error(),
         }
@@ -208,6 +216,7 @@ impl Session {
         match kind {
             Line::Skip => self,
             Line::Format(d, c) => self.format(d, c),
+            Line::Place(d, l) => self.place(d, l),
             Line::Step(_) => self.started_line(kind, s),
             Line::Audit => self.started_line(kind, s),
             Line::Show => self.started_line(kind, s),

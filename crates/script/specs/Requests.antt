@@ -11,6 +11,7 @@ use Rattle.blockdisk.specs.declared.DiskOp.the-variants.{NoDiskOp}
 use Rattle.blockcache.specs.declared.VersionOp.{VersionOp}
 use Rattle.blockcache.specs.declared.VersionOp.the-variants.{StatesInternalOp}
 use Rattle.words.specs.Bytes.{sameOf}
+use Rattle.words.specs.declared.text.Keys.the-variants as keys
 use Rattle.words.specs.Cut.{wordOf, fitOf, numberWord, placeWord}
 use Rattle.words.specs.Parsed.{nodeOf, tableReadOf}
 use Rattle.words.specs.declared.digits.Digits.{Digits}
@@ -74,7 +75,7 @@ tableWord r = cond (eqb (length (wordOf r (116 ∷ 97 ∷ 98 ∷ 108 ∷ 101 ∷
 
 -- table1, table2 and block (10 to 12) are a crash's alone
 abbrev pub stepWordsFit : List ℕ → Bool → Bool
-stepWordsFit r crash = cond crash (fitOf r 1 12) (fitOf r 1 9)
+stepWordsFit r crash = cond crash (fitOf r keys.Crash) (fitOf r keys.Step)
 
 abbrev pub noOperations : Operations
 noOperations = record { ok = false; id = 0; vop = StatesInternalOp; dop = NoDiskOp }

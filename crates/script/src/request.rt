@@ -18,9 +18,7 @@ use words::digits::number_word;
 use words::digits::place_word;
 use words::lists::node;
 use words::tables::table;
-use words::text::CRASH_LAST;
-use words::text::STEP_FIRST;
-use words::text::STEP_LAST;
+use words::text::Keys;
 use words::text::after;
 use words::text::same;
 use words::text::word;
@@ -189,9 +187,9 @@ fn step_words_fit(rest: &[u8], crash: bool) -> bool
     ensures { λ r. ⌜ r ≡ stepWordsFit (now (rest .entry)) crash ⌝ }
 {
     if crash {
-        return words_fit(rest, STEP_FIRST, CRASH_LAST);
+        return words_fit(rest, Keys::Crash);
     }
-    words_fit(rest, STEP_FIRST, STEP_LAST)
+    words_fit(rest, Keys::Step)
 }
 
 fn no_operations() -> Operations

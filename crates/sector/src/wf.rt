@@ -2,6 +2,7 @@
 ghost use mathlib.Core.Path.{_≡_};
 ghost use Rattle.sectortype.specs.Graph.{locOk, LocsValid, LocsInGraph, LocsComplete, WFIndirectionTable, WFCompleteIndirectionTable};
 use crate::graph::graph_closed;
+use layout::NODE_KIND;
 use sectortype::Entry;
 use sectortype::Table;
 
@@ -9,8 +10,9 @@ fn loc_ok(device: u64, e: Entry) -> bool
     ensures { λ b. ⌜ b ≡ locOk device e ⌝ }
 {
     let loc = e.loc;
-    let valid = layout::valid_node_location(device, loc);
-    !e.located | valid.yes
+    let asked = layout::kind_of(device, loc);
+    let valid = layout::is_kind(asked, NODE_KIND);
+    !e.located | valid
 }
 
 // Every location is a ValidNodeLocation.

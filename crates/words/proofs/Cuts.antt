@@ -4,13 +4,14 @@ use mathlib.Core.Bool.{Bool, true, false, _&&_, not}
 use mathlib.Core.List.{List, [], _∷_}
 use mathlib.Core.Path.{_≡_, refl, sym, ap, _∙_}
 use native.Mathlib.Omega.{arith}
-use lib.Dec.{leb, eqb}
+use lib.Dec.{eqb}
 use lib.ListN.{length, getD, set, take, drop, length-drop, drop-of-length-le}
 use lib.Seq.{drop-drop, take-all, take-nil}
 use borrow.Author.Tests.{eq-eqb, ne-eqb, eqb-true, eqb-false}
 use Rattle.base.proofs.Scan.{first-le}
 use Rattle.base.proofs.Tests.{split}
-use Rattle.words.specs.Bytes.{findOf, startsOf, keyOf}
+use Rattle.words.specs.declared.text.Keys.{Keys}
+use Rattle.words.specs.Bytes.{findOf, startsOf, keyOf, keysOf}
 use Rattle.words.specs.Cut.{wordsFrom, wordsOf, firstWith, wordOf, fitFrom, piecesFrom, piecesOf, foldFrom}
 
 pub find-le : (s : List ℕ) (b : ℕ) → findOf s b ≤ length s
@@ -64,20 +65,18 @@ word-miss r key at b e h t = rw (words-turn r at b, ← h, t) at e
 pub word-none : (r key : List ℕ) (at : ℕ) → length r ≤ at → firstWith key (wordsOf (drop at r)) ≡ wordOf r key → [] ≡ wordOf r key
 word-none r key at b e = rw (words-end r at b) at e
 
-regroup : (a b c d e : Bool) → ((((a && b) && c) && d) && e) ≡ (a && ((b && (c && d)) && e))
-regroup true true c d e = refl
-regroup true false c d e = refl
-regroup false b c d e = refl
+regroup : (a b c d : Bool) → (((a && b) && c) && d) ≡ (a && ((b && c) && d))
+regroup true b c d = refl
+regroup false b c d = refl
 
-pub fit-turn : (r : List ℕ) (f l at k : ℕ) (seen : List Bool) (good : Bool) {x : Bool} → at < length r → k ≡ keyOf (take (findOf (drop (at + 1) r) 32) (drop (at + 1) r)) →
-    (good && fitFrom seen f l (wordsOf (drop at r))) ≡ x →
-    ((((good && leb f k) && leb k l) && not (getD seen k false && not (eqb k 12))) && fitFrom (set seen k true) f l (wordsOf (drop (at + 1 + findOf (drop (at + 1) r) 32) r))) ≡ x
-fit-turn r f l at k seen good b e h =
-    regroup good (leb f k) (leb k l) _ _ ∙ (rw (words-turn r at b, ← e) at h)
+pub fit-turn : (r : List ℕ) (ks : Keys) (at k : ℕ) (seen : List Bool) (good : Bool) {fits x : Bool} → at < length r →
+    k ≡ keyOf (take (findOf (drop (at + 1) r) 32) (drop (at + 1) r)) → fits ≡ keysOf ks k → (good && fitFrom seen ks (wordsOf (drop at r))) ≡ x →
+    (((good && fits) && not (getD seen k false && not (eqb k 12))) && fitFrom (set seen k true) ks (wordsOf (drop (at + 1 + findOf (drop (at + 1) r) 32) r))) ≡ x
+fit-turn r ks at k seen good {fits} b e f h = regroup good fits _ _ ∙ (rw (words-turn r at b, ← e, ← f) at h)
 
-pub fit-end : (r : List ℕ) (f l at : ℕ) (seen : List Bool) (good : Bool) {x : Bool} → length r ≤ at → (good && fitFrom seen f l (wordsOf (drop at r))) ≡ x → good ≡ x
-fit-end r f l at seen true b h = rw (words-end r at b) at h
-fit-end r f l at seen false b h = h
+pub fit-end : (r : List ℕ) (ks : Keys) (at : ℕ) (seen : List Bool) (good : Bool) {x : Bool} → length r ≤ at → (good && fitFrom seen ks (wordsOf (drop at r))) ≡ x → good ≡ x
+fit-end r ks at seen true b h = rw (words-end r at b) at h
+fit-end r ks at seen false b h = h
 
 -- PIECES
 

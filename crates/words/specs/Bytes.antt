@@ -1,10 +1,12 @@
 -- Bytes: where one first stands, whether a list begins with another, and which key a word has.
 use Prim.Native.Nat.{ℕ}
-use mathlib.Core.Bool.{Bool, _&&_, cond}
+use mathlib.Core.Bool.{Bool, _&&_, _||_, cond}
 use mathlib.Core.List.{List, [], _∷_}
 use lib.Dec.{leb, eqb}
 use lib.ListN.{length, getD}
 use Rattle.base.specs.Scan.{allBelow, firstBelow}
+use Rattle.words.specs.declared.text.Keys.{Keys}
+use Rattle.words.specs.declared.text.Keys.the-variants.{Step, Crash, Format, Place}
 
 -- where b first stands in s; the length of s where it does not
 unfoldable pub findOf : List ℕ → ℕ → ℕ
@@ -40,3 +42,10 @@ keyOf w =
     (cond (startsOf w (110 ∷ 111 ∷ 100 ∷ 101 ∷ 61 ∷ [])) 8
     (cond (startsOf w (116 ∷ 97 ∷ 98 ∷ 108 ∷ 101 ∷ 61 ∷ [])) 9
     (rareKeyOf w)))))))))
+
+-- the keys that a line may have: any step's, a crash's, those of format (device=, contents=) and of place (loc=, device=)
+unfoldable pub keysOf : Keys → ℕ → Bool
+keysOf Step k = leb 1 k && leb k 9
+keysOf Crash k = leb 1 k && leb k 12
+keysOf Format k = leb 13 k && leb k 14
+keysOf Place k = eqb k 7 || eqb k 13

@@ -2,13 +2,14 @@
 use Prim.Native.Nat.{ℕ, zero, suc, _+_}
 use mathlib.Core.Bool.{Bool, true, false, _&&_, not, cond}
 use mathlib.Core.List.{List, [], _∷_}
-use lib.Dec.{leb, eqb}
+use lib.Dec.{eqb}
 use lib.ListN.{length, getD, set, take, drop, replicate}
 use Rattle.words.specs.declared.digits.Digits.{Digits}
 use Rattle.words.specs.declared.digits.Digits.the-variants.{Value}
 use Rattle.words.specs.declared.digits.Place.{Place}
 use Rattle.words.specs.declared.digits.Place.the-variants.{At}
-use Rattle.words.specs.Bytes.{findOf, startsOf, keyOf}
+use Rattle.words.specs.declared.text.Keys.{Keys}
+use Rattle.words.specs.Bytes.{findOf, startsOf, keyOf, keysOf}
 use Rattle.words.specs.Numbers.{numberOf, locationOf}
 
 -- what follows a line's first word: each word of it stands behind one space (byte 32)
@@ -33,17 +34,17 @@ firstWith key (w ∷ ws) = cond (startsOf w key) w (firstWith key ws)
 unfoldable pub wordOf : List ℕ → List ℕ → List ℕ
 wordOf r key = firstWith key (wordsOf r)
 
--- the key's number lies between f and l, and the key has not been seen before, or is block (12)
-abbrev pub keyFits : List Bool → ℕ → ℕ → ℕ → Bool
-keyFits seen f l k = leb f k && (leb k l && not (getD seen k false && not (eqb k 12)))
+-- the line may have the key, and it has not been seen before, or is block (12)
+abbrev pub keyFits : List Bool → Keys → ℕ → Bool
+keyFits seen ks k = keysOf ks k && not (getD seen k false && not (eqb k 12))
 
-abbrev pub fitFrom : List Bool → ℕ → ℕ → List (List ℕ) → Bool
-fitFrom seen f l [] = true
-fitFrom seen f l (w ∷ ws) = keyFits seen f l (keyOf w) && fitFrom (set seen (keyOf w) true) f l ws
+abbrev pub fitFrom : List Bool → Keys → List (List ℕ) → Bool
+fitFrom seen ks [] = true
+fitFrom seen ks (w ∷ ws) = keyFits seen ks (keyOf w) && fitFrom (set seen (keyOf w) true) ks ws
 
--- each word of a rest has a key from f to l, and each but block at most once
-unfoldable pub fitOf : List ℕ → ℕ → ℕ → Bool
-fitOf r f l = fitFrom (replicate 15 false) f l (wordsOf r)
+-- each word of a rest has a key that the line may have, and each but block at most once
+unfoldable pub fitOf : List ℕ → Keys → Bool
+fitOf r ks = fitFrom (replicate 15 false) ks (wordsOf r)
 
 -- what the word with a key has behind it; a default where there is no such word
 unfoldable pub numberWord : List ℕ → List ℕ → Digits

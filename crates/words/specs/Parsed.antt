@@ -1,6 +1,6 @@
 -- Lists, nodes and tables as text, and what kind of line it is.
 use Prim.Native.Nat.{ℕ, _+_, _%_}
-use mathlib.Core.Bool.{Bool, true, false, _||_, not, cond}
+use mathlib.Core.Bool.{Bool, true, false, _&&_, _||_, not, cond}
 use mathlib.Core.List.{List, [], _∷_}
 use lib.Dec.{ltb, eqb}
 use lib.ListN.{length, getD, set, take, drop}
@@ -19,9 +19,11 @@ use Rattle.words.specs.declared.line.Line.{Line}
 use Rattle.words.specs.declared.digits.Place.the-variants as place
 use Rattle.words.specs.declared.tables.Head.the-variants as head
 use Rattle.words.specs.declared.line.Line.the-variants as line
+use Rattle.words.specs.declared.text.Keys.{Keys}
+use Rattle.words.specs.declared.text.Keys.the-variants as keys
 use Rattle.words.specs.Bytes.{findOf, startsOf, sameOf}
 use Rattle.words.specs.Numbers.{numberOf, smallOf, locationOf}
-use Rattle.words.specs.Cut.{wordOf, fitOf, numberWord, piecesOf, foldFrom}
+use Rattle.words.specs.Cut.{wordOf, fitOf, numberWord, placeWord, piecesOf, foldFrom}
 
 -- LISTS AND NODES
 
@@ -123,6 +125,20 @@ tableReadOf w = foldFrom tableOk extendedOf noTable startTable (piecesOf 59 w)
 
 -- LINES
 
+-- device=, contents=, loc=
+abbrev pub DEVICE : List ℕ
+DEVICE = 100 ∷ 101 ∷ 118 ∷ 105 ∷ 99 ∷ 101 ∷ 61 ∷ []
+
+abbrev pub CONTENTS : List ℕ
+CONTENTS = 99 ∷ 111 ∷ 110 ∷ 116 ∷ 101 ∷ 110 ∷ 116 ∷ 115 ∷ 61 ∷ []
+
+abbrev pub LOC : List ℕ
+LOC = 108 ∷ 111 ∷ 99 ∷ 61 ∷ []
+
+-- the words of a rest are the line's, with these two keys among them
+unfoldable pub bothOf : List ℕ → Keys → List ℕ → List ℕ → Bool
+bothOf r ks one two = (fitOf r ks && not (eqb (length (wordOf r one)) 0)) && not (eqb (length (wordOf r two)) 0)
+
 abbrev pub formatFrom : Digits → Digits → Line
 formatFrom (Value d) (Value c) = line.Format d c
 formatFrom (Value d) Bad = line.Bad
@@ -131,9 +147,20 @@ formatFrom Bad c = line.Bad
 -- device= and contents=, in either order
 unfoldable pub formatOf : List ℕ → Line
 formatOf r =
-    cond ((not (fitOf r 13 14) || eqb (length (wordOf r (100 ∷ 101 ∷ 118 ∷ 105 ∷ 99 ∷ 101 ∷ 61 ∷ []))) 0)
-    || eqb (length (wordOf r (99 ∷ 111 ∷ 110 ∷ 116 ∷ 101 ∷ 110 ∷ 116 ∷ 115 ∷ 61 ∷ []))) 0) line.Bad
-    (formatFrom (numberWord r (100 ∷ 101 ∷ 118 ∷ 105 ∷ 99 ∷ 101 ∷ 61 ∷ [])) (numberWord r (99 ∷ 111 ∷ 110 ∷ 116 ∷ 101 ∷ 110 ∷ 116 ∷ 115 ∷ 61 ∷ [])))
+    cond (not (bothOf r keys.Format DEVICE CONTENTS)) line.Bad
+    (formatFrom (numberWord r DEVICE) (numberWord r CONTENTS))
+
+abbrev pub placeLineFrom : Digits → Place → Line
+placeLineFrom (Value d) (place.At l) = line.Place d l
+placeLineFrom (Value d) place.Bad = line.Bad
+placeLineFrom Bad p = line.Bad
+
+-- place, with device= and loc=, in either order
+unfoldable pub placeOf : List ℕ → List ℕ → Line
+placeOf first r =
+    cond (not (sameOf first (112 ∷ 108 ∷ 97 ∷ 99 ∷ 101 ∷ []))) line.Bad
+    (cond (not (bothOf r keys.Place DEVICE LOC)) line.Bad
+    (placeLineFrom (numberWord r DEVICE) (placeWord r LOC)))
 
 -- audit and show
 unfoldable pub aloneOf : List ℕ → Line
@@ -146,12 +173,12 @@ abbrev pub stepFrom : Digits → Line
 stepFrom (Value n) = line.Step n
 stepFrom Bad = line.Bad
 
--- format, step=, or a word alone, by a line's first word
+-- format, step=, place, or a word alone, by a line's first word
 abbrev pub firstOf : List ℕ → List ℕ → Bool → Line
 firstOf first rest more =
     cond (sameOf first (102 ∷ 111 ∷ 114 ∷ 109 ∷ 97 ∷ 116 ∷ [])) (formatOf rest)
     (cond (startsOf first (115 ∷ 116 ∷ 101 ∷ 112 ∷ 61 ∷ [])) (stepFrom (numberOf (drop 5 first)))
-    (cond more line.Bad
+    (cond more (placeOf first rest)
     (aloneOf first)))
 
 -- a line of at most 4,096 bytes; an empty one, and one that begins with # (byte 35), is skipped

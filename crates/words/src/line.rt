@@ -1,12 +1,13 @@
 // What kind of line it is.
 ghost use mathlib.Core.Path.{_≡_};
 ghost use Rattle.words.specs.Cut.{restOf};
-ghost use Rattle.words.specs.Parsed.{formatOf, aloneOf, lineOf};
+ghost use Rattle.words.specs.Parsed.{bothOf, formatOf, placeOf, aloneOf, lineOf};
 use crate::digits::Digits;
+use crate::digits::Place;
 use crate::digits::number;
 use crate::digits::number_word;
-use crate::text::FORMAT_FIRST;
-use crate::text::FORMAT_LAST;
+use crate::digits::place_word;
+use crate::text::Keys;
 use crate::text::after;
 use crate::text::find;
 use crate::text::front;
@@ -14,6 +15,7 @@ use crate::text::same;
 use crate::text::starts;
 use crate::text::word;
 use crate::text::words_fit;
+use disklayout::Location;
 
 // A line is at most this long, without its line feed.
 pub const MOST: usize = 4096;
@@ -27,6 +29,8 @@ pub enum Line {
     Step(u64),
     Audit,
     Show,
+    // `place`, with the device and the location that is asked about.
+    Place(u64, Location),
     // Not of the form.
     Bad,
 }
@@ -39,14 +43,21 @@ pub fn rest(s: &[u8]) -> &[u8]
     after(s, at)
 }
 
+// Whether the words of a rest are the line's, with these two keys among them.
+fn words_both<'a, 'b>(rest: &'a [u8], keys: Keys, one: &'b [u8], two: &'b [u8]) -> bool
+    ensures { λ r. ⌜ r ≡ bothOf (now (rest .entry)) keys (now (one .entry)) (now (two .entry)) ⌝ }
+{
+    let fit = words_fit(rest, keys);
+    let a = word(rest, one);
+    let b = word(rest, two);
+    fit & !(a.len() == 0) & !(b.len() == 0)
+}
+
 // A `format` line, from what follows its first word: both words, in either order.
 fn format_of(rest: &[u8]) -> Line
     ensures { λ r. ⌜ r ≡ formatOf (now (rest .entry)) ⌝ }
 {
-    let fit = words_fit(rest, FORMAT_FIRST, FORMAT_LAST);
-    let device = word(rest, b"device=");
-    let contents = word(rest, b"contents=");
-    if !fit | (device.len() == 0) | (contents.len() == 0) {
+    if !words_both(rest, Keys::Format, b"device=", b"contents=") {
         return Line::Bad;
     }
     let Digits::Value(d) = number_word(rest, b"device=") else {
@@ -56,6 +67,25 @@ fn format_of(rest: &[u8]) -> Line
         return Line::Bad;
     };
     Line::Format(d, n)
+}
+
+// A `place` line, from its first word and what follows it: both words, in either order.
+fn place_of<'a>(first: &'a [u8], rest: &'a [u8]) -> Line
+    ensures { λ r. ⌜ r ≡ placeOf (now (first .entry)) (now (rest .entry)) ⌝ }
+{
+    if !same(first, b"place") {
+        return Line::Bad;
+    }
+    if !words_both(rest, Keys::Place, b"device=", b"loc=") {
+        return Line::Bad;
+    }
+    let Digits::Value(d) = number_word(rest, b"device=") else {
+        return Line::Bad;
+    };
+    let Place::At(l) = place_word(rest, b"loc=") else {
+        return Line::Bad;
+    };
+    Line::Place(d, l)
 }
 
 // A line whose first word stands alone: `audit` and `show`.
@@ -96,7 +126,7 @@ pub fn line_of(s: &[u8]) -> Line
         return Line::Step(n);
     }
     if at < s.len() {
-        return Line::Bad;
+        return place_of(first, after(s, at));
     }
     alone_of(first)
 }

@@ -4,23 +4,25 @@
 ghost use lib.ListN.{length, take, drop};
 ghost use mathlib.Core.Path.{_≡_};
 ghost use Prim.Native.Nat.{_-_, _≤_, _<_};
-ghost use Rattle.words.specs.Bytes.{findOf, startsOf, sameOf, keyOf, rareKeyOf};
+ghost use Rattle.words.specs.Bytes.{findOf, startsOf, sameOf, keyOf, rareKeyOf, keysOf};
 ghost use Rattle.words.specs.Cut.{wordOf, fitOf};
 
-// The keys by number, as `key_of` gives them: 1 to 9 are those of any step, 10 to 12 a crash's beside them, 13 and 14 those of
-// `format`; 0 is none of these.
-pub const STEP_FIRST: usize = 1;
+// The lines that have words behind the first one. Which keys each may have is `allowed`'s to say.
+pub enum Keys {
+    Step,
+    Crash,
+    Format,
+    Place,
+}
 
-pub const STEP_LAST: usize = 9;
-
-pub const CRASH_LAST: usize = 12;
-
-pub const FORMAT_FIRST: usize = 13;
-
-pub const FORMAT_LAST: usize = 14;
+// Keys by number, as `key_of` gives them: 1 to 9 may stand on any step, 10 to 12 on a crash beside them, 13 and 14 on a `format`, and two of
+// these on a `place`; 0 is none.
+const LOC: usize = 7;
 
 // The one key that may come more than once.
 const BLOCK: usize = 12;
+
+const DEVICE: usize = 13;
 
 // Where b first stands in s; the length of s where it does not.
 pub fn find(s: &[u8], b: u8) -> usize
@@ -118,7 +120,7 @@ pub fn key_of(w: &[u8]) -> usize
         return 6;
     }
     if starts(w, b"loc=") {
-        return 7;
+        return LOC;
     }
     if starts(w, b"node=") {
         return 8;
@@ -129,7 +131,7 @@ pub fn key_of(w: &[u8]) -> usize
     key_of_rare(w)
 }
 
-// The same for the words of a crash and of `format`.
+// The same for the keys that stand on a crash, on `format` and on `place` alone.
 fn key_of_rare(w: &[u8]) -> usize
     ensures { λ r. ⌜ r ≡ rareKeyOf (now (w .entry)) ⌝ }
     ensures within { λ r. ⌜ r < 15 ⌝ }
@@ -144,7 +146,7 @@ fn key_of_rare(w: &[u8]) -> usize
         return BLOCK;
     }
     if starts(w, b"device=") {
-        return 13;
+        return DEVICE;
     }
     if starts(w, b"contents=") {
         return 14;
@@ -152,9 +154,21 @@ fn key_of_rare(w: &[u8]) -> usize
     0
 }
 
-// Whether each word of a rest has a key from `first` to `last`, and each but `block` at most once.
-pub fn words_fit(rest: &[u8], first: usize, last: usize) -> bool
-    ensures { λ r. ⌜ r ≡ fitOf (now (rest .entry)) first last ⌝ }
+// Whether a line may have this key.
+fn allowed(keys: Keys, k: usize) -> bool
+    ensures { λ r. ⌜ r ≡ keysOf keys k ⌝ }
+{
+    match keys {
+        Keys::Step => (1 <= k) & (k <= 9),
+        Keys::Crash => (1 <= k) & (k <= BLOCK),
+        Keys::Format => (DEVICE <= k) & (k <= 14),
+        Keys::Place => (k == LOC) | (k == DEVICE),
+    }
+}
+
+// Whether each word of a rest has a key that the line may have, and each but `block` at most once.
+pub fn words_fit(rest: &[u8], keys: Keys) -> bool
+    ensures { λ r. ⌜ r ≡ fitOf (now (rest .entry)) keys ⌝ }
 {
     let mut seen = [false; 15];
     let mut good = true;
@@ -163,8 +177,9 @@ pub fn words_fit(rest: &[u8], first: usize, last: usize) -> bool
         let tail = after(rest, at + 1);
         let n = find(tail, b' ');
         let k = key_of(front(tail, n));
+        let fits = allowed(keys, k);
         let twice = seen[k] & (k != BLOCK);
-        good = good & (first <= k) & (k <= last) & !twice;
+        good = good & fits & !twice;
         seen[k] = true;
         at = at + 1 + n;
     }

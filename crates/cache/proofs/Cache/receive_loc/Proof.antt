@@ -1,4 +1,5 @@
 -- A condition that holds gives its number and the cache as it was; past them all, by what the callees ensure. Assumes nothing.
+use Rattle.disklayout.proofs.PlaceKinds.{table-told}
 use borrow.Author.Needs.{needs}
 use Rattle.base.specs.Refusals.{answer}
 use Rattle.blockcache.specs.Step.{pastGate}
@@ -8,8 +9,11 @@ use Rattle.cache.proofs.Cache.receive_loc.Tie as tie
 vop-loc-requires : tie.Need-vop-loc-requires
 vop-loc-requires c κs = search needs
 
-valid-indirection-table-location-requires : tie.Need-valid-indirection-table-location-requires
-valid-indirection-table-location-requires c κs = search needs
+kind-of-requires : tie.Need-kind-of-requires
+kind-of-requires c κs = search needs
+
+is-kind-requires : tie.Need-is-kind-requires
+is-kind-requires c κs = search needs
 
 answered-requires : tie.Need-answered-requires
 answered-requires c κs = search needs
@@ -20,8 +24,10 @@ returns c =
     let c1 = c .before in
     let c2 = c1 .before in
     let c3 = c2 .before in
-    let invalid = rw (c2 .valid-indirection-table-location .ensures, c3 .vop-loc .ensures) at (c1 .if1 .taken) in
-    simp (invalid, c .answered .ensures, c2 .valid-indirection-table-location .ensures, c3 .vop-loc .ensures)
+    let c4 = c3 .before in
+    let table = table-told (c4 .before .args .self .device) (c4 .vop-loc .result) (c3 .kind-of .ensures) (c2 .is-kind .ensures) in
+    let invalid = rw (table, c4 .vop-loc .ensures) at (c1 .if1 .taken) in
+    simp (invalid, c .answered .ensures)
 
 loading-requires : tie.Need-loading-requires
 loading-requires c κs = search needs
@@ -36,15 +42,18 @@ returns-2 c =
     let c2 = c1 .before in
     let c3 = c2 .before in
     let c4 = c3 .before in
-    let valid = rw (c3 .valid-indirection-table-location .ensures, c4 .vop-loc .ensures) at (c2 .if1 .left) in
-    simp (valid, c .answered2 .ensures, c1 .loading .ensures, c3 .valid-indirection-table-location .ensures, c4 .vop-loc .ensures)
+    let c5 = c4 .before in
+    let table = table-told (c5 .before .args .self .device) (c5 .vop-loc .result) (c4 .kind-of .ensures) (c3 .is-kind .ensures) in
+    let valid = rw (table, c5 .vop-loc .ensures) at (c2 .if1 .left) in
+    simp (valid, c .answered2 .ensures, c1 .loading .ensures, c5 .vop-loc .ensures)
 
 pub receive-loc-spec : {M : Type 1} → statement M
 receive-loc-spec =
     tie.close
     (tie.spec
     vop-loc-requires
-    valid-indirection-table-location-requires
+    kind-of-requires
+    is-kind-requires
     answered-requires
     returns
     loading-requires

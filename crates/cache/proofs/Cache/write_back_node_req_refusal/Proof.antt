@@ -1,4 +1,5 @@
 -- By what the callees ensure, row by row. Assumes nothing.
+use Rattle.disklayout.proofs.PlaceKinds.{node-told}
 use borrow.Author.Needs.{needs}
 use Rattle.base.specs.Refusals.{answer}
 use Rattle.cache.proofs.Cache.write_back_node_req_refusal.Statement.{statement}
@@ -19,8 +20,11 @@ element-copy-out-slot c = search needs
 has-requires : tie.Need-has-requires
 has-requires c κs = search needs
 
-valid-node-location-requires : tie.Need-valid-node-location-requires
-valid-node-location-requires c κs = search needs
+kind-of-requires : tie.Need-kind-of-requires
+kind-of-requires c κs = search needs
+
+is-kind-requires : tie.Need-is-kind-requires
+is-kind-requires c κs = search needs
 
 held-requires : tie.Need-held-requires
 held-requires c κs = search needs
@@ -53,7 +57,7 @@ returns : tie.Need-returns
 unfolding answer
 returns c =
     let c1 = c .before in
-    let c2 = c1 .before .before .before in
+    let c2 = c1 .before .before in
     let c3 = c2 .before in
     let c4 = c3 .before .before in
     let c5 = c4 .before .before in
@@ -62,9 +66,11 @@ returns c =
     let c8 = c7 .before in
     let c9 = c8 .before in
     let c10 = c9 .before in
-    let c11 = c10 .before .before .before .before .before .before .before .before .before in
-    let c12 = c11 .before in
-    let valid = rw (c11 .dop-loc .ensures) at (c9 .valid-node-location .ensures) in
+    let c11 = c10 .before in
+    let c12 = c11 .before .before .before .before .before .before .before .before .before in
+    let c13 = c12 .before in
+    let a = c13 .before .before .args in
+    let node = rw (c12 .dop-loc .ensures) at (node-told (a .self .device) (c12 .dop-loc .result) (c10 .kind-of .ensures) (c9 .is-kind .ensures)) in
     simp (
       c .first-of7 .ensures,
       c1 .first-of6 .ensures,
@@ -75,10 +81,10 @@ returns c =
       c6 .first-of .ensures,
       c7 .same-node .ensures,
       c8 .held .ensures,
-      valid,
-      c10 .has .ensures,
-      c11 .dop-loc .ensures,
-      c12 .dop-id .ensures,
+      node,
+      c11 .has .ensures,
+      c12 .dop-loc .ensures,
+      c13 .dop-id .ensures,
     )
 
 pub write-back-node-req-refusal-spec : {M : Type 1} → statement M
@@ -90,7 +96,8 @@ write-back-node-req-refusal-spec =
     mul-slot
     element-copy-out-slot
     has-requires
-    valid-node-location-requires
+    kind-of-requires
+    is-kind-requires
     held-requires
     same-node-requires
     first-of-requires

@@ -1,7 +1,6 @@
 -- There is such a word, or not. Assumes nothing.
 use borrow.Author.Needs.{needs}
 use borrow.Author.Tests.{eq-eqb, ne-eqb}
-use Rattle.disklayout.proofs.Cases.{at}
 use Rattle.script.proofs.operations.disk_word.Statement.{statement}
 use Rattle.script.specs.Operations.{diskWord}
 use Rattle.script.proofs.operations.disk_word.Tie as tie

@@ -1,28 +1,22 @@
 -- Case by case. Assumes nothing.
 use mathlib.Core.Path.{_∙_, sym}
+use Rattle.words.specs.Parsed.{formatOf}
 use borrow.Author.Needs.{needs}
 use Rattle.words.proofs.line.format_of.Statement.{statement}
-use Rattle.words.specs.Parsed.{formatOf}
 use Rattle.words.proofs.line.format_of.Tie as tie
 
-words-fit-requires : tie.Need-words-fit-requires
-words-fit-requires c κs = search needs
+slice-aggregate-words-both : tie.Need-slice-aggregate-words-both
+slice-aggregate-words-both c = search needs
 
-slice-aggregate-word : tie.Need-slice-aggregate-word
-slice-aggregate-word c = search needs
+slice-aggregate-words-both-2 : tie.Need-slice-aggregate-words-both-2
+slice-aggregate-words-both-2 c = search needs
 
-word-requires : tie.Need-word-requires
-word-requires c κs = search needs
-
-slice-aggregate-word-2 : tie.Need-slice-aggregate-word-2
-slice-aggregate-word-2 c = search needs
-
-word-requires-2 : tie.Need-word-requires-2
-word-requires-2 c κs = search needs
+words-both-requires : tie.Need-words-both-requires
+words-both-requires c κs = search needs
 
 returns : tie.Need-returns
 unfolding formatOf
-returns c = simp (rw (c .before .before .before .before .before .words-fit .ensures, c .before .before .before .word .ensures, c .before .word2 .ensures) at (c .if1 .taken))
+returns c = simp (rw (c .before .words-both .ensures) at (c .if1 .taken))
 
 slice-aggregate-number-word : tie.Need-slice-aggregate-number-word
 slice-aggregate-number-word c = search needs
@@ -39,12 +33,10 @@ enum-told c = search needs
 returns-2 : tie.Need-returns-2
 unfolding formatOf
 returns-2 c =
-    let c1 = c .before .before in
-    let c2 = c1 .before .before in
-    let c3 = c2 .before in
-    let c4 = c3 .before .before in
-    let c5 = c4 .before .before in
-    simp (rw (c5 .words-fit .ensures, c4 .word .ensures, c3 .word2 .ensures) at (c2 .if1 .left), sym (c1 .number-word .ensures) ∙ c .enum-told .given .1)
+    let c2 = c .before .before in
+    let c4 = c2 .before .before in
+    let c5 = c4 .before in
+    simp (rw (c5 .words-both .ensures) at (c4 .if1 .left), sym (c2 .number-word .ensures) ∙ c .enum-told .given .1)
 
 slice-aggregate-number-word-2 : tie.Need-slice-aggregate-number-word-2
 slice-aggregate-number-word-2 c = search needs
@@ -61,41 +53,39 @@ enum-told-2 c = search needs
 returns-3 : tie.Need-returns-3
 unfolding formatOf
 returns-3 c =
-    let c1 = c .before .before in
-    let c2 = c1 .before .before .before in
-    let c3 = c2 .before .before in
-    let c4 = c3 .before .before in
-    let c5 = c4 .before in
-    let c6 = c5 .before .before in
-    let c7 = c6 .before .before in
+    let c2 = c .before .before in
+    let c5 = c2 .before .before .before in
+    let c7 = c5 .before .before in
+    let c9 = c7 .before .before in
+    let c10 = c9 .before in
     simp (
-      rw (c7 .words-fit .ensures, c6 .word .ensures, c5 .word2 .ensures) at (c4 .if1 .left),
-      sym (c3 .number-word .ensures) ∙ c2 .d .given .1,
-      sym (c1 .number-word2 .ensures) ∙ c .enum-told2 .given .1,
+      rw (c10 .words-both .ensures) at (c9 .if1 .left),
+      sym (c7 .number-word .ensures) ∙ c5 .d .given .1,
+      sym (c2 .number-word2 .ensures) ∙ c .enum-told2 .given .1,
     )
 
 returns-4 : tie.Need-returns-4
 unfolding formatOf
 returns-4 c =
     let c1 = c .before in
-    let c2 = c1 .before .before in
-    let c3 = c2 .before .before .before in
-    let c4 = c3 .before .before in
-    let c5 = c4 .before .before in
-    let c6 = c5 .before in
-    let c7 = c6 .before .before in
-    let c8 = c7 .before .before in
-    simp (rw (c8 .words-fit .ensures, c7 .word .ensures, c6 .word2 .ensures) at (c5 .if1 .left), sym (c4 .number-word .ensures) ∙ c3 .d .given .1, sym (c2 .number-word2 .ensures) ∙ c1 .n .given .1)
+    let c3 = c1 .before .before in
+    let c6 = c3 .before .before .before in
+    let c8 = c6 .before .before in
+    let c10 = c8 .before .before in
+    let c11 = c10 .before in
+    simp (
+      rw (c11 .words-both .ensures) at (c10 .if1 .left),
+      sym (c8 .number-word .ensures) ∙ c6 .d .given .1,
+      sym (c3 .number-word2 .ensures) ∙ c1 .n .given .1,
+    )
 
 pub format-of-spec : {M : Type 1} → statement M
 format-of-spec =
     tie.close
     (tie.spec
-    words-fit-requires
-    slice-aggregate-word
-    word-requires
-    slice-aggregate-word-2
-    word-requires-2
+    slice-aggregate-words-both
+    slice-aggregate-words-both-2
+    words-both-requires
     returns
     slice-aggregate-number-word
     number-word-requires

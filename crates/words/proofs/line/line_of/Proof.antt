@@ -2,7 +2,6 @@
 use mathlib.Core.Path.{_∙_, sym}
 use borrow.Author.Needs.{needs}
 use borrow.Author.Tests.{eq-eqb, le-ltb, lt-ltb, ne-eqb}
-use Rattle.disklayout.proofs.Cases.{at}
 use Rattle.words.proofs.line.line_of.Statement.{statement}
 use Rattle.words.specs.Parsed.{lineOf}
 use Rattle.words.proofs.line.line_of.Tie as tie
@@ -127,10 +126,18 @@ returns-6 c =
       ) at (sym (c2 .number .ensures) ∙ c1 .n .given .1),
     )
 
+after-requires-3 : tie.Need-after-requires-3
+after-requires-3 c κs = search needs
+
+place-of-requires : tie.Need-place-of-requires
+place-of-requires c κs = search needs
+
 returns-7 : tie.Need-returns-7
 unfolding lineOf
 returns-7 c =
-    let c1 = c .before in
+    let a1 = c .before in
+    let a2 = a1 .before in
+    let c1 = a2 .before in
     let c2 = c1 .before in
     let c3 = c2 .before .before in
     let c4 = c3 .before in
@@ -145,8 +152,9 @@ returns-7 c =
       ne-eqb _ _ (c7 .if3 .left),
       rw (c5 .front .ensures, c6 .find .ensures .0) at (sym (c4 .same .ensures) ∙ c3 .if4 .left),
       rw (c5 .front .ensures, c6 .find .ensures .0) at (sym (c2 .starts .ensures) ∙ c1 .if5 .left),
-      lt-ltb _ _ (rw (c6 .find .ensures .0) at (c .if6 .taken)),
+      lt-ltb _ _ (rw (c6 .find .ensures .0) at (a2 .if6 .taken)),
     )
+    (rw (a1 .after3 .ensures .0, c5 .front .ensures, c6 .find .ensures .0) at (c .place-of .ensures))
 
 alone-of-requires : tie.Need-alone-of-requires
 alone-of-requires c κs = search needs
@@ -197,6 +205,8 @@ line-of-spec =
     enum-told
     returns-5
     returns-6
+    after-requires-3
+    place-of-requires
     returns-7
     alone-of-requires
     returns-8)

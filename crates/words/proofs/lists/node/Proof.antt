@@ -2,7 +2,6 @@
 use mathlib.Core.Path.{_∙_, sym}
 use borrow.Author.Needs.{needs}
 use borrow.Author.Tests.{eq-eqb, ne-eqb, not-false, not-true}
-use Rattle.disklayout.proofs.Cases.{at}
 use Rattle.words.proofs.lists.node.Statement.{statement}
 use Rattle.words.specs.Parsed.{nodeOf}
 use Rattle.words.proofs.lists.node.Tie as tie

@@ -1,7 +1,6 @@
 -- By the list and the head. Assumes nothing.
 use borrow.Author.Needs.{needs}
 use borrow.Author.Tests.{not-false, not-true}
-use Rattle.disklayout.proofs.Cases.{at}
 use Rattle.words.proofs.tables.entry_of.Statement.{statement}
 use Rattle.words.proofs.tables.entry_of.Tie as tie
 

@@ -1,7 +1,6 @@
 -- Case by case. Assumes nothing.
 use borrow.Author.Needs.{needs}
 use borrow.Author.Tests.{le-ltb, lt-ltb}
-use Rattle.disklayout.proofs.Cases.{at}
 use Rattle.words.proofs.tables.extended.Statement.{statement}
 use Rattle.words.specs.Parsed.{extendedOf}
 use Rattle.words.proofs.tables.extended.Tie as tie

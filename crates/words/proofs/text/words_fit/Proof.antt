@@ -10,10 +10,10 @@ use Rattle.words.specs.Cut.{fitFrom, fitOf, wordsOf}
 use Rattle.words.proofs.text.words_fit.Tie as tie
 
 abbrev Inv-loop : tie.InvT-loop
-Inv-loop rest first last seen₀ good₀ at₀ seen good at = (at ≤ length rest) × (length seen ≡ 15) × ((good && fitFrom seen first last (wordsOf (drop at rest))) ≡ fitOf rest first last)
+Inv-loop rest keys seen₀ good₀ at₀ seen good at = (at ≤ length rest) × (length seen ≡ 15) × ((good && fitFrom seen keys (wordsOf (drop at rest))) ≡ fitOf rest keys)
 
 abbrev μ-loop : tie.MeasureT-loop
-μ-loop rest first last seen₀ good₀ at₀ seen good at = length rest - at
+μ-loop rest keys seen₀ good₀ at₀ seen good at = length rest - at
 
 loop-holds : tie.Need-loop-holds Inv-loop μ-loop
 unfolding fitOf
@@ -33,6 +33,9 @@ front-requires c κs = search needs
 
 key-of-requires : tie.Need-key-of-requires Inv-loop μ-loop
 key-of-requires c κs = search needs
+
+allowed-requires : tie.Need-allowed-requires Inv-loop μ-loop
+allowed-requires c κs = search needs
 
 array-read-twice : tie.Need-array-read-twice Inv-loop μ-loop
 array-read-twice c = search needs
@@ -56,20 +59,22 @@ loop-again c =
     let c3 = c2 .before in
     let c4 = c3 .before in
     let c5 = c4 .before in
-    let c6 = c5 .before .before in (
+    let c6 = c5 .before in
+    let a = c6 .before .before .args in (
       search needs,
-      simp length-set (c5 .loop .inv .1),
-      rw (c2 .find .ensures .0, c3 .after .ensures .0)
-          (fit-turn ((c6 .args .rest) .now) (c6 .args .first) (c6 .args .last) (c5 .loop .at) (c .key-of .result) (c5 .loop .seen) (c5 .loop .good) (c4 .loop-test .taken)
-          (rw (c1 .front .ensures, c2 .find .ensures .0, c3 .after .ensures .0) at (c .key-of .ensures .0))
-          (c5 .loop .inv .2)),
+      simp length-set (c6 .loop .inv .1),
+      rw (c3 .find .ensures .0, c4 .after .ensures .0)
+          (fit-turn ((a .rest) .now) (a .keys) (c6 .loop .at) (c1 .key-of .result) (c6 .loop .seen) (c6 .loop .good) (c5 .loop-test .taken)
+          (rw (c2 .front .ensures, c3 .find .ensures .0, c4 .after .ensures .0) at (c1 .key-of .ensures .0))
+          (c .allowed .ensures)
+          (c6 .loop .inv .2)),
     )
 
 returns : tie.Need-returns Inv-loop μ-loop
 returns c =
     let c1 = c .before in
     let c2 = c1 .before .before in
-    fit-end ((c2 .args .rest) .now) (c2 .args .first) (c2 .args .last) (c1 .loop .at) (c1 .loop .seen) (c1 .loop .good) (c .loop-test .left) (c1 .loop .inv .2)
+    fit-end ((c2 .args .rest) .now) (c2 .args .keys) (c1 .loop .at) (c1 .loop .seen) (c1 .loop .good) (c .loop-test .left) (c1 .loop .inv .2)
 
 pub words-fit-spec : {M : Type 1} → statement M
 words-fit-spec =
@@ -83,6 +88,7 @@ words-fit-spec =
     find-requires
     front-requires
     key-of-requires
+    allowed-requires
     array-read-twice
     array-write-seen
     add-at

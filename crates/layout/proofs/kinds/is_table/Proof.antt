@@ -1,6 +1,6 @@
 use Rattle.disklayout.specs.Layout.{ValidIndirectionTableLocation}
-use Rattle.layout.proofs.areas.is_table.Statement.{statement}
-use Rattle.layout.proofs.areas.is_table.Tie as tie
+use Rattle.layout.proofs.kinds.is_table.Statement.{statement}
+use Rattle.layout.proofs.kinds.is_table.Tie as tie
 
 is-table-addr-requires : tie.Need-is-table-addr-requires
 is-table-addr-requires c κs = c .pre

@@ -1,7 +1,7 @@
 -- By the tests on the way, what the callees ensure and the laws of the layout. Assumes nothing.
 use Rattle.disklayout.proofs.Facts.{journal-short}
-use Rattle.layout.proofs.areas.is_journal.Statement.{statement}
-use Rattle.layout.proofs.areas.is_journal.Tie as tie
+use Rattle.layout.proofs.kinds.is_journal.Statement.{statement}
+use Rattle.layout.proofs.kinds.is_journal.Tie as tie
 
 table1-requires : tie.Need-table1-requires
 table1-requires c κs = c .pre

@@ -1,6 +1,6 @@
 use Rattle.disklayout.specs.Layout.{ValidNodeLocation}
-use Rattle.layout.proofs.areas.is_node.Statement.{statement}
-use Rattle.layout.proofs.areas.is_node.Tie as tie
+use Rattle.layout.proofs.kinds.is_node.Statement.{statement}
+use Rattle.layout.proofs.kinds.is_node.Tie as tie
 
 is-node-addr-requires : tie.Need-is-node-addr-requires
 is-node-addr-requires c κs = c .pre
