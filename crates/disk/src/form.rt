@@ -1,30 +1,40 @@
 // The disk's one written form (number 1): each record in its own form and place, each queue in its form with places that 16 allows.
-ghost use mathlib.Core.Bool.{_||_, not};
+ghost use mathlib.Core.Bool.{_&&_, _||_, not};
 ghost use mathlib.Core.Path.{_≡_};
-ghost use Rattle.blockdisk.specs.Form.{tableRecordChecked, nodeRecordChecked, tablesChecked, nodesChecked, recordsChecked, tableRequestOk, nodeRequestOk, tableQueueForm, nodeQueueForm, queuesForm};
+ghost use lib.Dec.{eqb};
+ghost use Rattle.disklayout.specs.Blocks.{TablePlaceIn};
+ghost use Rattle.disklayout.specs.Calls.{flag};
+ghost use Rattle.disklayout.specs.Device.{deviceOf};
+ghost use Rattle.sectortype.specs.Form.{locZero};
+ghost use Rattle.blockdisk.specs.Form.{nodeRecordChecked, tablesChecked, nodesChecked, recordsChecked, tableAllowed, tableRequestOk, nodeRequestOk, tableQueueForm, nodeQueueForm, queuesForm};
 use blockdisk::Checked;
 use blockdisk::NodeRecord;
 use blockdisk::Queues;
 use blockdisk::Records;
 use blockdisk::TableRecord;
+use disklayout::Location;
 use layout::TABLE_KIND;
 use queue::Request;
 use queue::Requests;
 
-// One record of table area k.
-fn table_record_ok(device: u64, k: u64, r: TableRecord) -> Checked
-    ensures { λ c. ⌜ c ≡ tableRecordChecked device k r ⌝ }
+// The form of a table record, from that of its table and the table's count: an absent record is zeros. The record is not handed on whole, as
+// the compiler would copy it, table and all.
+fn table_record_form(there: bool, loc: Location, form: bool, count: u8) -> bool
+    ensures { λ b. ⌜ b ≡ (form && (there || (locZero loc && eqb count 0))) ⌝ }
 {
-    let there = r.present;
-    let loc = r.loc;
-    let table = r.table;
-    let form = sector::table_form(table);
     let nowhere = sector::loc_zero(loc);
-    let allowed = layout::table_place_in(device, k, loc);
-    Checked {
-        form: form & (there | (nowhere & (table.count == 0))),
-        placed: !there | allowed.yes,
+    form & (there | (nowhere & (count == 0)))
+}
+
+// A table record that is there lies in area k.
+fn table_record_placed(device: u64, k: u64, there: bool, loc: Location) -> bool
+    ensures { λ b. ⌜ b ≡ (not there || flag device (TablePlaceIn (deviceOf device) k loc) .yes) ⌝ }
+{
+    if !there {
+        return true;
     }
+    let allowed = layout::table_place_in(device, k, loc);
+    allowed.yes
 }
 
 // One record of node block k.
@@ -55,11 +65,19 @@ fn tables_ok(device: u64, tables: [TableRecord; 2]) -> Checked
 {
     let first = tables[0];
     let second = tables[1];
-    let a = table_record_ok(device, 0, first);
-    let b = table_record_ok(device, 1, second);
+    let table1 = first.table;
+    let table2 = second.table;
+    let loc1 = first.loc;
+    let loc2 = second.loc;
+    let whole1 = sector::table_form(table1);
+    let whole2 = sector::table_form(table2);
+    let form1 = table_record_form(first.present, loc1, whole1, table1.count);
+    let form2 = table_record_form(second.present, loc2, whole2, table2.count);
+    let placed1 = table_record_placed(device, 0, first.present, loc1);
+    let placed2 = table_record_placed(device, 1, second.present, loc2);
     Checked {
-        form: a.form & b.form,
-        placed: a.placed & b.placed,
+        form: form1 & form2,
+        placed: placed1 & placed2,
     }
 }
 
@@ -93,6 +111,14 @@ pub(crate) fn records_ok(device: u64, r: Records) -> Checked
     }
 }
 
+// Whether refusal 16 allows a table's place; of a node's, `layout::node_place` says so.
+pub(crate) fn table_allowed(device: u64, loc: Location) -> bool
+    ensures { λ b. ⌜ b ≡ tableAllowed device loc ⌝ }
+{
+    let asked = layout::kind_of(device, loc);
+    layout::is_kind(asked, TABLE_KIND)
+}
+
 // One place of a queue of table requests. Nothing is asked of one that is not used.
 fn table_request_ok(device: u64, used: bool, w: Request) -> bool
     ensures { λ b. ⌜ b ≡ (not used || tableRequestOk device w) ⌝ }
@@ -101,8 +127,7 @@ fn table_request_ok(device: u64, used: bool, w: Request) -> bool
         return true;
     }
     let loc = w.loc;
-    let asked = layout::kind_of(device, loc);
-    let allowed = layout::is_kind(asked, TABLE_KIND);
+    let allowed = table_allowed(device, loc);
     (w.reference == 0) & allowed
 }
 

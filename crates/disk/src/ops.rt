@@ -8,6 +8,7 @@ ghost use Rattle.blockdisk.specs.Ops.{requestOf, requestOutcome, answerOutcome,
 use crate::Disk;
 use crate::form::queues_ok;
 use crate::form::records_ok;
+use crate::form::table_allowed;
 use crate::read::node_at;
 use crate::read::table_at;
 use crate::read::with_node;
@@ -20,7 +21,6 @@ use blockdisk::NodeRecord;
 use blockdisk::QueueOutcome;
 use blockdisk::TableRecord;
 use disklayout::Location;
-use layout::TABLE_KIND;
 use queue::Request;
 use queue::Requests;
 use sectortype::Node;
@@ -129,8 +129,7 @@ impl Disk {
         let mut s = self.state;
         let mut qs = s.queues;
         let q = qs.tablereads;
-        let asked = layout::kind_of(self.device, loc);
-        let allowed = layout::is_kind(asked, TABLE_KIND);
+        let allowed = table_allowed(self.device, loc);
         let t = ask(q, id, loc, allowed);
         let n = t.answer;
         if n != 0 {
@@ -167,8 +166,7 @@ impl Disk {
         let mut s = self.state;
         let mut qs = s.queues;
         let q = qs.tablewrites;
-        let asked = layout::kind_of(self.device, loc);
-        let allowed = layout::is_kind(asked, TABLE_KIND);
+        let allowed = table_allowed(self.device, loc);
         let t = ask(q, id, loc, allowed);
         let n = t.answer;
         if n != 0 {

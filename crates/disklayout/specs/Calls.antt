@@ -1,5 +1,5 @@
--- What a layout call returns: 0 with its result, or 1 with zeros where the device is not made or the test of what upstream requires,
--- `pre`, fails.
+-- What a layout call returns: 0 with its result, or 1 with zeros (a kind: none) where the device is not made or the test of what upstream
+-- requires, `pre`, fails.
 use mathlib.Core.Bool.{Bool, _&&_, cond}
 use mathlib.Core.Option.{Option, some, none}
 use Prim.Native.Nat.{ℕ}

@@ -1,4 +1,4 @@
-// The forms of a result: 0 with the result where ok holds, else 1 with zeros.
+// The forms of a result: 0 with the result where ok holds, else 1 with zeros, or with the kind none.
 ghost use mathlib.Core.Path.{_≡_};
 ghost use Rattle.disklayout.specs.Calls.{numberWhen, flagWhen, placeWhen, placeKindWhen};
 use disklayout::Flag;

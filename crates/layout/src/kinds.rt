@@ -87,8 +87,9 @@ fn is_node(w: Device, loc: Location) -> bool
     there & (loc.len <= w.block)
 }
 
-// The kinds lie one behind the other on a device, so the address leaves one or two of them to be tested. A place of zeros, as that of an
-// absent record is, is told by comparisons alone, and the remainder by the block size is taken only at or past the first node address.
+// The kinds lie one behind the other on a device, so the address leaves one or two of them to be tested. A place of zeros, as a table's
+// reference without a location has, is told by comparisons alone; the remainder by the block size is taken only at or past the first node
+// address.
 pub(crate) fn kind_in(w: Device, loc: Location) -> Kind
     requires { ⌜ Good w ⌝ }
     ensures { λ r. ⌜ r ≡ kindOf w loc ⌝ }

@@ -48,7 +48,8 @@ pub fn answer(line: u64, answer: u64) {
     text(b"\n");
 }
 
-fn kind(k: Kind) {
+// The word of a kind.
+fn kind_word(k: Kind) {
     match k {
         Kind::Superblock1 => text(b"superblock1"),
         Kind::Superblock2 => text(b"superblock2"),
@@ -65,7 +66,7 @@ pub fn place(line: u64, p: PlaceKind) {
     word(b"line=", line);
     word(b" answer=", p.answer);
     text(b" kind=");
-    kind(k);
+    kind_word(k);
     text(b"\n");
 }
 

@@ -10,7 +10,7 @@ use Rattle.blockdisk.specs.declared.DiskOp.{DiskOp}
 use Rattle.blockdisk.specs.declared.DiskOp.the-variants.{NoDiskOp}
 use Rattle.blockcache.specs.declared.VersionOp.{VersionOp}
 use Rattle.blockcache.specs.declared.VersionOp.the-variants.{StatesInternalOp}
-use Rattle.words.specs.Bytes.{sameOf}
+use Rattle.words.specs.Bytes.{sameOf, LOC}
 use Rattle.words.specs.declared.text.Keys.the-variants as keys
 use Rattle.words.specs.Cut.{wordOf, fitOf, numberWord, placeWord}
 use Rattle.words.specs.Parsed.{nodeOf, tableReadOf}
@@ -106,7 +106,7 @@ unfoldable pub operationsOf : List ℕ → Operations
 operationsOf r =
     onNumber (numberWord r (105 ∷ 100 ∷ 61 ∷ [])) (λ id.
     onPlace (placeWord r (118 ∷ 108 ∷ 111 ∷ 99 ∷ 61 ∷ [])) (λ vloc.
-    onPlace (placeWord r (108 ∷ 111 ∷ 99 ∷ 61 ∷ [])) (λ loc.
+    onPlace (placeWord r LOC) (λ loc.
     onUiop (uiopWord r) (λ noop.
     onVersion (versionWord r vloc noop) (λ vop.
     onDisk (diskWord r id loc) (λ dop.

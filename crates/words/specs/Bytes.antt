@@ -19,14 +19,24 @@ startsOf s p = leb (length p) (length s) && allBelow (λ k. eqb (getD s k 0) (ge
 unfoldable pub sameOf : List ℕ → List ℕ → Bool
 sameOf s p = startsOf s p && eqb (length s) (length p)
 
+-- the keys that a line is asked for by name: device=, contents=, loc=
+abbrev pub DEVICE : List ℕ
+DEVICE = 100 ∷ 101 ∷ 118 ∷ 105 ∷ 99 ∷ 101 ∷ 61 ∷ []
+
+abbrev pub CONTENTS : List ℕ
+CONTENTS = 99 ∷ 111 ∷ 110 ∷ 116 ∷ 101 ∷ 110 ∷ 116 ∷ 115 ∷ 61 ∷ []
+
+abbrev pub LOC : List ℕ
+LOC = 108 ∷ 111 ∷ 99 ∷ 61 ∷ []
+
 -- table1=, table2=, block=, device=, contents=
 unfoldable pub rareKeyOf : List ℕ → ℕ
 rareKeyOf w =
     cond (startsOf w (116 ∷ 97 ∷ 98 ∷ 108 ∷ 101 ∷ 49 ∷ 61 ∷ [])) 10
     (cond (startsOf w (116 ∷ 97 ∷ 98 ∷ 108 ∷ 101 ∷ 50 ∷ 61 ∷ [])) 11
     (cond (startsOf w (98 ∷ 108 ∷ 111 ∷ 99 ∷ 107 ∷ 61 ∷ [])) 12
-    (cond (startsOf w (100 ∷ 101 ∷ 118 ∷ 105 ∷ 99 ∷ 101 ∷ 61 ∷ [])) 13
-    (cond (startsOf w (99 ∷ 111 ∷ 110 ∷ 116 ∷ 101 ∷ 110 ∷ 116 ∷ 115 ∷ 61 ∷ [])) 14
+    (cond (startsOf w DEVICE) 13
+    (cond (startsOf w CONTENTS) 14
     0))))
 
 -- ref=, v=, vloc=, uiop=, d=, id=, loc=, node=, table=
@@ -38,7 +48,7 @@ keyOf w =
     (cond (startsOf w (117 ∷ 105 ∷ 111 ∷ 112 ∷ 61 ∷ [])) 4
     (cond (startsOf w (100 ∷ 61 ∷ [])) 5
     (cond (startsOf w (105 ∷ 100 ∷ 61 ∷ [])) 6
-    (cond (startsOf w (108 ∷ 111 ∷ 99 ∷ 61 ∷ [])) 7
+    (cond (startsOf w LOC) 7
     (cond (startsOf w (110 ∷ 111 ∷ 100 ∷ 101 ∷ 61 ∷ [])) 8
     (cond (startsOf w (116 ∷ 97 ∷ 98 ∷ 108 ∷ 101 ∷ 61 ∷ [])) 9
     (rareKeyOf w)))))))))

@@ -21,7 +21,7 @@ use Rattle.words.specs.declared.tables.Head.the-variants as head
 use Rattle.words.specs.declared.line.Line.the-variants as line
 use Rattle.words.specs.declared.text.Keys.{Keys}
 use Rattle.words.specs.declared.text.Keys.the-variants as keys
-use Rattle.words.specs.Bytes.{findOf, startsOf, sameOf}
+use Rattle.words.specs.Bytes.{findOf, startsOf, sameOf, DEVICE, CONTENTS, LOC}
 use Rattle.words.specs.Numbers.{numberOf, smallOf, locationOf}
 use Rattle.words.specs.Cut.{wordOf, fitOf, numberWord, placeWord, piecesOf, foldFrom}
 
@@ -124,16 +124,6 @@ unfoldable pub tableReadOf : List ℕ → TableRead
 tableReadOf w = foldFrom tableOk extendedOf noTable startTable (piecesOf 59 w)
 
 -- LINES
-
--- device=, contents=, loc=
-abbrev pub DEVICE : List ℕ
-DEVICE = 100 ∷ 101 ∷ 118 ∷ 105 ∷ 99 ∷ 101 ∷ 61 ∷ []
-
-abbrev pub CONTENTS : List ℕ
-CONTENTS = 99 ∷ 111 ∷ 110 ∷ 116 ∷ 101 ∷ 110 ∷ 116 ∷ 115 ∷ 61 ∷ []
-
-abbrev pub LOC : List ℕ
-LOC = 108 ∷ 111 ∷ 99 ∷ 61 ∷ []
 
 -- the words of a rest are the line's, with these two keys among them
 unfoldable pub bothOf : List ℕ → Keys → List ℕ → List ℕ → Bool

@@ -1,7 +1,7 @@
--- By what the callee ensures of each area. Assumes nothing.
+-- By what the callees ensure of each area. Assumes nothing.
+use Rattle.blockdisk.specs.Form.{tableRecordChecked, tablesChecked}
 use borrow.Author.Needs.{needs}
 use Rattle.disk.proofs.form.tables_ok.Statement.{statement}
-use Rattle.blockdisk.specs.Form.{tablesChecked}
 use Rattle.disk.proofs.form.tables_ok.Tie as tie
 
 array-copy-out-first : tie.Need-array-copy-out-first
@@ -10,15 +10,40 @@ array-copy-out-first c = search needs
 array-copy-out-second : tie.Need-array-copy-out-second
 array-copy-out-second c = search needs
 
-table-record-ok-requires : tie.Need-table-record-ok-requires
-table-record-ok-requires c κs = search needs
+table-form-requires : tie.Need-table-form-requires
+table-form-requires c κs = search needs
 
-table-record-ok-requires-2 : tie.Need-table-record-ok-requires-2
-table-record-ok-requires-2 c κs = search needs
+table-form-requires-2 : tie.Need-table-form-requires-2
+table-form-requires-2 c κs = search needs
+
+table-record-form-requires : tie.Need-table-record-form-requires
+table-record-form-requires c κs = search needs
+
+table-record-form-requires-2 : tie.Need-table-record-form-requires-2
+table-record-form-requires-2 c κs = search needs
+
+table-record-placed-requires : tie.Need-table-record-placed-requires
+table-record-placed-requires c κs = search needs
+
+table-record-placed-requires-2 : tie.Need-table-record-placed-requires-2
+table-record-placed-requires-2 c κs = search needs
 
 returns : tie.Need-returns
-unfolding tablesChecked
-returns c = simp (c .before .before .before .before .table-record-ok2 .ensures, c .before .before .before .before .before .table-record-ok .ensures)
+unfolding tableRecordChecked tablesChecked
+returns c =
+    let c1 = c .before in
+    let c2 = c1 .before in
+    let c3 = c2 .before in
+    let c4 = c3 .before in
+    let c5 = c4 .before in
+    simp (
+      c .table-record-placed2 .ensures,
+      c1 .table-record-placed .ensures,
+      c2 .table-record-form2 .ensures,
+      c3 .table-record-form .ensures,
+      c4 .table-form2 .ensures,
+      c5 .table-form .ensures,
+    )
 
 pub tables-ok-spec : {M : Type 1} → statement M
 tables-ok-spec =
@@ -26,6 +51,10 @@ tables-ok-spec =
     (tie.spec
     array-copy-out-first
     array-copy-out-second
-    table-record-ok-requires
-    table-record-ok-requires-2
+    table-form-requires
+    table-form-requires-2
+    table-record-form-requires
+    table-record-form-requires-2
+    table-record-placed-requires
+    table-record-placed-requires-2
     returns)
