@@ -1,9 +1,10 @@
 // The disk's one written form (number 1): each record in its own form and place, each queue in its form with places that 16 allows.
 ghost use mathlib.Core.Bool.{_&&_, _||_, not};
 ghost use mathlib.Core.Path.{_≡_};
+ghost use Prim.Native.Nat.{ℕ, _<_};
 ghost use lib.Dec.{eqb};
 ghost use Rattle.disklayout.specs.Blocks.{TablePlaceIn};
-ghost use Rattle.disklayout.specs.Calls.{flag};
+ghost use Rattle.disklayout.specs.Calls.{flag, runningOn};
 ghost use Rattle.disklayout.specs.Device.{deviceOf};
 ghost use Rattle.sectortype.specs.Form.{locZero};
 ghost use Rattle.blockdisk.specs.Form.{nodeRecordChecked, tablesChecked, nodesChecked, recordsChecked, tableAllowed, tableRequestOk, nodeRequestOk, tableQueueForm, nodeQueueForm, queuesForm};
@@ -37,19 +38,19 @@ fn table_record_placed(device: u64, k: u64, there: bool, loc: Location) -> bool
     allowed.yes
 }
 
-// One record of node block k.
-fn node_record_ok(device: u64, k: u64, r: NodeRecord) -> Checked
-    ensures { λ c. ⌜ c ≡ nodeRecordChecked device k r ⌝ }
+// One record, of whichever of the 128 blocks begins at `at`.
+fn node_record_ok(device: u64, at: u64, r: NodeRecord) -> Checked
+    ensures { λ c. ⌜ ((k : ℕ) → k < 128 → at ≡ runningOn device k → c ≡ nodeRecordChecked device k r) ⌝ }
 {
     let there = r.present;
     let loc = r.loc;
     let node = r.node;
     let form = sector::node_form(node);
     if there {
-        let allowed = layout::node_place_in(device, k, loc);
+        let may = layout::node_place_length(device, loc.len);
         return Checked {
             form,
-            placed: allowed.yes,
+            placed: (loc.addr == at) & may.yes,
         };
     }
     let zero = sector::node_zero(node);
@@ -81,17 +82,22 @@ fn tables_ok(device: u64, tables: [TableRecord; 2]) -> Checked
     }
 }
 
+// The walk keeps a running address: the first node address, and a block's size more at each record, both as `layout` gives them.
 fn nodes_ok(device: u64, nodes: [NodeRecord; 128]) -> Checked
     ensures { λ c. ⌜ c ≡ nodesChecked device nodes ⌝ }
 {
+    let first = layout::first_node_addr(device);
+    let size = layout::node_block_size(device);
+    let mut at = first.value;
     let mut form = true;
     let mut placed = true;
     let mut i: usize = 0;
     while i < 128 {
         let r = nodes[i];
-        let c = node_record_ok(device, i as u64, r);
+        let c = node_record_ok(device, at, r);
         form = form & c.form;
         placed = placed & c.placed;
+        at += size.value;
         i += 1;
     }
     Checked { form, placed }

@@ -8,5 +8,6 @@ pub mod PlaceKinds
 pub mod Places
 pub mod Ranges
 pub mod Results
+pub mod RunningAddr
 pub mod TableAreas
 pub mod Zones

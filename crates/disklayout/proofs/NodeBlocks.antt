@@ -1,20 +1,18 @@
 -- The 128 node blocks: an address decides its block and the reverse, for any good row. Assumes nothing.
 use mathlib.Core.Path.{_≡_, refl, sym, ap, _∙_}
-use mathlib.Core.Bool.{true, false, _&&_, and-false}
+use mathlib.Core.Bool.{true, _&&_, not, and-false}
 use mathlib.Core.Logic.{_↔_}
 use mathlib.Core.Option.{some}
 use Prim.Native.Nat.{ℕ, _+_, _-_, _*_, _/_, _^_, _<_, _≤_}
 use native.Mathlib.Nat.{div-add-mod', mul-comm, add-mul, le-div-iff-mul-le, mul-add-div, mul-div-cancel, mul-le-mul-right, add-mul-mod-self-right, mul-mod-right}
 use native.Mathlib.Omega.{arith}
-use lib.Dec.{ltb}
-use borrow.Author.Tests.{lt-ltb, le-ltb}
-use Rattle.base.specs.Maps.{flagged}
+use lib.Dec.{eqb, ltb}
+use borrow.Author.Tests.{lt-ltb, le-ltb, ltb-true, ltb-false}
+use Rattle.base.specs.Maps.{isSome, flagged}
 use Rattle.base.proofs.Maps.{flagged-some}
-use Rattle.base.proofs.Tests.{tests}
+use Rattle.base.proofs.Tests.{split, tests}
 use Rattle.disklayout.specs.declared.Device.{Device}
 use Rattle.disklayout.specs.declared.Location.{Location}
-use Rattle.disklayout.specs.declared.NumberOption.{NumberOption}
-use Rattle.disklayout.specs.Calls.{numberOptionWhen}
 use Rattle.disklayout.specs.Device.{Good}
 use Rattle.disklayout.specs.Layout.{ValidNodeAddr, ValidNodeLocation, overlap}
 use Rattle.disklayout.specs.Blocks.{NodeBlockAddr, NodeBlocksEnd, NodeBlockOf, NodePlaceIn, NodePlace}
@@ -26,7 +24,7 @@ module _ (w : Device) (g : Good w) where
   block-pos = omega (arith, g .sized)
 
   -- a valid node address lies in block first or later
-  pub first-le : (a : ℕ) → ValidNodeAddr w a ≡ true → w .first ≤ a / w .block
+  first-le : (a : ℕ) → ValidNodeAddr w a ≡ true → w .first ≤ a / w .block
   first-le a v =
       let n = node-addr-iff w a .0 v in
       le-div-iff-mul-le block-pos .1 (rw (mul-comm (w .first) (w .block)) (n .high))
@@ -84,24 +82,26 @@ module _ (w : Device) (g : Good w) where
           let q : number ≡ k = ap (λ x. x / w .block - w .first) (h .1) ∙ block-number k in
           rw (q, v, lt-ltb k 128 (h .0))
 
-  -- the code's arms
-  pub block-found : (a : ℕ) → ValidNodeAddr w a ≡ true → a / w .block - w .first < 128 →
-      _≡_ {A = NumberOption} (record { answer = 0; exists = true; value = a / w .block - w .first }) (numberOptionWhen true (NodeBlockOf w a))
-  unfolding NodeBlockOf
-  block-found a v h = rw (v, lt-ltb (a / w .block - w .first) 128 h)
-
-  pub block-far : (a : ℕ) → 128 ≤ a / w .block - w .first →
-      _≡_ {A = NumberOption} (record { answer = 0; exists = false; value = 0 }) (numberOptionWhen true (NodeBlockOf w a))
-  unfolding NodeBlockOf
-  block-far a h = rw (le-ltb (a / w .block - w .first) 128 h, and-false (ValidNodeAddr w a))
-
-  pub block-invalid : (a : ℕ) → ValidNodeAddr w a ≡ false →
-      _≡_ {A = NumberOption} (record { answer = 0; exists = false; value = 0 }) (numberOptionWhen true (NodeBlockOf w a))
-  unfolding NodeBlockOf
-  block-invalid a f = rw f
-
   pub node-block-addr : (k : ℕ) → k < 128 → NodeBlockOf w (NodeBlockAddr w k) ≡ some k
   node-block-addr k h = node-block-iff (NodeBlockAddr w k) k .1 (h, refl)
+
+  -- a node address is that of one of the blocks exactly if it lies before their end
+  pub block-before-end : (a : ℕ) → ValidNodeAddr w a ≡ true → isSome (NodeBlockOf w a) ≡ ltb a (NodeBlocksEnd w)
+  unfolding NodeBlockOf
+  block-before-end a v =
+      let k = a / w .block - w .first in
+      let e : a ≡ NodeBlockAddr w k = addr-of a v in
+      rw v (split (ltb k 128)
+      (λ t. rw (t, lt-ltb a (NodeBlocksEnd w) (omega (arith, block-pos, block-ends k (ltb-true k 128 t)))))
+      (λ f. rw (f, le-ltb a (NodeBlocksEnd w) (omega (arith, mul-le-mul-right (w .block) (ltb-false k 128 f))))))
+
+  -- so refusal 16 needs no block, only their end
+  pub node-place-test : (l : Location) → NodePlace w l ≡ (ltb (l .addr) (NodeBlocksEnd w) && ValidNodeLocation w l && not (eqb (l .len) 0))
+  unfolding NodePlace ValidNodeLocation
+  node-place-test l =
+      split (ValidNodeAddr w (l .addr))
+      (λ t. rw (block-before-end (l .addr) t))
+      (λ f. rw (f, and-false (isSome (NodeBlockOf w (l .addr))), and-false (ltb (l .addr) (NodeBlocksEnd w))))
 
   -- what it is to be a place of block k
   pub node-place-in-iff : (k : ℕ) (l : Location) →

@@ -5,23 +5,22 @@ use mathlib.Core.List.{List, [], _∷_}
 use mathlib.Core.Logic.{_⊎_, _↔_}
 use Prim.Native.Nat.{ℕ, zero, suc, _<_, _≤_}
 use native.Mathlib.Omega.{arith}
-use lib.Dec.{eqb}
+use lib.Dec.{eqb, leb}
 use lib.ListN.{getD}
 use borrow.Author.Tests.{eq-eqb, ne-eqb, eqb-true, eqb-false}
 use Rattle.base.proofs.Tests.{split, and-iff, not-true-iff, or-cases, bool-ext}
 use Rattle.disklayout.specs.declared.Device.{Device}
-use Rattle.disklayout.specs.declared.Kind.{Kind}
 use Rattle.disklayout.specs.declared.Kind.the-variants.{Superblock1, Superblock2, Journal, Table, Node, None}
 use Rattle.disklayout.specs.declared.Location.{Location}
 use Rattle.disklayout.specs.declared.PlaceKind.{PlaceKind}
 use Rattle.disklayout.specs.Blocks.{FirstNodeAddr}
 use Rattle.disklayout.specs.Calls.{placeKind, flag}
 use Rattle.disklayout.specs.Device.{Good, made, deviceOf}
-use Rattle.disklayout.specs.Kinds.{kindOf, kindNumber, validities, noneHolds, kthHolds}
-use Rattle.disklayout.specs.Layout.{JournalStartAddr, Superblock1Location, Superblock2Location, ValidSuperblockLocation, ValidLocation, sameLoc, overlap}
-use Rattle.disklayout.specs.Layout.{ValidSuperblock1Location, ValidSuperblock2Location, ValidJournalLocation, ValidIndirectionTableLocation, ValidNodeLocation}
+use Rattle.disklayout.specs.Kinds.{kindOf, kindAtNode, kindNumber, validities, noneHolds, kthHolds}
+use Rattle.disklayout.specs.Layout.{JournalStartAddr, NodeBlockSize, Superblock1Location, Superblock2Location, ValidSuperblockLocation, ValidLocation, sameLoc, overlap}
+use Rattle.disklayout.specs.Layout.{ValidSuperblock1Location, ValidSuperblock2Location, ValidJournalLocation, ValidIndirectionTableLocation, ValidNodeAddr, ValidNodeLocation}
 use Rattle.disklayout.proofs.Devices.{device-good}
-use Rattle.disklayout.proofs.Facts.{refuted, superblock1-iff, superblock2-iff}
+use Rattle.disklayout.proofs.Facts.{refuted, node-addr-iff, superblock1-iff, superblock2-iff}
 use Rattle.disklayout.proofs.Zones.{ValidAs, zones-apart, zones-exclude, below-journal, past-first, past-superblocks, before-nodes}
 
 -- of a list in which none holds, no one does
@@ -155,9 +154,19 @@ module _ (w : Device) (g : Good w) where
     unfolding kindOf
     kind-high h = rw (past-first w g l h 0 (omega arith), past-first w g l h 1 (omega arith), past-first w g l h 2 (omega arith), past-first w g l h 3 (omega arith))
 
+    -- at a node address the length decides
+    pub kind-at-node : ValidNodeAddr w (l .addr) ≡ true → kindOf w l ≡ kindAtNode w (l .len)
+    unfolding ValidNodeLocation
+    kind-at-node v = rw (kind-high (node-addr-iff w (l .addr) .0 v .high), v)
+
     pub kind-between : JournalStartAddr ≤ l .addr → l .addr < FirstNodeAddr w → kindOf w l ≡ cond (ValidJournalLocation w l) Journal (cond (ValidIndirectionTableLocation w l) Table None)
     unfolding kindOf
     kind-between h k = rw (past-superblocks w g l h 0 (omega arith), past-superblocks w g l h 1 (omega arith), before-nodes w l k)
+
+-- the kind at a node address has a node's number exactly if the length is no more than a block
+pub at-node-number : (w : Device) (n : ℕ) → eqb (kindNumber (kindAtNode w n)) 5 ≡ leb n (NodeBlockSize w)
+unfolding kindNumber
+at-node-number w n = split (leb n (NodeBlockSize w)) (λ t. rw t) (λ f. rw f)
 
 -- what ValidSuperblockLocation ensures
 pub superblock-cases : (l : Location) → ValidSuperblockLocation l ≡ true → (ValidSuperblock1Location l ≡ true) ⊎ (ValidSuperblock2Location l ≡ true)

@@ -1,8 +1,8 @@
--- Document 01's own: the 128 node blocks, the two table areas, and the places that each may hold (refusal 16).
+-- Document 01's own: the 128 node blocks, the two table areas, and the places that each may hold (refusal 16); and document 02's running address.
 use mathlib.Core.Bool.{Bool, _&&_, not, cond}
 use mathlib.Core.Option.{Option, some, none}
-use Prim.Native.Nat.{ℕ, _+_, _-_, _*_, _/_}
-use lib.Dec.{eqb, ltb}
+use Prim.Native.Nat.{ℕ, zero, suc, _+_, _-_, _*_, _/_}
+use lib.Dec.{eqb, leb, ltb}
 use Rattle.base.specs.Maps.{isSome, flagged}
 use Rattle.disklayout.specs.declared.Device.{Device}
 use Rattle.disklayout.specs.declared.Location.{Location}
@@ -15,6 +15,12 @@ FirstNodeAddr w = NodeBlockSize w * MinNodeBlockIndex w
 -- the address of node block k
 abbrev pub NodeBlockAddr : Device → ℕ → ℕ
 NodeBlockAddr w k = FirstNodeAddr w + k * NodeBlockSize w
+
+-- document 02's running address, which a walk over the blocks keeps: the first node address at block 0, and a block's size more at each block
+-- after it. It is the first node address plus block number times block size (`running-addr`, proofs/RunningAddr.antt)
+unfoldable pub runningAddr : Device → ℕ → ℕ
+runningAddr w zero = FirstNodeAddr w
+runningAddr w (suc k) = runningAddr w k + NodeBlockSize w
 
 -- where the last of the 128 blocks ends
 abbrev pub NodeBlocksEnd : Device → ℕ
@@ -40,6 +46,10 @@ TableAreaOf w a =
 unfoldable pub NodePlaceIn : Device → ℕ → Location → Bool
 NodePlaceIn w k l =
     ltb k 128 && eqb (l .addr) (NodeBlockAddr w k) && ValidNodeLocation w l && not (eqb (l .len) 0)
+
+-- how long a place of a node block may be: at the block's address the length decides (`place-at`, proofs/RunningAddr.antt)
+unfoldable pub NodePlaceLength : Device → ℕ → Bool
+NodePlaceLength w n = leb n (NodeBlockSize w) && not (eqb n 0)
 
 -- the places of table area k
 unfoldable pub TablePlaceIn : Device → ℕ → Location → Bool

@@ -13,7 +13,8 @@ use Rattle.disklayout.specs.declared.NumberOption.{NumberOption}
 use Rattle.disklayout.specs.declared.Place.{Place}
 use Rattle.disklayout.specs.declared.PlaceKind.{PlaceKind}
 use Rattle.disklayout.specs.declared.PlaceOption.{PlaceOption}
-use Rattle.disklayout.specs.Device.{made}
+use Rattle.disklayout.specs.Blocks.{runningAddr}
+use Rattle.disklayout.specs.Device.{deviceOf, made}
 
 abbrev pub zeroLoc : Location
 zeroLoc = record { addr = 0; len = 0 }
@@ -63,6 +64,11 @@ placeKind d k = placeKindWhen (made d) k
 
 abbrev pub numberOption : ℕ → Option ℕ → NumberOption
 numberOption d o = numberOptionWhen (made d) o
+
+-- the running address of a walk over a device's blocks, which begins at what `first_node_addr` gives and grows by what `node_block_size` gives:
+-- 0 at each block where the device is not made
+abbrev pub runningOn : ℕ → ℕ → ℕ
+runningOn d k = number d (runningAddr (deviceOf d) k) .value
 
 -- CALLS THAT ASK FOR `pre` TOO
 

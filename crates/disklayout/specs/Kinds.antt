@@ -2,12 +2,13 @@
 use mathlib.Core.Bool.{Bool, true, false, _&&_, not, cond}
 use mathlib.Core.List.{List, [], _∷_}
 use Prim.Native.Nat.{ℕ, zero, suc}
+use lib.Dec.{leb}
 use lib.ListN.{getD}
 use Rattle.disklayout.specs.declared.Device.{Device}
 use Rattle.disklayout.specs.declared.Kind.{Kind}
 use Rattle.disklayout.specs.declared.Kind.the-variants.{Superblock1, Superblock2, Journal, Table, Node, None}
 use Rattle.disklayout.specs.declared.Location.{Location}
-use Rattle.disklayout.specs.Layout.{ValidSuperblock1Location, ValidSuperblock2Location, ValidJournalLocation, ValidIndirectionTableLocation, ValidNodeLocation}
+use Rattle.disklayout.specs.Layout.{NodeBlockSize, ValidSuperblock1Location, ValidSuperblock2Location, ValidJournalLocation, ValidIndirectionTableLocation, ValidNodeLocation}
 
 -- the first kind whose predicate holds, or none; on a good row at most one predicate does
 unfoldable pub kindOf : Device → Location → Kind
@@ -18,6 +19,10 @@ kindOf w l =
     (cond (ValidIndirectionTableLocation w l) Table
     (cond (ValidNodeLocation w l) Node
     None))))
+
+-- the kind of a place of length n at a node address (`kind-at-node`, in proofs/PlaceKinds.antt)
+abbrev pub kindAtNode : Device → ℕ → Kind
+kindAtNode w n = cond (leb n (NodeBlockSize w)) Node None
 
 -- document 02's number of each kind
 unfoldable pub kindNumber : Kind → ℕ

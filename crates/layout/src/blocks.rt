@@ -6,15 +6,16 @@ ghost use lib.Dec.{ltb};
 ghost use Rattle.disklayout.specs.Calls.{number, numberIf, numberOptionWhen, numberOption, flag};
 ghost use Rattle.disklayout.specs.Device.{Good, deviceOf};
 ghost use Rattle.disklayout.specs.Blocks.{FirstNodeAddr, NodeBlockAddr, NodeBlocksEnd, NodeBlockOf};
-ghost use Rattle.disklayout.specs.Blocks.{TableAreaAddr, TableAreaOf, NodePlaceIn, TablePlaceIn, NodePlace};
+ghost use Rattle.disklayout.specs.Blocks.{TableAreaAddr, TableAreaOf, NodePlaceLength, TablePlaceIn, NodePlace};
 use crate::answers::flag_when;
 use crate::answers::number_when;
 use crate::areas::first_node;
-use crate::areas::is_node_addr;
 use crate::areas::table1;
 use crate::areas::table2;
 use crate::kinds::NODE_KIND;
 use crate::kinds::TABLE_KIND;
+use crate::kinds::kind_at_node;
+use crate::kinds::kind_number;
 use crate::kinds::number_in;
 use crate::rows::row;
 use disklayout::Device;
@@ -42,20 +43,27 @@ fn area_addr(w: Device, k: u64) -> u64
     table1(w) + k * w.table
 }
 
+// The walk from block 0 keeps a running address: the first node address, and a block's size more at each try. It is left at the block found, or
+// once the running address is past the one asked for. At a try no product and no quotient is taken (document 02, Q-4).
 fn block_of(w: Device, addr: u64) -> NumberOption
     requires { ⌜ Good w ⌝ }
     ensures { λ r. ⌜ r ≡ numberOptionWhen true (NodeBlockOf w addr) ⌝ }
 {
-    let valid = is_node_addr(w, addr);
-    if valid {
-        let k = addr / w.block - w.first;
-        if k < BLOCKS {
+    let mut at = first_node(w);
+    let mut k: u64 = 0;
+    while k < BLOCKS {
+        if addr <= at {
+            if addr < at {
+                break;
+            }
             return NumberOption {
                 answer: 0,
                 exists: true,
                 value: k,
             };
         }
+        at += w.block;
+        k += 1;
     }
     NumberOption {
         answer: 0,
@@ -91,16 +99,13 @@ fn area_of(w: Device, addr: u64) -> NumberOption
     }
 }
 
-fn is_node_place_in(w: Device, k: u64, loc: Location) -> bool
-    requires { ⌜ Good w ⌝ }
-    ensures { λ r. ⌜ r ≡ NodePlaceIn w k loc ⌝ }
+// For a walk over the blocks, which has the address of each.
+fn is_node_place_length(w: Device, len: u64) -> bool
+    ensures { λ r. ⌜ r ≡ NodePlaceLength w len ⌝ }
 {
-    if k < BLOCKS {
-        let addr = block_addr(w, k);
-        let kind = number_in(w, loc);
-        return (loc.addr == addr) & (kind == NODE_KIND) & (loc.len != 0);
-    }
-    false
+    let kind = kind_at_node(w, len);
+    let number = kind_number(kind);
+    (number == NODE_KIND) & (len != 0)
 }
 
 fn is_table_place_in(w: Device, k: u64, loc: Location) -> bool
@@ -115,16 +120,14 @@ fn is_table_place_in(w: Device, k: u64, loc: Location) -> bool
     false
 }
 
+// Whether a node's place lies in one of the blocks is told by their end: no block is looked for.
 fn is_node_place(w: Device, loc: Location) -> bool
     requires { ⌜ Good w ⌝ }
     ensures { λ r. ⌜ r ≡ NodePlace w loc ⌝ }
 {
     let kind = number_in(w, loc);
-    if kind != NODE_KIND {
-        return false;
-    }
-    let block = block_of(w, loc.addr);
-    block.exists & (loc.len != 0)
+    let end = block_addr(w, BLOCKS);
+    (loc.addr < end) & (kind == NODE_KIND) & (loc.len != 0)
 }
 
 pub fn first_node_addr(device: u64) -> Number
@@ -188,11 +191,11 @@ pub fn table_area_of(device: u64, addr: u64) -> NumberOption
     }
 }
 
-pub fn node_place_in(device: u64, k: u64, loc: Location) -> Flag
-    ensures { λ r. ⌜ r ≡ flag device (NodePlaceIn (deviceOf device) k loc) ⌝ }
+pub fn node_place_length(device: u64, len: u64) -> Flag
+    ensures { λ r. ⌜ r ≡ flag device (NodePlaceLength (deviceOf device) len) ⌝ }
 {
     let w = row(device);
-    let yes = is_node_place_in(w, k, loc);
+    let yes = is_node_place_length(w, len);
     flag_when(device <= 2, yes)
 }
 

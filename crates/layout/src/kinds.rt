@@ -1,11 +1,11 @@
 // What a place is (document 02, Q-5): the one question that stands for upstream's five, over any good row and as a call. The tests of single
-// kinds are private: whoever wants to know what a place is asks for its kind.
+// kinds are private: whoever wants to know what a place is asks for its kind, a walk over the blocks for the kind at a node address.
 ghost use mathlib.Core.Path.{_≡_};
 ghost use lib.Dec.{eqb};
 ghost use Rattle.disklayout.specs.Calls.{placeKind, flag};
 ghost use Rattle.disklayout.specs.Device.{Good, deviceOf};
-ghost use Rattle.disklayout.specs.Kinds.{kindOf, kindNumber};
-ghost use Rattle.disklayout.specs.Layout.{ValidJournalLocation, ValidIndirectionTableLocation, ValidNodeLocation};
+ghost use Rattle.disklayout.specs.Kinds.{kindOf, kindAtNode, kindNumber};
+ghost use Rattle.disklayout.specs.Layout.{ValidJournalLocation, ValidIndirectionTableLocation};
 ghost use Rattle.disklayout.specs.Layout.{ValidSuperblockLocation, ValidLocation};
 use crate::answers::flag_when;
 use crate::answers::kind_when;
@@ -79,12 +79,16 @@ fn is_table(w: Device, loc: Location) -> bool
     there & (0 < loc.len) & (loc.len <= w.table)
 }
 
-fn is_node(w: Device, loc: Location) -> bool
-    requires { ⌜ Good w ⌝ }
-    ensures { λ r. ⌜ r ≡ ValidNodeLocation w loc ⌝ }
+// The kind of a place of this length at a node address. Who has come upon the address by a walk over the blocks asks this: the address isn't
+// tested again, and no remainder is taken.
+pub(crate) fn kind_at_node(w: Device, len: u64) -> Kind
+    ensures { λ r. ⌜ r ≡ kindAtNode w len ⌝ }
 {
-    let there = is_node_addr(w, loc.addr);
-    there & (loc.len <= w.block)
+    if len <= w.block {
+        Kind::Node
+    } else {
+        Kind::None
+    }
 }
 
 // The kinds lie one behind the other on a device, so the address leaves one or two of them to be tested. A place of zeros, as a table's
@@ -104,8 +108,11 @@ pub(crate) fn kind_in(w: Device, loc: Location) -> Kind
     }
     let first = first_node(w);
     if first <= loc.addr {
-        let node = is_node(w, loc);
-        return if node { Kind::Node } else { Kind::None };
+        let node = is_node_addr(w, loc.addr);
+        if node {
+            return kind_at_node(w, loc.len);
+        }
+        return Kind::None;
     }
     let journal = is_journal(w, loc);
     if journal {

@@ -18,7 +18,7 @@ pub use blocks::node_block_addr;
 pub use blocks::node_block_of;
 pub use blocks::node_blocks_end;
 pub use blocks::node_place;
-pub use blocks::node_place_in;
+pub use blocks::node_place_length;
 pub use blocks::table_area_of;
 pub use blocks::table_place_in;
 pub use calls::indirection_table_max_length;

@@ -37,52 +37,44 @@ pub fn sizes(line: u64, cache: CacheState) {
     print::text(b"\n");
 }
 
-// The block that begins at this address; 128 where none does.
-fn block_at(device: u64, addr: u64) -> usize {
-    let found = layout::node_block_of(device, addr);
-    let k = found.value;
-    if !found.exists {
-        return 128;
-    }
-    if k > 127 {
-        return 128;
-    }
-    let begins = layout::node_block_addr(device, k);
-    if begins.value != addr {
-        return 128;
-    }
-    k as usize
-}
-
-// The blocks whose address a location of the table has.
-fn located(device: u64, t: Table) -> [bool; 128] {
-    let mut marks = [false; 128];
+// The address of each reference's location; 0, at which no node block of a device that is made begins, where the reference has none.
+fn located(t: Table) -> [u64; 64] {
+    let mut addrs: [u64; 64] = [0; 64];
     let mut i: usize = 0;
     while i < 64 {
         let e = t.entries[i];
-        let k = block_at(device, e.loc.addr);
-        if k < 128 {
-            marks[k] = marks[k] | e.located;
+        if e.located {
+            addrs[i] = e.loc.addr;
         }
         i += 1;
     }
-    marks
+    addrs
 }
 
-// The blocks whose address an outstanding request has.
-fn requested(device: u64, q: Requests) -> [bool; 128] {
+// The address of each outstanding request; 0 where a place of the queue is not used.
+fn requested(q: Requests) -> [u64; 16] {
     let count = q.count as usize;
-    let mut marks = [false; 128];
+    let mut addrs: [u64; 16] = [0; 16];
     let mut i: usize = 0;
     while i < 16 {
         let r = q.at[i];
-        let k = block_at(device, r.loc.addr);
-        if k < 128 {
-            marks[k] = marks[k] | (i < count);
+        if i < count {
+            addrs[i] = r.loc.addr;
         }
         i += 1;
     }
-    marks
+    addrs
+}
+
+// Whether one of the addresses is `at`.
+fn has(addrs: &[u64], at: u64) -> bool {
+    let mut hit = false;
+    let mut i: usize = 0;
+    while i < addrs.len() {
+        hit = hit | (addrs[i] == at);
+        i += 1;
+    }
+    hit
 }
 
 // The letter of a block: w, p, e, f say whether an outstanding write, the persistent, the ephemeral and the frozen table have
@@ -109,37 +101,41 @@ fn letter(w: bool, p: bool, e: bool, f: bool, o: bool) -> u8 {
     b'.'
 }
 
-// A letter for each block, by who has its address: outside Ready only what is stored counts.
+// A letter for each block, by who has its address: outside Ready only what is stored counts. The walk keeps a running address.
 fn letters(device: u64, cache: CacheState, disk: DiskState) -> [u8; 128] {
     let phase = cache.phase;
     let ready = is_ready(phase);
     let tables = cache.tables;
     let records = disk.records;
     let frozen = ready & tables.isfrozen;
-    let w = requested(device, cache.outstanding.writes);
-    let p = located(device, tables.persistent);
-    let e = located(device, tables.ephemeral);
-    let f = located(device, tables.frozen);
-    let mut at = [b'.'; 128];
+    let w = requested(cache.outstanding.writes);
+    let p = located(tables.persistent);
+    let e = located(tables.ephemeral);
+    let f = located(tables.frozen);
+    let first = layout::first_node_addr(device);
+    let size = layout::node_block_size(device);
+    let mut at = first.value;
+    let mut row = [b'.'; 128];
     let mut k: usize = 0;
     while k < 128 {
         let r = records.nodes[k];
-        at[k] = letter(
-            ready & w[k],
-            ready & p[k],
-            ready & e[k],
-            frozen & f[k],
+        row[k] = letter(
+            ready & has(&w, at),
+            ready & has(&p, at),
+            ready & has(&e, at),
+            frozen & has(&f, at),
             r.present,
         );
+        at += size.value;
         k += 1;
     }
-    at
+    row
 }
 
 pub fn blocks(line: u64, device: u64, cache: CacheState, disk: DiskState) {
-    let at = letters(device, cache, disk);
+    let row = letters(device, cache, disk);
     print::word(b"line=", line);
     print::text(b" blocks=");
-    print::text(&at);
+    print::text(&row);
     print::text(b"\n");
 }

@@ -1,29 +1,76 @@
--- By the tests on the way, what the callees ensure and the laws of the layout. Assumes nothing.
-use mathlib.Core.Path.{sym, _∙_}
-use Rattle.disklayout.proofs.NodeBlocks.{first-le, block-found, block-far, block-invalid}
+-- At each try the running address is the first node address plus block number times block size (`runningAddr`, `running-addr`), and no block
+-- before has the address asked for. Assumes nothing.
+use Prim.Native.Nat.{_+_, _-_, _<_, _≤_}
+use mathlib.Core.Path.{_≡_, ap, _∙_}
+use native.Mathlib.Omega.{arith}
 use borrow.Author.Needs.{needs}
+use Rattle.disklayout.specs.Blocks.{runningAddr}
+use Rattle.disklayout.proofs.RunningAddr.{Missed, missed-none, missed-turn, missed-past, running-first, running-next, running-fits, walk-found, walk-none}
 use Rattle.layout.proofs.blocks.block_of.Statement.{statement}
 use Rattle.layout.proofs.blocks.block_of.Tie as tie
 
-is-node-addr-requires : tie.Need-is-node-addr-requires
-is-node-addr-requires c κs = c .pre
+abbrev Inv-loop : tie.InvT-loop
+Inv-loop w addr at₀ k₀ at k = (k ≤ 128) × (at ≡ runningAddr w k) × Missed w addr k
 
-div-k : tie.Need-div-k
-div-k c = search needs
+abbrev μ-loop : tie.MeasureT-loop
+μ-loop w addr at₀ k₀ at k = 128 - k
 
-sub-k : tie.Need-sub-k
-sub-k c =
-    first-le _ (c .before .before .before .before .pre) _ (sym (c .before .before .before .is-node-addr .ensures) ∙ c .before .before .if1 .taken)
+first-node-requires : tie.Need-first-node-requires Inv-loop μ-loop
+first-node-requires c κs = c .pre
 
-returns : tie.Need-returns
+loop-holds : tie.Need-loop-holds Inv-loop μ-loop
+loop-holds c = (search needs, c .first-node .ensures ∙ running-first _, missed-none _ _)
+
+returns : tie.Need-returns Inv-loop μ-loop
 returns c =
-    block-found _ (c .before .before .before .before .before .pre) _ (sym (c .before .before .before .before .is-node-addr .ensures) ∙ c .before .before .before .if1 .taken) (c .if2 .taken)
+    let n = c .before .before in
+    let at = n .before in
+    let here : at .before .before .args .addr ≡ at .loop .at = omega (arith, c .before .if1 .taken, c .if2 .left) in
+    walk-found _ (at .before .before .pre) _ _ (omega (arith, n .loop-test .taken)) (here ∙ at .loop .inv .1)
 
-returns-2 : tie.Need-returns-2
-returns-2 c = block-far _ (c .before .before .before .before .before .pre) _ (c .if2 .left)
+add-at : tie.Need-add-at Inv-loop μ-loop
+add-at c =
+    let at = c .before .before .before in
+    record { fits = rw (at .loop .inv .1, running-next (at .before .before .args .w) (at .loop .k)) (running-fits _ (at .before .before .pre) _ (search needs)) }
 
-returns-3 : tie.Need-returns-3
-returns-3 c = block-invalid _ (c .before .before .pre) _ (sym (c .before .is-node-addr .ensures) ∙ c .if1 .left)
+add-k : tie.Need-add-k Inv-loop μ-loop
+add-k c = search needs
+
+loop-less : tie.Need-loop-less Inv-loop μ-loop
+loop-less c = search needs
+
+loop-again : tie.Need-loop-again Inv-loop μ-loop
+loop-again c =
+    let at = c .before .before .before in
+    let w = at .before .before .args .w in
+    let v = at .loop .inv in
+    let below : at .loop .at < at .before .before .args .addr = c .before .if1 .left in
+    (search needs, ap (λ a. a + w .block) (v .1) ∙ running-next w (at .loop .k), missed-turn _ _ _ (v .2) (v .1) (λ e. omega (arith, below)))
+
+returns-2 : tie.Need-returns-2 Inv-loop μ-loop
+returns-2 c =
+    let at = c .before in
+    walk-none _ (at .before .before .pre) _ (λ j b. at .loop .inv .2 j (omega (arith, c .loop-test .left)))
+
+returns-3 : tie.Need-returns-3 Inv-loop μ-loop
+returns-3 c =
+    let at = c .before .before .before in
+    let v = at .loop .inv in
+    let past : at .before .before .args .addr < at .loop .at = omega (arith, c .if2 .taken) in
+    walk-none _ (at .before .before .pre) _ (missed-past _ _ _ (v .2) (rw (v .1) at past))
 
 pub block-of-spec : {M : Type 1} → statement M
-block-of-spec = tie.close (tie.spec is-node-addr-requires div-k sub-k returns returns-2 returns-3)
+block-of-spec =
+    tie.close
+    (tie.spec
+    Inv-loop
+    μ-loop
+    first-node-requires
+    loop-holds
+    returns
+    add-at
+    add-k
+    loop-less
+    loop-again
+    returns-2
+    returns-3)

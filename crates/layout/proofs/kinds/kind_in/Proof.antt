@@ -1,7 +1,7 @@
 -- By the address first, then by what the callees ensure. Assumes nothing.
 use mathlib.Core.Path.{sym, _∙_}
-use Rattle.disklayout.specs.Layout.{ValidSuperblock1Location, ValidSuperblock2Location}
-use Rattle.disklayout.proofs.PlaceKinds.{kind-low, kind-high, kind-between}
+use Rattle.disklayout.specs.Layout.{ValidSuperblock1Location, ValidSuperblock2Location, ValidNodeLocation}
+use Rattle.disklayout.proofs.PlaceKinds.{kind-low, kind-high, kind-at-node, kind-between}
 use borrow.Author.Needs.{needs}
 use Rattle.layout.proofs.kinds.kind_in.Statement.{statement}
 use Rattle.layout.proofs.kinds.kind_in.Tie as tie
@@ -40,22 +40,25 @@ returns-3 c =
 first-node-requires : tie.Need-first-node-requires
 first-node-requires c κs = search needs
 
-is-node-requires : tie.Need-is-node-requires
-is-node-requires c κs = search needs
+is-node-addr-requires : tie.Need-is-node-addr-requires
+is-node-addr-requires c κs = search needs
+
+kind-at-node-requires : tie.Need-kind-at-node-requires
+kind-at-node-requires c κs = search needs
 
 returns-4 : tie.Need-returns-4
 returns-4 c =
-    let c1 = c .before in
-    let c2 = c1 .before in
-    let c4 = c2 .before .before in
-    rw (kind-high _ (c4 .before .before .before .pre) (c4 .before .before .before .args .loc) (rw (c4 .first-node .ensures) at (c2 .if4 .taken)), sym (c1 .is-node .ensures) ∙ c .if5 .taken)
+    let c2 = c .before .before in
+    let c7 = c2 .before .before .before .before .before in
+    rw (kind-at-node _ (c7 .before .pre) (c7 .before .args .loc) (sym (c2 .is-node-addr .ensures) ∙ c .before .if5 .taken), c .kind-at-node .ensures)
 
 returns-5 : tie.Need-returns-5
+unfolding ValidNodeLocation
 returns-5 c =
     let c1 = c .before in
     let c2 = c1 .before in
     let c4 = c2 .before .before in
-    rw (kind-high _ (c4 .before .before .before .pre) (c4 .before .before .before .args .loc) (rw (c4 .first-node .ensures) at (c2 .if4 .taken)), sym (c1 .is-node .ensures) ∙ c .if5 .left)
+    rw (kind-high _ (c4 .before .before .before .pre) (c4 .before .before .before .args .loc) (rw (c4 .first-node .ensures) at (c2 .if4 .taken)), sym (c1 .is-node-addr .ensures) ∙ c .if5 .left)
 
 is-journal-requires : tie.Need-is-journal-requires
 is-journal-requires c κs = search needs
@@ -109,7 +112,8 @@ kind-in-spec =
     returns-2
     returns-3
     first-node-requires
-    is-node-requires
+    is-node-addr-requires
+    kind-at-node-requires
     returns-4
     returns-5
     is-journal-requires

@@ -1,4 +1,4 @@
--- Each turn passes an entry; the marks keep their length. Assumes nothing.
+-- Each turn passes an entry; the addresses keep their length. Assumes nothing.
 use Prim.Native.Nat.{_-_, _≤_}
 use mathlib.Core.Logic.{⊎-elim}
 use mathlib.Core.Path.{_≡_}
@@ -9,10 +9,10 @@ use Rattle.replay.proofs.show.located.Statement.{statement}
 use Rattle.replay.proofs.show.located.Tie as tie
 
 abbrev Inv-loop : tie.InvT-loop
-Inv-loop device t marks₀ i₀ marks i = (i ≤ 64) × (length marks ≡ 128)
+Inv-loop t addrs₀ i₀ addrs i = (i ≤ 64) × (length addrs ≡ 64)
 
 abbrev μ-loop : tie.MeasureT-loop
-μ-loop device t marks₀ i₀ marks i = 64 - i
+μ-loop t addrs₀ i₀ addrs i = 64 - i
 
 loop-holds : tie.Need-loop-holds Inv-loop μ-loop
 loop-holds c = (search needs, search needs)
@@ -23,14 +23,11 @@ mul-e c = search needs
 element-copy-out-e : tie.Need-element-copy-out-e Inv-loop μ-loop
 element-copy-out-e c = search needs
 
-block-at-requires : tie.Need-block-at-requires Inv-loop μ-loop
-block-at-requires c κs = search needs
+mul-addrs : tie.Need-mul-addrs Inv-loop μ-loop
+mul-addrs c = search needs
 
-array-read-marks : tie.Need-array-read-marks Inv-loop μ-loop
-array-read-marks c = search needs
-
-array-write-marks : tie.Need-array-write-marks Inv-loop μ-loop
-array-write-marks c = search needs
+array-write-addrs : tie.Need-array-write-addrs Inv-loop μ-loop
+array-write-addrs c = search needs
 
 add-i : tie.Need-add-i Inv-loop μ-loop
 add-i c = search needs
@@ -41,8 +38,8 @@ loop-less c = search needs
 loop-again : tie.Need-loop-again Inv-loop μ-loop
 loop-again c =
     ⊎-elim
-    (λ w. (omega arith, simp (w .2, length-set) (c .before .before .before .before .loop .inv .1)))
-    (λ w. (omega arith, simp (w .1) (c .before .before .before .before .loop .inv .1)))
+    (λ w. (omega arith, simp (w .1, length-set) (c .before .before .before .loop .inv .1)))
+    (λ w. (omega arith, simp (w .1) (c .before .before .before .loop .inv .1)))
     (c .if1 .came)
 
 returns : tie.Need-returns Inv-loop μ-loop
@@ -57,9 +54,8 @@ located-spec =
     loop-holds
     mul-e
     element-copy-out-e
-    block-at-requires
-    array-read-marks
-    array-write-marks
+    mul-addrs
+    array-write-addrs
     add-i
     loop-less
     loop-again
