@@ -1,0 +1,5 @@
+-- The laws of a range's parts, for any good row, and the theorem of the two together.
+pub mod Blocks
+pub mod Parts
+pub mod Told
+pub mod Walk

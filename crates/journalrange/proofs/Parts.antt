@@ -1,0 +1,127 @@
+-- Which number a part's call gives, and where the part lies: within the lent area, for any good row. Assumes nothing.
+use mathlib.Core.Path.{_≡_, refl}
+use mathlib.Core.Bool.{Bool, true, false, cond}
+use mathlib.Core.List.{List, []}
+use mathlib.Core.Logic.{_↔_}
+use mathlib.Core.Option.{Option, some, none}
+use Prim.Native.Nat.{ℕ, _+_, _-_, _*_, _<_, _≤_}
+use native.Mathlib.Omega.{arith}
+use lib.Dec.{eqb, leb, ltb}
+use borrow.Author.Tests.{ne-eqb, eqb-true, leb-true, le-leb}
+use Rattle.base.specs.Maps.{flagged}
+use Rattle.base.specs.Refusals.{answer, ascending}
+use Rattle.base.proofs.Refusals.{accepted-iff}
+use Rattle.base.proofs.Tests.{split, tests}
+use Rattle.disklayout.specs.declared.Device.{Device}
+use Rattle.disklayout.specs.declared.Location.{Location}
+use Rattle.disklayout.specs.Calls.{placeOptionIf}
+use Rattle.disklayout.specs.Device.{Good, made, deviceOf}
+use Rattle.disklayout.specs.Journal.{JournalFrontRequires, JournalFrontLocation, JournalBackRequires, JournalBackLocation}
+use Rattle.disklayout.specs.Layout.{NumJournalBlocks, JournalStartAddr, ValidJournalLocation}
+use Rattle.disklayout.proofs.Devices.{device-good}
+use Rattle.disklayout.proofs.Facts.{journal-iff}
+use Rattle.disklayout.proofs.Ranges.{front-valid, back-valid}
+use Rattle.journalrange.specs.Parts.{JournalLength, partRows, startOf, lenOf, partIf, frontPart, backPart, cut}
+
+-- THE NUMBERS
+
+pub rows-ascending : (d : ℕ) (pre : Bool) (bytes : ℕ) → ascending (partRows d pre bytes) ≡ true
+unfolding partRows
+rows-ascending d pre bytes = refl
+
+-- what 0 says of a part whose location upstream asks `pre` for
+pub record Accepted (d : ℕ) (pre : Bool) (bytes : ℕ) : Type 0 where
+  pub is-made : d ≤ 2
+  pub required : pre ≡ true
+  pub lent : bytes ≡ JournalLength (deviceOf d)
+
+pub accepted : (d : ℕ) (pre : Bool) (bytes : ℕ) → (answer (partRows d pre bytes) ≡ 0) ↔ Accepted d pre bytes
+unfolding partRows
+accepted d pre bytes =
+    let a = accepted-iff (partRows d pre bytes) (rows-ascending d pre bytes) in (
+      (λ e. let h = simp tests at (a .0 e) in record { is-made = h .0 .0; required = h .0 .1; lent = h .1 .0 }),
+      (λ h. a .1 (simp tests ((h .is-made, h .required), (h .lent, tt)))),
+    )
+
+module _ (d bytes s n : ℕ) where
+  pub front-accepted : (frontPart d bytes s n .answer ≡ 0) ↔ Accepted d (JournalFrontRequires (deviceOf d) s) bytes
+  unfolding frontPart
+  front-accepted = accepted d (JournalFrontRequires (deviceOf d) s) bytes
+
+  pub back-accepted : (backPart d bytes s n .answer ≡ 0) ↔ Accepted d (JournalBackRequires (deviceOf d) s n) bytes
+  unfolding backPart
+  back-accepted = accepted d (JournalBackRequires (deviceOf d) s n) bytes
+
+-- WITHIN THE AREA
+
+-- a place of the journal in an area that holds it: nothing is lost by the subtraction, and its end is within the area
+pub record InArea (w : Device) (l : Location) : Type 0 where
+  pub begins : JournalStartAddr ≤ l .addr
+  pub ends : l .addr - JournalStartAddr + l .len ≤ JournalLength w
+
+pub journal-in-area : (w : Device) (l : Location) → ValidJournalLocation w l ≡ true → InArea w l
+journal-in-area w l v = let j = journal-iff w l .0 v in record { begins = j .high; ends = omega (arith, j .high, j .ends) }
+
+module _ (w : Device) (g : Good w) (s n : ℕ) (l : Location) where
+  pub front-in-area : s < NumJournalBlocks w → JournalFrontLocation w s n ≡ some l → InArea w l
+  front-in-area h e = journal-in-area w l (front-valid w g s n l h e)
+
+  pub back-in-area : s < NumJournalBlocks w → n ≤ NumJournalBlocks w → JournalBackLocation w s n ≡ some l → InArea w l
+  back-in-area h k e = journal-in-area w l (back-valid w g s n l h k e)
+
+-- on a device's row, where upstream's `requires` holds
+module _ (d s n : ℕ) (l : Location) where
+  pub front-inside : JournalFrontRequires (deviceOf d) s ≡ true → JournalFrontLocation (deviceOf d) s n ≡ some l → InArea (deviceOf d) l
+  front-inside e q = front-in-area (deviceOf d) (device-good d) s n l (simp tests at e) q
+
+  pub back-inside : JournalBackRequires (deviceOf d) s n ≡ true → JournalBackLocation (deviceOf d) s n ≡ some l → InArea (deviceOf d) l
+  back-inside e q = let h = simp tests at e in back-in-area (deviceOf d) (device-good d) s n l (h .0) (h .1) q
+
+-- so what a call hands back lies within what was lent, however much that is
+part-fits : (d : ℕ) (pre : Bool) (o : Option Location) (bytes : ℕ) → (pre ≡ true → (l : Location) → o ≡ some l → InArea (deviceOf d) l) →
+    partIf d pre o bytes .start + partIf d pre o bytes .len ≤ bytes
+part-fits d pre o bytes h =
+    split (eqb (answer (partRows d pre bytes)) 0)
+    (λ t. let a = accepted d pre bytes .0 (eqb-true (answer (partRows d pre bytes)) 0 t) in rw (t, a .lent) (located o (h (a .required))))
+    (λ f. rw f (omega arith))
+  where
+    located : (o : Option Location) → ((l : Location) → o ≡ some l → InArea (deviceOf d) l) → startOf o + lenOf o ≤ JournalLength (deviceOf d)
+    located none h = omega arith
+    located (some l) h = h l refl .ends
+
+module _ (d bytes s n : ℕ) where
+  pub front-fits : frontPart d bytes s n .start + frontPart d bytes s n .len ≤ bytes
+  unfolding frontPart
+  front-fits = part-fits d (JournalFrontRequires (deviceOf d) s) (JournalFrontLocation (deviceOf d) s n) bytes (λ e l q. front-inside d s n l e q)
+
+  pub back-fits : backPart d bytes s n .start + backPart d bytes s n .len ≤ bytes
+  unfolding backPart
+  back-fits = part-fits d (JournalBackRequires (deviceOf d) s n) (JournalBackLocation (deviceOf d) s n) bytes (λ e l q. back-inside d s n l e q)
+
+-- a refused part is empty
+pub refused-empty : (d : ℕ) (pre : Bool) (o : Option Location) (area : List ℕ) (bytes : ℕ) → (partIf d pre o bytes .answer ≡ 0 → ⊥) → cut area (partIf d pre o bytes) ≡ []
+refused-empty d pre o area bytes ne = rw (ne-eqb (answer (partRows d pre bytes)) 0 ne)
+
+-- WHERE IT BEGINS, AND HOW LONG IT IS
+
+module _ (w : Device) (s n : ℕ) where
+  -- the front part, of a range that isn't empty, at start times 4096; the back part at 0
+  pub front-start : (n ≡ 0 → ⊥) → startOf (JournalFrontLocation w s n) ≡ s * 4096
+  front-start ne = rw (ne-eqb n 0 ne) (omega arith)
+
+  pub back-start : startOf (JournalBackLocation w s n) ≡ 0
+  back-start = split (eqb n 0) (λ t. rw t) (λ f. split (leb n (w .journal - s)) (λ t. rw (f, t)) (λ t. rw (f, t)))
+
+  -- in whole blocks: the front part's as many as there are up to the journal's end, the back part's the rest
+  pub front-len : lenOf (JournalFrontLocation w s n) ≡ cond (leb n (NumJournalBlocks w - s)) n (NumJournalBlocks w - s) * 4096
+  front-len =
+      split (eqb n 0)
+      (λ t. let z : n ≡ 0 = eqb-true n 0 t in rw (t, le-leb n (w .journal - s) (omega arith)) (omega arith))
+      (λ f. rw f)
+
+  pub back-len : lenOf (JournalBackLocation w s n) ≡ (n - (NumJournalBlocks w - s)) * 4096
+  back-len =
+      split (eqb n 0) (λ t. let z : n ≡ 0 = eqb-true n 0 t in rw t (omega arith))
+      (λ f. split (leb n (w .journal - s))
+      (λ t. let h : n ≤ w .journal - s = leb-true n (w .journal - s) t in rw (f, t) (omega arith))
+      (λ t. rw (f, t)))
