@@ -1,8 +1,8 @@
 -- By the tests on the way: an arm, a law. Assumes nothing.
 use borrow.Author.Tests.{not-true, not-false}
 use Rattle.journalrange.proofs.Told.{number-refused, number-wrong, number-zero}
-use Rattle.journal.proofs.parts.part_number.Statement.{statement}
-use Rattle.journal.proofs.parts.part_number.Tie as tie
+use Rattle.journalarea.proofs.parts.part_number.Statement.{statement}
+use Rattle.journalarea.proofs.parts.part_number.Tie as tie
 
 journal-length-requires : tie.Need-journal-length-requires
 journal-length-requires c κs = tt

@@ -1,7 +1,7 @@
 -- By what the layout ensures of the journal's two addresses. Assumes nothing.
 use Rattle.journalrange.proofs.Told.{length-ends, length-told}
-use Rattle.journal.proofs.parts.journal_length.Statement.{statement}
-use Rattle.journal.proofs.parts.journal_length.Tie as tie
+use Rattle.journalarea.proofs.parts.journal_length.Statement.{statement}
+use Rattle.journalarea.proofs.parts.journal_length.Tie as tie
 
 journal-start-addr-requires : tie.Need-journal-start-addr-requires
 journal-start-addr-requires c κs = tt

@@ -1,6 +1,6 @@
 -- By what the callee ensures of the part. Assumes nothing.
-use Rattle.journal.proofs.parts.back_result.Statement.{statement}
-use Rattle.journal.proofs.parts.back_result.Tie as tie
+use Rattle.journalarea.proofs.parts.back_result.Statement.{statement}
+use Rattle.journalarea.proofs.parts.back_result.Tie as tie
 
 back-part-requires : tie.Need-back-part-requires
 back-part-requires c κs = tt

@@ -1,8 +1,8 @@
 -- The part lies within the lent area, and is what was cut out of it. Assumes nothing.
 use lib.ListN.{length}
 use Rattle.journalrange.proofs.Parts.{back-fits}
-use Rattle.journal.proofs.parts.back.Statement.{statement}
-use Rattle.journal.proofs.parts.back.Tie as tie
+use Rattle.journalarea.proofs.parts.back.Statement.{statement}
+use Rattle.journalarea.proofs.parts.back.Tie as tie
 
 back-part-requires : tie.Need-back-part-requires
 back-part-requires c κs = tt

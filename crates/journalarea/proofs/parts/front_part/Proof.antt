@@ -4,8 +4,8 @@ use Rattle.disklayout.specs.Journal.{JournalFrontRequires, JournalFrontLocation
 use Rattle.journalrange.specs.Parts.{frontPart}
 use Rattle.journalrange.proofs.Parts.{front-inside}
 use Rattle.journalrange.proofs.Told.{told-begins, told-part}
-use Rattle.journal.proofs.parts.front_part.Statement.{statement}
-use Rattle.journal.proofs.parts.front_part.Tie as tie
+use Rattle.journalarea.proofs.parts.front_part.Statement.{statement}
+use Rattle.journalarea.proofs.parts.front_part.Tie as tie
 
 journal-front-location-requires : tie.Need-journal-front-location-requires
 journal-front-location-requires c κs = tt

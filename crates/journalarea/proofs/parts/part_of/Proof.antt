@@ -4,8 +4,8 @@ use mathlib.Core.Bool.{true}
 use borrow.Author.Tests.{eqb-true}
 use Rattle.base.proofs.Tests.{and-iff}
 use Rattle.journalrange.proofs.Told.{part-there, part-absent, start-told}
-use Rattle.journal.proofs.parts.part_of.Statement.{statement}
-use Rattle.journal.proofs.parts.part_of.Tie as tie
+use Rattle.journalarea.proofs.parts.part_of.Statement.{statement}
+use Rattle.journalarea.proofs.parts.part_of.Tie as tie
 
 part-number-requires : tie.Need-part-number-requires
 part-number-requires c κs = tt

@@ -1,6 +1,6 @@
 -- By what the callee ensures of the part. Assumes nothing.
-use Rattle.journal.proofs.parts.front_result.Statement.{statement}
-use Rattle.journal.proofs.parts.front_result.Tie as tie
+use Rattle.journalarea.proofs.parts.front_result.Statement.{statement}
+use Rattle.journalarea.proofs.parts.front_result.Tie as tie
 
 front-part-requires : tie.Need-front-part-requires
 front-part-requires c κs = tt

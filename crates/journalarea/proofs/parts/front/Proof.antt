@@ -1,8 +1,8 @@
 -- The part lies within the lent area, and is what was cut out of it. Assumes nothing.
 use lib.ListN.{length}
 use Rattle.journalrange.proofs.Parts.{front-fits}
-use Rattle.journal.proofs.parts.front.Statement.{statement}
-use Rattle.journal.proofs.parts.front.Tie as tie
+use Rattle.journalarea.proofs.parts.front.Statement.{statement}
+use Rattle.journalarea.proofs.parts.front.Tie as tie
 
 front-part-requires : tie.Need-front-part-requires
 front-part-requires c κs = tt

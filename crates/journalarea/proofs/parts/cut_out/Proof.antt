@@ -3,8 +3,8 @@ use mathlib.Core.Path.{_≡_, refl}
 use Prim.Native.Nat.{_+_, _-_}
 use native.Mathlib.Omega.{arith}
 use borrow.Author.Needs.{needs}
-use Rattle.journal.proofs.parts.cut_out.Statement.{statement}
-use Rattle.journal.proofs.parts.cut_out.Tie as tie
+use Rattle.journalarea.proofs.parts.cut_out.Statement.{statement}
+use Rattle.journalarea.proofs.parts.cut_out.Tie as tie
 
 add-to : tie.Need-add-to
 add-to c = search needs

@@ -4,8 +4,8 @@ use Rattle.disklayout.specs.Journal.{JournalBackRequires, JournalBackLocation}
 use Rattle.journalrange.specs.Parts.{backPart}
 use Rattle.journalrange.proofs.Parts.{back-inside}
 use Rattle.journalrange.proofs.Told.{told-begins, told-part}
-use Rattle.journal.proofs.parts.back_part.Statement.{statement}
-use Rattle.journal.proofs.parts.back_part.Tie as tie
+use Rattle.journalarea.proofs.parts.back_part.Statement.{statement}
+use Rattle.journalarea.proofs.parts.back_part.Tie as tie
 
 journal-back-location-requires : tie.Need-journal-back-location-requires
 journal-back-location-requires c κs = tt
