@@ -1,0 +1,171 @@
+// Prints a line for each of a list of journal ranges: what is asked, the number of each part's call, and the blocks of each part, read off the
+// bytes that were handed back.
+ghost use mathlib.Core.Path.{_≡_};
+ghost use Prim.Native.Nat.{ℕ, _/_, _%_, _<_};
+ghost use lib.ListN.{length, getD};
+use libc::STDOUT_FILENO;
+
+const BLOCK: usize = 4096;
+
+// How long the devices' journals are, in bytes: 16, 64 and 256 blocks.
+const JOURNAL0: usize = 65_536;
+
+const JOURNAL1: usize = 262_144;
+
+const JOURNAL2: usize = 1_048_576;
+
+// No block's number: what bytes tell that are not of one block.
+const MIXED: u64 = 256;
+
+const MOST: u64 = 0xffff_ffff_ffff_ffff;
+
+// Each byte tells the number of its block.
+fn fill(memory: &mut [u8])
+    ensures { λ r. ⌜ ((k : ℕ) → k < length (now (memory .exit)) → getD (now (memory .exit)) k 0 ≡ k / 4096 % 256) ⌝ }
+{
+    let mut i: usize = 0;
+    while i < memory.len() {
+        memory[i] = (i / BLOCK % 256) as u8;
+        i += 1;
+    }
+}
+
+fn wide(b: u8) -> u64
+    ensures { λ r. ⌜ r ≡ b ⌝ }
+{
+    b as u64
+}
+
+// The number that each byte of a block tells, or MIXED.
+fn told(block: &[u8]) -> u64
+    ensures { λ r. ⌜ ((r ≡ 256 → ⊥) → (k : ℕ) → k < length (now (block .entry)) → getD (now (block .entry)) k 0 ≡ r) ⌝ }
+{
+    if block.len() == 0 {
+        return MIXED;
+    }
+    let number = wide(block[0]);
+    let mut i: usize = 0;
+    while i < block.len() {
+        let b = wide(block[i]);
+        if b != number {
+            return MIXED;
+        }
+        i += 1;
+    }
+    number
+}
+
+fn field(name: &[u8], n: u64) {
+    io::write_all(STDOUT_FILENO, name);
+    io::print_decimal(STDOUT_FILENO, n);
+}
+
+fn print_block(first: bool, number: u64) {
+    if !first {
+        io::write_all(STDOUT_FILENO, b",");
+    }
+    if number == MIXED {
+        io::write_all(STDOUT_FILENO, b"?");
+    } else {
+        io::print_decimal(STDOUT_FILENO, number);
+    }
+}
+
+// Bytes behind the last whole block, of which a part should have none.
+fn print_left(bytes: usize) {
+    if bytes != 0 {
+        field(b"+", bytes as u64);
+    }
+}
+
+// The number that each block of a part tells.
+fn print_blocks(part: &[u8]) {
+    let mut rest = part;
+    let mut first = true;
+    while BLOCK <= rest.len() {
+        let number = told(&rest[0..BLOCK]);
+        print_block(first, number);
+        rest = &rest[BLOCK..];
+        first = false;
+    }
+    print_left(rest.len());
+}
+
+fn line(device: u64, area: &[u8], start: u64, blocks: u64) {
+    field(b"device=", device);
+    field(b" bytes=", area.len() as u64);
+    field(b" start=", start);
+    field(b" blocks=", blocks);
+    field(
+        b" front_result=",
+        journalarea::front_result(device, area, start, blocks),
+    );
+    io::write_all(STDOUT_FILENO, b" front=");
+    print_blocks(journalarea::front(device, area, start, blocks));
+    field(
+        b" back_result=",
+        journalarea::back_result(device, area, start, blocks),
+    );
+    io::write_all(STDOUT_FILENO, b" back=");
+    print_blocks(journalarea::back(device, area, start, blocks));
+    io::write_all(STDOUT_FILENO, b"\n");
+}
+
+// Ranges of device 0's journal, and those that are none of it.
+fn device0(area: &[u8]) {
+    line(0, area, 14, 5);
+    line(0, area, 14, 2);
+    line(0, area, 14, 3);
+    line(0, area, 7, 1);
+    line(0, area, 14, 0);
+    line(0, area, 0, 16);
+    line(0, area, 15, 16);
+    line(0, area, 0, 17);
+    line(0, area, 15, 17);
+    line(0, area, 15, MOST);
+    line(0, area, 16, 1);
+    line(0, area, 16, 0);
+    line(0, area, MOST, 1);
+}
+
+// The first bytes of the memory, as many as asked for.
+fn first(memory: &[u8], bytes: usize) -> &[u8] {
+    if bytes <= memory.len() {
+        return &memory[0..bytes];
+    }
+    memory
+}
+
+// Areas that aren't as long as the journal; 1 comes before 23.
+fn wrong_areas(memory: &[u8]) {
+    line(0, first(memory, JOURNAL0 - 1), 14, 5);
+    line(0, first(memory, JOURNAL0 + 1), 14, 5);
+    line(0, first(memory, 0), 14, 5);
+    line(0, first(memory, JOURNAL0 - 1), 14, 0);
+    line(0, first(memory, JOURNAL0 - 1), 14, 17);
+    line(0, first(memory, JOURNAL0 - 1), 16, 5);
+    line(1, first(memory, JOURNAL0), 14, 5);
+    line(3, first(memory, JOURNAL0), 14, 5);
+}
+
+// The other devices' journals.
+fn other_devices(memory: &[u8]) {
+    line(1, first(memory, JOURNAL1), 62, 5);
+    line(2, first(memory, JOURNAL2), 254, 5);
+}
+
+// Room for the longest journal.
+fn zeros() -> [u8; 1_048_576]
+    ensures { λ r. ⌜ 1048576 ≡ length r ⌝ }
+{
+    [0; 1_048_576]
+}
+
+fn main() {
+    let mut memory = zeros();
+    fill(&mut memory);
+    let whole = &memory[..];
+    device0(first(whole, JOURNAL0));
+    wrong_areas(whole);
+    other_devices(whole);
+}
