@@ -9,7 +9,7 @@ ghost use Rattle.base.specs.Refusals.{answer};
 ghost use Rattle.disklayout.specs.Calls.{number};
 ghost use Rattle.disklayout.specs.Device.{deviceOf};
 ghost use Rattle.disklayout.specs.Layout.{JournalStartAddr};
-ghost use Rattle.journalrange.specs.Parts.{JournalLength, partRows, partIf, frontPart, backPart, cut, frontBytes, backBytes, within};
+ghost use Rattle.journalrange.specs.Parts.{JournalLength, partRows, frontRows, backRows, partWhen, frontPart, backPart, cut, frontBytes, backBytes, within};
 use disklayout::Number;
 use disklayout::PlaceOption;
 use journalrange::Part;
@@ -31,11 +31,11 @@ fn part_number(device: u64, bytes: u64, told: u64) -> u64
     ensures { λ r. ⌜ r ≡ answer (partRows device (eqb told 0) bytes) ⌝ }
 {
     let journal = journal_length(device);
-    let asked = (journal.answer == 0) & (told == 0);
-    if !asked {
+    let ok = (journal.answer == 0) & (told == 0);
+    let whole = bytes == journal.value;
+    if !ok {
         return 1;
     }
-    let whole = bytes == journal.value;
     if !whole {
         return 23;
     }
@@ -45,7 +45,7 @@ fn part_number(device: u64, bytes: u64, told: u64) -> u64
 // The part whose location on the device the layout told.
 fn part_of(device: u64, bytes: u64, place: PlaceOption) -> Part
     requires { ⌜ (place .exists ≡ true → JournalStartAddr ≤ place .loc .addr) ⌝ }
-    ensures { λ r. ⌜ r ≡ partIf device (eqb (place .answer) 0) (flagged (place .exists) (place .loc)) bytes ⌝ }
+    ensures { λ r. ⌜ r ≡ partWhen (answer (partRows device (eqb (place .answer) 0) bytes)) (flagged (place .exists) (place .loc)) ⌝ }
 {
     let number = part_number(device, bytes, place.answer);
     let there = (number == 0) & place.exists;
@@ -99,7 +99,7 @@ pub fn front<'a>(device: u64, area: &'a [u8], start: u64, blocks: u64) -> &'a [u
 }
 
 pub fn front_result(device: u64, area: &[u8], start: u64, blocks: u64) -> u64
-    ensures { λ r. ⌜ r ≡ frontPart device (length (now (area .entry))) start blocks .answer ⌝ }
+    ensures { λ r. ⌜ r ≡ answer (frontRows device (length (now (area .entry))) start) ⌝ }
 {
     let part = front_part(device, area.len() as u64, start, blocks);
     part.answer
@@ -115,7 +115,7 @@ pub fn back<'a>(device: u64, area: &'a [u8], start: u64, blocks: u64) -> &'a [u8
 }
 
 pub fn back_result(device: u64, area: &[u8], start: u64, blocks: u64) -> u64
-    ensures { λ r. ⌜ r ≡ backPart device (length (now (area .entry))) start blocks .answer ⌝ }
+    ensures { λ r. ⌜ r ≡ answer (backRows device (length (now (area .entry))) start blocks) ⌝ }
 {
     let part = back_part(device, area.len() as u64, start, blocks);
     part.answer

@@ -1,27 +1,25 @@
 -- Which number a part's call gives, and where the part lies: within the lent area, for any good row. Assumes nothing.
 use mathlib.Core.Path.{_≡_, refl}
-use mathlib.Core.Bool.{Bool, true, false, cond}
+use mathlib.Core.Bool.{Bool, true, cond}
 use mathlib.Core.List.{List, []}
 use mathlib.Core.Logic.{_↔_}
 use mathlib.Core.Option.{Option, some, none}
 use Prim.Native.Nat.{ℕ, _+_, _-_, _*_, _<_, _≤_}
 use native.Mathlib.Omega.{arith}
-use lib.Dec.{eqb, leb, ltb}
+use lib.Dec.{eqb, leb}
 use borrow.Author.Tests.{ne-eqb, eqb-true, leb-true, le-leb}
-use Rattle.base.specs.Maps.{flagged}
 use Rattle.base.specs.Refusals.{answer, ascending}
 use Rattle.base.proofs.Refusals.{accepted-iff}
 use Rattle.base.proofs.Tests.{split, tests}
 use Rattle.disklayout.specs.declared.Device.{Device}
 use Rattle.disklayout.specs.declared.Location.{Location}
-use Rattle.disklayout.specs.Calls.{placeOptionIf}
-use Rattle.disklayout.specs.Device.{Good, made, deviceOf}
+use Rattle.disklayout.specs.Device.{Good, deviceOf}
 use Rattle.disklayout.specs.Journal.{JournalFrontRequires, JournalFrontLocation, JournalBackRequires, JournalBackLocation}
 use Rattle.disklayout.specs.Layout.{NumJournalBlocks, JournalStartAddr, ValidJournalLocation}
 use Rattle.disklayout.proofs.Devices.{device-good}
 use Rattle.disklayout.proofs.Facts.{journal-iff}
 use Rattle.disklayout.proofs.Ranges.{front-valid, back-valid}
-use Rattle.journalrange.specs.Parts.{JournalLength, partRows, startOf, lenOf, partIf, frontPart, backPart, cut}
+use Rattle.journalrange.specs.Parts.{JournalLength, partRows, startOf, lenOf, partWhen, frontPart, backPart, cut}
 
 -- THE NUMBERS
 
@@ -29,7 +27,7 @@ pub rows-ascending : (d : ℕ) (pre : Bool) (bytes : ℕ) → ascending (partRow
 unfolding partRows
 rows-ascending d pre bytes = refl
 
--- what 0 says of a part whose location upstream asks `pre` for
+-- what 0 says
 pub record Accepted (d : ℕ) (pre : Bool) (bytes : ℕ) : Type 0 where
   pub is-made : d ≤ 2
   pub required : pre ≡ true
@@ -42,15 +40,6 @@ accepted d pre bytes =
       (λ e. let h = simp tests at (a .0 e) in record { is-made = h .0 .0; required = h .0 .1; lent = h .1 .0 }),
       (λ h. a .1 (simp tests ((h .is-made, h .required), (h .lent, tt)))),
     )
-
-module _ (d bytes s n : ℕ) where
-  pub front-accepted : (frontPart d bytes s n .answer ≡ 0) ↔ Accepted d (JournalFrontRequires (deviceOf d) s) bytes
-  unfolding frontPart
-  front-accepted = accepted d (JournalFrontRequires (deviceOf d) s) bytes
-
-  pub back-accepted : (backPart d bytes s n .answer ≡ 0) ↔ Accepted d (JournalBackRequires (deviceOf d) s n) bytes
-  unfolding backPart
-  back-accepted = accepted d (JournalBackRequires (deviceOf d) s n) bytes
 
 -- WITHIN THE AREA
 
@@ -79,7 +68,7 @@ module _ (d s n : ℕ) (l : Location) where
 
 -- so what a call hands back lies within what was lent, however much that is
 part-fits : (d : ℕ) (pre : Bool) (o : Option Location) (bytes : ℕ) → (pre ≡ true → (l : Location) → o ≡ some l → InArea (deviceOf d) l) →
-    partIf d pre o bytes .start + partIf d pre o bytes .len ≤ bytes
+    partWhen (answer (partRows d pre bytes)) o .start + partWhen (answer (partRows d pre bytes)) o .len ≤ bytes
 part-fits d pre o bytes h =
     split (eqb (answer (partRows d pre bytes)) 0)
     (λ t. let a = accepted d pre bytes .0 (eqb-true (answer (partRows d pre bytes)) 0 t) in rw (t, a .lent) (located o (h (a .required))))
@@ -98,9 +87,12 @@ module _ (d bytes s n : ℕ) where
   unfolding backPart
   back-fits = part-fits d (JournalBackRequires (deviceOf d) s n) (JournalBackLocation (deviceOf d) s n) bytes (λ e l q. back-inside d s n l e q)
 
--- a refused part is empty
-pub refused-empty : (d : ℕ) (pre : Bool) (o : Option Location) (area : List ℕ) (bytes : ℕ) → (partIf d pre o bytes .answer ≡ 0 → ⊥) → cut area (partIf d pre o bytes) ≡ []
-refused-empty d pre o area bytes ne = rw (ne-eqb (answer (partRows d pre bytes)) 0 ne)
+-- a refused part is empty, and so is one that doesn't exist
+pub refused-empty : (area : List ℕ) (number : ℕ) (o : Option Location) → (number ≡ 0 → ⊥) → cut area (partWhen number o) ≡ []
+refused-empty area number o ne = rw (ne-eqb number 0 ne)
+
+pub absent-empty : (area : List ℕ) (number : ℕ) → cut area (partWhen number none) ≡ []
+absent-empty area number = split (eqb number 0) (λ t. rw t) (λ f. rw f)
 
 -- WHERE IT BEGINS, AND HOW LONG IT IS
 

@@ -15,7 +15,7 @@ use Rattle.disklayout.specs.Calls.{number, placeOptionIf, orZeros}
 use Rattle.disklayout.specs.Device.{made, deviceOf}
 use Rattle.disklayout.specs.Layout.{JournalStartAddr, JournalEndAddr}
 use Rattle.journalrange.specs.declared.Part.{Part}
-use Rattle.journalrange.specs.Parts.{JournalLength, partRows, partWhen, partIf}
+use Rattle.journalrange.specs.Parts.{JournalLength, partRows, partWhen}
 use Rattle.journalrange.proofs.Parts.{InArea, accepted}
 
 -- THE JOURNAL'S LENGTH, by the layout's two addresses: 0 where the device is not made
@@ -77,7 +77,9 @@ module _ (n : ℕ) (exists : Bool) (l : Location) where
 
 module _ (d : ℕ) (pre : Bool) (o : Option Location) where
   -- the same part is told by it
-  pub told-part : (bytes : ℕ) → partIf d (eqb (placeOptionIf d pre o .answer) 0) (flagged (placeOptionIf d pre o .exists) (placeOptionIf d pre o .loc)) bytes ≡ partIf d pre o bytes
+  pub told-part : (bytes : ℕ) →
+      partWhen (answer (partRows d (eqb (placeOptionIf d pre o .answer) 0) bytes)) (flagged (placeOptionIf d pre o .exists) (placeOptionIf d pre o .loc))
+      ≡ partWhen (answer (partRows d pre bytes)) o
   told-part bytes =
       split (made d && pre) (λ t. let p : pre ≡ true = and-right (made d) pre t in rw (t, p, flagged-back o))
       (λ f. rw (f, ← number-one d bytes false (and-false (made d)), ← number-one d bytes pre f))

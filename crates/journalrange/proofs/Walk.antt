@@ -11,15 +11,16 @@ use lib.Dec.{eqb, leb, ltb}
 use lib.ListN.{length, take, drop, length-drop, length-append}
 use lib.Seq.{length-take-le}
 use borrow.Author.Tests.{eqb-true, eqb-false, ltb-true, ltb-false, leb-true, leb-false, le-leb, lt-leb}
+use Rattle.base.specs.Refusals.{answer}
 use Rattle.base.proofs.Tests.{split, tests}
 use Rattle.disklayout.specs.declared.Device.{Device}
 use Rattle.disklayout.specs.Device.{deviceOf}
-use Rattle.disklayout.specs.Journal.{JournalPosAdd, JournalFrontLocation, JournalBackLocation}
+use Rattle.disklayout.specs.Journal.{JournalPosAdd, JournalFrontLocation, JournalBackRequires, JournalBackLocation}
 use Rattle.disklayout.specs.Layout.{NumJournalBlocks}
-use Rattle.journalrange.specs.Parts.{JournalLength, partWhen, frontPart, backPart, frontBytes, backBytes, cut}
+use Rattle.journalrange.specs.Parts.{JournalLength, frontRows, backRows, partWhen, frontPart, backPart, frontBytes, backBytes, cut}
 use Rattle.journalrange.specs.Walk.{block, walked, rangeBlock, InOrder}
 use Rattle.journalrange.proofs.Blocks.{block-first, block-second, block-part}
-use Rattle.journalrange.proofs.Parts.{front-accepted, back-accepted, front-start, front-len, back-start, back-len}
+use Rattle.journalrange.proofs.Parts.{accepted, front-start, front-len, back-start, back-len}
 
 -- POSITIONS
 
@@ -123,11 +124,11 @@ module _ (w : Device) (area : List ℕ) (s n : ℕ) (r : Ranged w area s n) wher
 
 -- THE THEOREM
 
-module _ (d : ℕ) (area : List ℕ) (s n : ℕ) (zero-front : frontPart d (length area) s n .answer ≡ 0) (zero-back : backPart d (length area) s n .answer ≡ 0) where
+module _ (d : ℕ) (area : List ℕ) (s n : ℕ) (zero-front : answer (frontRows d (length area) s) ≡ 0) (zero-back : answer (backRows d (length area) s n) ≡ 0) where
   -- that the range is no longer than the journal is said by the back part's 0
   ranged : Ranged (deviceOf d) area s n
   ranged =
-      let b = back-accepted d (length area) s n .0 zero-back in
+      let b = accepted d (JournalBackRequires (deviceOf d) s n) (length area) .0 zero-back in
       let h = simp tests at (b .required) in record { lent = b .lent; in-journal = h .0; short = h .1 }
 
   front-bytes : frontBytes d area s n ≡ front (deviceOf d) area s n ranged
@@ -149,5 +150,5 @@ module _ (d : ℕ) (area : List ℕ) (s n : ℕ) (zero-front : frontPart d (leng
       }
 
 -- where both calls give 0, front followed by back gives each block of the range once, in the range's order
-pub in-order : (d : ℕ) (area : List ℕ) (s n : ℕ) → frontPart d (length area) s n .answer ≡ 0 → backPart d (length area) s n .answer ≡ 0 → InOrder d area s n
+pub in-order : (d : ℕ) (area : List ℕ) (s n : ℕ) → answer (frontRows d (length area) s) ≡ 0 → answer (backRows d (length area) s n) ≡ 0 → InOrder d area s n
 in-order = ordered

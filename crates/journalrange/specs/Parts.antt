@@ -20,16 +20,23 @@ JournalLength w = NumJournalBlocks w * 4096
 
 -- THE NUMBERS
 
--- of a part whose location upstream asks `pre` for, where `bytes` bytes are lent
+-- of a part whose location upstream requires `pre` for, where `bytes` bytes are lent
 unfoldable pub partRows : ℕ → Bool → ℕ → List Row
 partRows d pre bytes =
     (1 when not (made d && pre)) ∷
     (23 when not (eqb bytes (JournalLength (deviceOf d)))) ∷
     []
 
--- WHERE A PART LIES
+-- of the range of n blocks from block s on; for the front n may be any number
+abbrev pub frontRows : ℕ → ℕ → ℕ → List Row
+frontRows d bytes s = partRows d (JournalFrontRequires (deviceOf d) s) bytes
 
--- the journal's start subtracted from the address of its location; 0 where there is none
+abbrev pub backRows : ℕ → ℕ → ℕ → ℕ → List Row
+backRows d bytes s n = partRows d (JournalBackRequires (deviceOf d) s n) bytes
+
+-- WHERE A PART LIES IN THE LENT AREA
+
+-- from the address of its location the journal's start is subtracted
 abbrev pub startOf : Option Location → ℕ
 startOf none = 0
 startOf (some l) = l .addr - JournalStartAddr
@@ -38,19 +45,15 @@ abbrev pub lenOf : Option Location → ℕ
 lenOf none = 0
 lenOf (some l) = l .len
 
--- answered with the number n: a refused part is empty
+-- by the number of its call and its location: empty where the call is refused
 abbrev pub partWhen : ℕ → Option Location → Part
-partWhen n o = record { answer = n; start = cond (eqb n 0) (startOf o) 0; len = cond (eqb n 0) (lenOf o) 0 }
+partWhen number o = record { answer = number; start = cond (eqb number 0) (startOf o) 0; len = cond (eqb number 0) (lenOf o) 0 }
 
-abbrev pub partIf : ℕ → Bool → Option Location → ℕ → Part
-partIf d pre o bytes = partWhen (answer (partRows d pre bytes)) o
-
--- of the range of n blocks from block s on; `bytes` is the count of the lent bytes
 unfoldable pub frontPart : ℕ → ℕ → ℕ → ℕ → Part
-frontPart d bytes s n = partIf d (JournalFrontRequires (deviceOf d) s) (JournalFrontLocation (deviceOf d) s n) bytes
+frontPart d bytes s n = partWhen (answer (frontRows d bytes s)) (JournalFrontLocation (deviceOf d) s n)
 
 unfoldable pub backPart : ℕ → ℕ → ℕ → ℕ → Part
-backPart d bytes s n = partIf d (JournalBackRequires (deviceOf d) s n) (JournalBackLocation (deviceOf d) s n) bytes
+backPart d bytes s n = partWhen (answer (backRows d bytes s n)) (JournalBackLocation (deviceOf d) s n)
 
 -- WHAT A CALL HANDS BACK
 
@@ -64,6 +67,6 @@ frontBytes d area s n = cut area (frontPart d (length area) s n)
 abbrev pub backBytes : ℕ → List ℕ → ℕ → ℕ → List ℕ
 backBytes d area s n = cut area (backPart d (length area) s n)
 
--- where the part lies in memory, by where the area does (a block of memory and an offset in it): within the area, so that nothing is copied
+-- where the part lies in memory, by where the area does (a block of memory, and an offset in it): within the area itself, so nothing is copied
 abbrev pub within : ℕ × ℕ → Part → ℕ × ℕ
 within area p = (area .0, p .start + area .1)
