@@ -1,8 +1,8 @@
 -- The theorem of document 02, Q-3: where both parts' calls give 0, a walk over front, then back, gives each block of the range once, in the
 -- range's order. Assumes nothing.
-use mathlib.Core.Path.{_≡_, refl, sym, _∙_, ap}
-use mathlib.Core.Bool.{true, false, cond}
-use mathlib.Core.List.{List, [], _++_}
+use mathlib.Core.Path.{_≡_, sym, _∙_, ap}
+use mathlib.Core.Bool.{cond}
+use mathlib.Core.List.{List, _++_}
 use mathlib.Core.Logic.{_⊎_, inl, inr, ⊎-elim}
 use Prim.Native.Nat.{ℕ, _+_, _-_, _*_, _%_, _<_, _≤_}
 use native.Mathlib.Nat.{mod-eq-of-lt, mod-eq-sub-mod, mod-lt, mul-mod-left}
@@ -10,7 +10,7 @@ use native.Mathlib.Omega.{arith}
 use lib.Dec.{eqb, leb, ltb}
 use lib.ListN.{length, take, drop, length-drop, length-append}
 use lib.Seq.{length-take-le}
-use borrow.Author.Tests.{eqb-true, eqb-false, ltb-true, ltb-false, leb-true, leb-false, le-leb, lt-leb}
+use borrow.Author.Tests.{eqb-true, eqb-false, ltb-true, ltb-false, leb-true, leb-false, le-leb}
 use Rattle.base.specs.Refusals.{answer}
 use Rattle.base.proofs.Tests.{split, tests}
 use Rattle.disklayout.specs.declared.Device.{Device}
@@ -18,7 +18,7 @@ use Rattle.disklayout.specs.Device.{deviceOf}
 use Rattle.disklayout.specs.Journal.{JournalPosAdd, JournalFrontLocation, JournalBackRequires, JournalBackLocation}
 use Rattle.disklayout.specs.Layout.{NumJournalBlocks}
 use Rattle.journalrange.specs.Parts.{JournalLength, frontRows, backRows, partWhen, frontPart, backPart, frontBytes, backBytes, cut}
-use Rattle.journalrange.specs.Walk.{block, walked, rangeBlock, InOrder}
+use Rattle.journalrange.specs.Walk.{block, rangeBlock, InOrder}
 use Rattle.journalrange.proofs.Blocks.{block-first, block-second, block-part}
 use Rattle.journalrange.proofs.Parts.{accepted, front-start, front-len, back-start, back-len}
 

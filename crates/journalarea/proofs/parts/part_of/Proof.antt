@@ -1,6 +1,5 @@
 -- Where there is a part, its number is 0, so the device is made and the journal's start is told. Assumes nothing.
-use mathlib.Core.Path.{_≡_, sym, _∙_}
-use mathlib.Core.Bool.{true}
+use mathlib.Core.Path.{sym, _∙_}
 use borrow.Author.Tests.{eqb-true}
 use Rattle.base.proofs.Tests.{and-iff}
 use Rattle.journalrange.proofs.Told.{part-there, part-absent, start-told}
