@@ -9,7 +9,7 @@ ghost use Rattle.base.specs.Refusals.{answer};
 ghost use Rattle.disklayout.specs.Calls.{number};
 ghost use Rattle.disklayout.specs.Device.{deviceOf};
 ghost use Rattle.disklayout.specs.Layout.{JournalStartAddr};
-ghost use Rattle.journalrange.specs.Parts.{JournalLength, partRows, frontRows, backRows, partWhen, frontPart, backPart, cut, frontBytes, backBytes, within};
+ghost use Rattle.journalrange.specs.Parts.{JournalLength, partRows, frontRows, backRows, partOf, frontPart, backPart, cut, frontBytes, backBytes, partPtr};
 use disklayout::Number;
 use disklayout::PlaceOption;
 use journalrange::Part;
@@ -26,12 +26,12 @@ fn journal_length(device: u64) -> Number
     }
 }
 
-// The number of a part's call; `told` is the layout's answer to the question for its location.
-fn part_number(device: u64, bytes: u64, told: u64) -> u64
-    ensures { λ r. ⌜ r ≡ answer (partRows device (eqb told 0) bytes) ⌝ }
+// The number of a part's call; `located` is the layout's answer to the question for its location.
+fn part_number(device: u64, bytes: u64, located: u64) -> u64
+    ensures { λ r. ⌜ r ≡ answer (partRows device (eqb located 0) bytes) ⌝ }
 {
     let journal = journal_length(device);
-    let ok = (journal.answer == 0) & (told == 0);
+    let ok = (journal.answer == 0) & (located == 0);
     let whole = bytes == journal.value;
     if !ok {
         return 1;
@@ -45,7 +45,7 @@ fn part_number(device: u64, bytes: u64, told: u64) -> u64
 // The part whose location on the device the layout told.
 fn part_of(device: u64, bytes: u64, place: PlaceOption) -> Part
     requires { ⌜ (place .exists ≡ true → JournalStartAddr ≤ place .loc .addr) ⌝ }
-    ensures { λ r. ⌜ r ≡ partWhen (answer (partRows device (eqb (place .answer) 0) bytes)) (flagged (place .exists) (place .loc)) ⌝ }
+    ensures { λ r. ⌜ r ≡ partOf (answer (partRows device (eqb (place .answer) 0) bytes)) (flagged (place .exists) (place .loc)) ⌝ }
 {
     let number = part_number(device, bytes, place.answer);
     let there = (number == 0) & place.exists;
@@ -82,17 +82,18 @@ fn back_part(device: u64, bytes: u64, start: u64, blocks: u64) -> Part
 fn cut_out<'a>(area: &'a [u8], part: Part) -> &'a [u8]
     requires { ⌜ part .start + part .len ≤ length (now area) ⌝ }
     ensures bytes { λ r. ⌜ now r ≡ cut (now (area .entry)) part ⌝ }
-    ensures memory { λ r. ⌜ r .ptr ≡ within (area .entry .ptr) part ⌝ }
+    ensures memory { λ r. ⌜ r .ptr ≡ partPtr (area .entry .ptr) part ⌝ }
 {
     let from = part.start as usize;
     let to = from + part.len as usize;
     &area[from..to]
 }
 
-// The front part of the range of `blocks` blocks from block `start` on; its number is `front_result`'s.
+// The front part of the range of `blocks` blocks from block `start` on: the area from start times 4096 on (`front-start`), to the range's or the
+// journal's end. Where the range has no blocks, or the call is refused, it is the area's first 0 bytes. Its number is `front_result`'s.
 pub fn front<'a>(device: u64, area: &'a [u8], start: u64, blocks: u64) -> &'a [u8]
     ensures bytes { λ r. ⌜ now r ≡ frontBytes device (now (area .entry)) start blocks ⌝ }
-    ensures memory { λ r. ⌜ r .ptr ≡ within (area .entry .ptr) (frontPart device (length (now (area .entry))) start blocks) ⌝ }
+    ensures memory { λ r. ⌜ r .ptr ≡ partPtr (area .entry .ptr) (frontPart device (length (now (area .entry))) start blocks) ⌝ }
 {
     let part = front_part(device, area.len() as u64, start, blocks);
     cut_out(area, part)
@@ -105,10 +106,10 @@ pub fn front_result(device: u64, area: &[u8], start: u64, blocks: u64) -> u64
     part.answer
 }
 
-// The back part; its number is `back_result`'s.
+// The back part: the area from 0 on (`back-start`), what the range has past the journal's end. Its number is `back_result`'s.
 pub fn back<'a>(device: u64, area: &'a [u8], start: u64, blocks: u64) -> &'a [u8]
     ensures bytes { λ r. ⌜ now r ≡ backBytes device (now (area .entry)) start blocks ⌝ }
-    ensures memory { λ r. ⌜ r .ptr ≡ within (area .entry .ptr) (backPart device (length (now (area .entry))) start blocks) ⌝ }
+    ensures memory { λ r. ⌜ r .ptr ≡ partPtr (area .entry .ptr) (backPart device (length (now (area .entry))) start blocks) ⌝ }
 {
     let part = back_part(device, area.len() as u64, start, blocks);
     cut_out(area, part)

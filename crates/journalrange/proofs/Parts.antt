@@ -2,12 +2,12 @@
 use mathlib.Core.Path.{_≡_, refl}
 use mathlib.Core.Bool.{Bool, true, cond}
 use mathlib.Core.List.{List, []}
-use mathlib.Core.Logic.{_↔_}
+use mathlib.Core.Logic.{_↔_, _⊎_, inl, inr}
 use mathlib.Core.Option.{Option, some, none}
 use Prim.Native.Nat.{ℕ, _+_, _-_, _*_, _<_, _≤_}
 use native.Mathlib.Omega.{arith}
 use lib.Dec.{eqb, leb}
-use borrow.Author.Tests.{ne-eqb, eqb-true, leb-true, le-leb}
+use borrow.Author.Tests.{ne-eqb, eqb-true, leb-true, leb-false, le-leb}
 use Rattle.base.specs.Refusals.{answer, ascending}
 use Rattle.base.proofs.Refusals.{accepted-iff}
 use Rattle.base.proofs.Tests.{split, tests}
@@ -19,7 +19,7 @@ use Rattle.disklayout.specs.Layout.{NumJournalBlocks, JournalStartAddr, ValidJo
 use Rattle.disklayout.proofs.Devices.{device-good}
 use Rattle.disklayout.proofs.Facts.{journal-iff}
 use Rattle.disklayout.proofs.Ranges.{front-valid, back-valid}
-use Rattle.journalrange.specs.Parts.{JournalLength, partRows, startOf, lenOf, partWhen, frontPart, backPart, cut}
+use Rattle.journalrange.specs.Parts.{JournalLength, partRows, startOf, lenOf, partOf, frontPart, backPart, cut}
 
 -- THE NUMBERS
 
@@ -58,17 +58,17 @@ module _ (w : Device) (g : Good w) (s n : ℕ) (l : Location) where
   pub back-in-area : s < NumJournalBlocks w → n ≤ NumJournalBlocks w → JournalBackLocation w s n ≡ some l → InArea w l
   back-in-area h k e = journal-in-area w l (back-valid w g s n l h k e)
 
--- on a device's row, where upstream's `requires` holds
+-- and so on a device's row, where upstream's `requires` holds
 module _ (d s n : ℕ) (l : Location) where
-  pub front-inside : JournalFrontRequires (deviceOf d) s ≡ true → JournalFrontLocation (deviceOf d) s n ≡ some l → InArea (deviceOf d) l
-  front-inside e q = front-in-area (deviceOf d) (device-good d) s n l (simp tests at e) q
+  pub device-front-in-area : JournalFrontRequires (deviceOf d) s ≡ true → JournalFrontLocation (deviceOf d) s n ≡ some l → InArea (deviceOf d) l
+  device-front-in-area e q = front-in-area (deviceOf d) (device-good d) s n l (simp tests at e) q
 
-  pub back-inside : JournalBackRequires (deviceOf d) s n ≡ true → JournalBackLocation (deviceOf d) s n ≡ some l → InArea (deviceOf d) l
-  back-inside e q = let h = simp tests at e in back-in-area (deviceOf d) (device-good d) s n l (h .0) (h .1) q
+  pub device-back-in-area : JournalBackRequires (deviceOf d) s n ≡ true → JournalBackLocation (deviceOf d) s n ≡ some l → InArea (deviceOf d) l
+  device-back-in-area e q = let h = simp tests at e in back-in-area (deviceOf d) (device-good d) s n l (h .0) (h .1) q
 
 -- so what a call hands back lies within what was lent, however much that is
 part-fits : (d : ℕ) (pre : Bool) (o : Option Location) (bytes : ℕ) → (pre ≡ true → (l : Location) → o ≡ some l → InArea (deviceOf d) l) →
-    partWhen (answer (partRows d pre bytes)) o .start + partWhen (answer (partRows d pre bytes)) o .len ≤ bytes
+    partOf (answer (partRows d pre bytes)) o .start + partOf (answer (partRows d pre bytes)) o .len ≤ bytes
 part-fits d pre o bytes h =
     split (eqb (answer (partRows d pre bytes)) 0)
     (λ t. let a = accepted d pre bytes .0 (eqb-true (answer (partRows d pre bytes)) 0 t) in rw (t, a .lent) (located o (h (a .required))))
@@ -81,39 +81,48 @@ part-fits d pre o bytes h =
 module _ (d bytes s n : ℕ) where
   pub front-fits : frontPart d bytes s n .start + frontPart d bytes s n .len ≤ bytes
   unfolding frontPart
-  front-fits = part-fits d (JournalFrontRequires (deviceOf d) s) (JournalFrontLocation (deviceOf d) s n) bytes (λ e l q. front-inside d s n l e q)
+  front-fits = part-fits d (JournalFrontRequires (deviceOf d) s) (JournalFrontLocation (deviceOf d) s n) bytes (λ e l q. device-front-in-area d s n l e q)
 
   pub back-fits : backPart d bytes s n .start + backPart d bytes s n .len ≤ bytes
   unfolding backPart
-  back-fits = part-fits d (JournalBackRequires (deviceOf d) s n) (JournalBackLocation (deviceOf d) s n) bytes (λ e l q. back-inside d s n l e q)
+  back-fits = part-fits d (JournalBackRequires (deviceOf d) s n) (JournalBackLocation (deviceOf d) s n) bytes (λ e l q. device-back-in-area d s n l e q)
 
 -- a refused part is empty, and so is one that doesn't exist
-pub refused-empty : (area : List ℕ) (number : ℕ) (o : Option Location) → (number ≡ 0 → ⊥) → cut area (partWhen number o) ≡ []
+pub refused-empty : (area : List ℕ) (number : ℕ) (o : Option Location) → (number ≡ 0 → ⊥) → cut area (partOf number o) ≡ []
 refused-empty area number o ne = rw (ne-eqb number 0 ne)
 
-pub absent-empty : (area : List ℕ) (number : ℕ) → cut area (partWhen number none) ≡ []
+pub absent-empty : (area : List ℕ) (number : ℕ) → cut area (partOf number none) ≡ []
 absent-empty area number = split (eqb number 0) (λ t. rw t) (λ f. rw f)
 
 -- WHERE IT BEGINS, AND HOW LONG IT IS
 
+-- how many blocks the front part has, those up to the journal's end, and how many the back part has, the rest
+abbrev pub frontBlocks : Device → ℕ → ℕ → ℕ
+frontBlocks w s n = cond (leb n (NumJournalBlocks w - s)) n (NumJournalBlocks w - s)
+
+abbrev pub backBlocks : Device → ℕ → ℕ → ℕ
+backBlocks w s n = n - (NumJournalBlocks w - s)
+
 module _ (w : Device) (s n : ℕ) where
-  -- the front part, of a range that isn't empty, at start times 4096; the back part at 0
+  -- the front part begins at start times 4096, if the range has blocks at all; the back part begins at 0
   pub front-start : (n ≡ 0 → ⊥) → startOf (JournalFrontLocation w s n) ≡ s * 4096
   front-start ne = rw (ne-eqb n 0 ne) (omega arith)
 
   pub back-start : startOf (JournalBackLocation w s n) ≡ 0
   back-start = split (eqb n 0) (λ t. rw t) (λ f. split (leb n (w .journal - s)) (λ t. rw (f, t)) (λ t. rw (f, t)))
 
-  -- in whole blocks: the front part's as many as there are up to the journal's end, the back part's the rest
-  pub front-len : lenOf (JournalFrontLocation w s n) ≡ cond (leb n (NumJournalBlocks w - s)) n (NumJournalBlocks w - s) * 4096
+  pub front-len : lenOf (JournalFrontLocation w s n) ≡ frontBlocks w s n * 4096
   front-len =
       split (eqb n 0)
       (λ t. let z : n ≡ 0 = eqb-true n 0 t in rw (t, le-leb n (w .journal - s) (omega arith)) (omega arith))
       (λ f. rw f)
 
-  pub back-len : lenOf (JournalBackLocation w s n) ≡ (n - (NumJournalBlocks w - s)) * 4096
+  pub back-len : lenOf (JournalBackLocation w s n) ≡ backBlocks w s n * 4096
   back-len =
       split (eqb n 0) (λ t. let z : n ≡ 0 = eqb-true n 0 t in rw t (omega arith))
       (λ f. split (leb n (w .journal - s))
       (λ t. let h : n ≤ w .journal - s = leb-true n (w .journal - s) t in rw (f, t) (omega arith))
       (λ t. rw (f, t)))
+
+  pub front-blocks : ((frontBlocks w s n ≡ n) × (n ≤ NumJournalBlocks w - s)) ⊎ ((frontBlocks w s n ≡ NumJournalBlocks w - s) × (NumJournalBlocks w - s < n))
+  front-blocks = split (leb n (w .journal - s)) (λ t. inl (rw t, leb-true n (w .journal - s) t)) (λ f. inr (rw f, leb-false n (w .journal - s) f))

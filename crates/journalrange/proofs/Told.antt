@@ -15,7 +15,7 @@ use Rattle.disklayout.specs.Calls.{number, placeOptionIf, orZeros}
 use Rattle.disklayout.specs.Device.{made, deviceOf}
 use Rattle.disklayout.specs.Layout.{JournalStartAddr, JournalEndAddr}
 use Rattle.journalrange.specs.declared.Part.{Part}
-use Rattle.journalrange.specs.Parts.{JournalLength, partRows, partWhen}
+use Rattle.journalrange.specs.Parts.{JournalLength, partRows, partOf}
 use Rattle.journalrange.proofs.Parts.{InArea, accepted}
 
 -- THE JOURNAL'S LENGTH, by the layout's two addresses: 0 where the device is not made
@@ -32,33 +32,29 @@ number-one : (d bytes : ℕ) (pre : Bool) → (made d && pre) ≡ false → 1 �
 unfolding partRows answer
 number-one d bytes pre e = rw e
 
--- the code's three arms: `told` is the layout's answer to the question for the part's location, `journal` what it tells of the journal's length
-module _ (d bytes told : ℕ) where
-  journal : Number
-  journal = number d (JournalLength (deviceOf d))
+-- what the layout tells of the journal's length
+abbrev pub journal : ℕ → Number
+journal d = number d (JournalLength (deviceOf d))
 
+-- the code's three arms; `located` is the layout's answer to the question for the part's location
+module _ (d bytes located : ℕ) where
   -- the device is made where its journal's length is told
-  asked : (eqb (journal .answer) 0 && eqb told 0) ≡ (made d && eqb told 0)
-  unfolding journal
+  asked : (eqb (journal d .answer) 0 && eqb located 0) ≡ (made d && eqb located 0)
   asked = split (made d) (λ t. rw t) (λ f. rw f)
 
-  told-length : (made d && eqb told 0) ≡ true → journal .value ≡ JournalLength (deviceOf d)
-  unfolding journal
-  told-length e = rw (and-left (made d) (eqb told 0) e)
+  told : (made d && eqb located 0) ≡ true → journal d .value ≡ JournalLength (deviceOf d)
+  told e = rw (and-left (made d) (eqb located 0) e)
 
-  pub number-refused : (eqb (number d (JournalLength (deviceOf d)) .answer) 0 && eqb told 0) ≡ false → 1 ≡ answer (partRows d (eqb told 0) bytes)
-  unfolding journal
-  number-refused e = number-one d bytes (eqb told 0) (rw asked at e)
+  pub number-refused : (eqb (journal d .answer) 0 && eqb located 0) ≡ false → 1 ≡ answer (partRows d (eqb located 0) bytes)
+  number-refused e = number-one d bytes (eqb located 0) (rw asked at e)
 
-  pub number-wrong : (eqb (number d (JournalLength (deviceOf d)) .answer) 0 && eqb told 0) ≡ true →
-      eqb bytes (number d (JournalLength (deviceOf d)) .value) ≡ false → 23 ≡ answer (partRows d (eqb told 0) bytes)
-  unfolding journal partRows answer
-  number-wrong e f = let m = rw asked at e in rw (m, rw (told-length m) at f)
+  pub number-wrong : (eqb (journal d .answer) 0 && eqb located 0) ≡ true → eqb bytes (journal d .value) ≡ false → 23 ≡ answer (partRows d (eqb located 0) bytes)
+  unfolding partRows answer
+  number-wrong e f = let m = rw asked at e in rw (m, rw (told m) at f)
 
-  pub number-zero : (eqb (number d (JournalLength (deviceOf d)) .answer) 0 && eqb told 0) ≡ true →
-      eqb bytes (number d (JournalLength (deviceOf d)) .value) ≡ true → 0 ≡ answer (partRows d (eqb told 0) bytes)
-  unfolding journal partRows answer
-  number-zero e f = let m = rw asked at e in rw (m, rw (told-length m) at f)
+  pub number-zero : (eqb (journal d .answer) 0 && eqb located 0) ≡ true → eqb bytes (journal d .value) ≡ true → 0 ≡ answer (partRows d (eqb located 0) bytes)
+  unfolding partRows answer
+  number-zero e f = let m = rw asked at e in rw (m, rw (told m) at f)
 
 -- THE PART
 
@@ -67,10 +63,10 @@ pub start-told : (d : ℕ) (pre : Bool) (bytes : ℕ) → answer (partRows d pre
 start-told d pre bytes e = rw (le-leb d 2 (accepted d pre bytes .0 e .is-made))
 
 module _ (n : ℕ) (exists : Bool) (l : Location) where
-  pub part-there : (eqb n 0 && exists) ≡ true → _≡_ {A = Part} (record { answer = 0; start = l .addr - JournalStartAddr; len = l .len }) (partWhen n (flagged exists l))
+  pub part-there : (eqb n 0 && exists) ≡ true → _≡_ {A = Part} (record { answer = 0; start = l .addr - JournalStartAddr; len = l .len }) (partOf n (flagged exists l))
   part-there e = let h = and-iff (eqb n 0) exists .0 e in let z : n ≡ 0 = eqb-true n 0 (h .0) in rw (z, h .1)
 
-  pub part-absent : (eqb n 0 && exists) ≡ false → _≡_ {A = Part} (record { answer = n; start = 0; len = 0 }) (partWhen n (flagged exists l))
+  pub part-absent : (eqb n 0 && exists) ≡ false → _≡_ {A = Part} (record { answer = n; start = 0; len = 0 }) (partOf n (flagged exists l))
   part-absent e = split (eqb n 0) (λ t. split exists (λ x. clash (and-both t x) e) (λ x. rw (t, x))) (λ f. rw f)
 
 -- WHAT THE LAYOUT'S CALL TELLS
@@ -78,8 +74,8 @@ module _ (n : ℕ) (exists : Bool) (l : Location) where
 module _ (d : ℕ) (pre : Bool) (o : Option Location) where
   -- the same part is told by it
   pub told-part : (bytes : ℕ) →
-      partWhen (answer (partRows d (eqb (placeOptionIf d pre o .answer) 0) bytes)) (flagged (placeOptionIf d pre o .exists) (placeOptionIf d pre o .loc))
-      ≡ partWhen (answer (partRows d pre bytes)) o
+      partOf (answer (partRows d (eqb (placeOptionIf d pre o .answer) 0) bytes)) (flagged (placeOptionIf d pre o .exists) (placeOptionIf d pre o .loc))
+      ≡ partOf (answer (partRows d pre bytes)) o
   told-part bytes =
       split (made d && pre) (λ t. let p : pre ≡ true = and-right (made d) pre t in rw (t, p, flagged-back o))
       (λ f. rw (f, ← number-one d bytes false (and-false (made d)), ← number-one d bytes pre f))

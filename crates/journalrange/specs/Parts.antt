@@ -27,7 +27,7 @@ partRows d pre bytes =
     (23 when not (eqb bytes (JournalLength (deviceOf d)))) ∷
     []
 
--- of the range of n blocks from block s on; for the front n may be any number
+-- of the range of n blocks from block s on; the front takes any n
 abbrev pub frontRows : ℕ → ℕ → ℕ → List Row
 frontRows d bytes s = partRows d (JournalFrontRequires (deviceOf d) s) bytes
 
@@ -46,14 +46,14 @@ lenOf none = 0
 lenOf (some l) = l .len
 
 -- by the number of its call and its location: empty where the call is refused
-abbrev pub partWhen : ℕ → Option Location → Part
-partWhen number o = record { answer = number; start = cond (eqb number 0) (startOf o) 0; len = cond (eqb number 0) (lenOf o) 0 }
+abbrev pub partOf : ℕ → Option Location → Part
+partOf number o = record { answer = number; start = cond (eqb number 0) (startOf o) 0; len = cond (eqb number 0) (lenOf o) 0 }
 
 unfoldable pub frontPart : ℕ → ℕ → ℕ → ℕ → Part
-frontPart d bytes s n = partWhen (answer (frontRows d bytes s)) (JournalFrontLocation (deviceOf d) s n)
+frontPart d bytes s n = partOf (answer (frontRows d bytes s)) (JournalFrontLocation (deviceOf d) s n)
 
 unfoldable pub backPart : ℕ → ℕ → ℕ → ℕ → Part
-backPart d bytes s n = partWhen (answer (backRows d bytes s n)) (JournalBackLocation (deviceOf d) s n)
+backPart d bytes s n = partOf (answer (backRows d bytes s n)) (JournalBackLocation (deviceOf d) s n)
 
 -- WHAT A CALL HANDS BACK
 
@@ -67,6 +67,6 @@ frontBytes d area s n = cut area (frontPart d (length area) s n)
 abbrev pub backBytes : ℕ → List ℕ → ℕ → ℕ → List ℕ
 backBytes d area s n = cut area (backPart d (length area) s n)
 
--- where the part lies in memory, by where the area does (a block of memory, and an offset in it): within the area itself, so nothing is copied
-abbrev pub within : ℕ × ℕ → Part → ℕ × ℕ
-within area p = (area .0, p .start + area .1)
+-- where the part lies in memory, by where the area does, an allocation and an offset in it: it is a part of the area itself, and no copy
+abbrev pub partPtr : ℕ × ℕ → Part → ℕ × ℕ
+partPtr area p = (area .0, p .start + area .1)

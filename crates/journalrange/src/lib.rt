@@ -3,7 +3,7 @@
 // what is defined here.
 
 // What is told of a part of a range: the number of its call, and where in the lent area it lies, `len` bytes from byte `start` on. Where the
-// call is refused, or there is no such part, both are 0.
+// call is refused, or the range has no such part, `start` and `len` are 0.
 pub struct Part {
     pub answer: u64,
     pub start: u64,

@@ -2,7 +2,7 @@
 use Rattle.disklayout.specs.Device.{deviceOf}
 use Rattle.disklayout.specs.Journal.{JournalBackRequires, JournalBackLocation}
 use Rattle.journalrange.specs.Parts.{backPart}
-use Rattle.journalrange.proofs.Parts.{back-inside}
+use Rattle.journalrange.proofs.Parts.{device-back-in-area}
 use Rattle.journalrange.proofs.Told.{told-begins, told-part}
 use Rattle.journalarea.proofs.parts.back_part.Statement.{statement}
 use Rattle.journalarea.proofs.parts.back_part.Tie as tie
@@ -15,7 +15,7 @@ part-of-requires c κs =
     let args = c .before .args in
     rw (c .journal-back-location .ensures)
     (told-begins (args .device) (JournalBackRequires (deviceOf (args .device)) (args .start) (args .blocks)) (JournalBackLocation (deviceOf (args .device)) (args .start) (args .blocks))
-    (λ e l q. back-inside (args .device) (args .start) (args .blocks) l e q))
+    (λ e l q. device-back-in-area (args .device) (args .start) (args .blocks) l e q))
 
 returns : tie.Need-returns
 unfolding backPart

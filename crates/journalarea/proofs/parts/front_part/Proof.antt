@@ -2,7 +2,7 @@
 use Rattle.disklayout.specs.Device.{deviceOf}
 use Rattle.disklayout.specs.Journal.{JournalFrontRequires, JournalFrontLocation}
 use Rattle.journalrange.specs.Parts.{frontPart}
-use Rattle.journalrange.proofs.Parts.{front-inside}
+use Rattle.journalrange.proofs.Parts.{device-front-in-area}
 use Rattle.journalrange.proofs.Told.{told-begins, told-part}
 use Rattle.journalarea.proofs.parts.front_part.Statement.{statement}
 use Rattle.journalarea.proofs.parts.front_part.Tie as tie
@@ -15,7 +15,7 @@ part-of-requires c κs =
     let args = c .before .args in
     rw (c .journal-front-location .ensures)
     (told-begins (args .device) (JournalFrontRequires (deviceOf (args .device)) (args .start)) (JournalFrontLocation (deviceOf (args .device)) (args .start) (args .blocks))
-    (λ e l q. front-inside (args .device) (args .start) (args .blocks) l e q))
+    (λ e l q. device-front-in-area (args .device) (args .start) (args .blocks) l e q))
 
 returns : tie.Need-returns
 unfolding frontPart
