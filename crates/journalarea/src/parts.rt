@@ -26,7 +26,8 @@ fn journal_length(device: u64) -> Number
     }
 }
 
-// The number of a part's call; `located` is the layout's answer to the question for its location.
+// The number of a part's call; `located` is the layout's answer to the question for its location. The device is asked for here too, as a device
+// that is not made has a journal of length 0.
 fn part_number(device: u64, bytes: u64, located: u64) -> u64
     ensures { λ r. ⌜ r ≡ answer (partRows device (eqb located 0) bytes) ⌝ }
 {

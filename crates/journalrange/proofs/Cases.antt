@@ -60,7 +60,11 @@ edges =
     (range 1 65536 14 5 gives parts (empty 23) (empty 23)) ∷
     (range 1 262144 62 5 gives parts (part 253952 8192) (part 0 12288)) ∷
     (range 2 1048576 254 5 gives parts (part 1040384 8192) (part 0 12288)) ∷
+    (range 1 262144 64 1 gives parts (empty 1) (empty 1)) ∷
+    (range 2 1048576 255 257 gives parts (part 1044480 4096) (empty 1)) ∷
+    -- a device that is not made, with any area: an empty one too
     (range 3 65536 14 5 gives parts (empty 1) (empty 1)) ∷
+    (range 3 0 14 5 gives parts (empty 1) (empty 1)) ∷
     []
 
 pub edges-shown : map asked edges ≡ map expected edges

@@ -59,12 +59,12 @@ module _ (w : Device) (g : Good w) (s n : ℕ) (l : Location) where
   back-in-area h k e = journal-in-area w l (back-valid w g s n l h k e)
 
 -- and so on a device's row, where upstream's `requires` holds
-module _ (d s n : ℕ) (l : Location) where
-  pub device-front-in-area : JournalFrontRequires (deviceOf d) s ≡ true → JournalFrontLocation (deviceOf d) s n ≡ some l → InArea (deviceOf d) l
-  device-front-in-area e q = front-in-area (deviceOf d) (device-good d) s n l (simp tests at e) q
+module _ (d s n : ℕ) where
+  pub device-front-in-area : JournalFrontRequires (deviceOf d) s ≡ true → (l : Location) → JournalFrontLocation (deviceOf d) s n ≡ some l → InArea (deviceOf d) l
+  device-front-in-area e l q = front-in-area (deviceOf d) (device-good d) s n l (simp tests at e) q
 
-  pub device-back-in-area : JournalBackRequires (deviceOf d) s n ≡ true → JournalBackLocation (deviceOf d) s n ≡ some l → InArea (deviceOf d) l
-  device-back-in-area e q = let h = simp tests at e in back-in-area (deviceOf d) (device-good d) s n l (h .0) (h .1) q
+  pub device-back-in-area : JournalBackRequires (deviceOf d) s n ≡ true → (l : Location) → JournalBackLocation (deviceOf d) s n ≡ some l → InArea (deviceOf d) l
+  device-back-in-area e l q = let h = simp tests at e in back-in-area (deviceOf d) (device-good d) s n l (h .0) (h .1) q
 
 -- so what a call hands back lies within what was lent, however much that is
 part-fits : (d : ℕ) (pre : Bool) (o : Option Location) (bytes : ℕ) → (pre ≡ true → (l : Location) → o ≡ some l → InArea (deviceOf d) l) →
@@ -81,11 +81,11 @@ part-fits d pre o bytes h =
 module _ (d bytes s n : ℕ) where
   pub front-fits : frontPart d bytes s n .start + frontPart d bytes s n .len ≤ bytes
   unfolding frontPart
-  front-fits = part-fits d (JournalFrontRequires (deviceOf d) s) (JournalFrontLocation (deviceOf d) s n) bytes (λ e l q. device-front-in-area d s n l e q)
+  front-fits = part-fits d (JournalFrontRequires (deviceOf d) s) (JournalFrontLocation (deviceOf d) s n) bytes (device-front-in-area d s n)
 
   pub back-fits : backPart d bytes s n .start + backPart d bytes s n .len ≤ bytes
   unfolding backPart
-  back-fits = part-fits d (JournalBackRequires (deviceOf d) s n) (JournalBackLocation (deviceOf d) s n) bytes (λ e l q. device-back-in-area d s n l e q)
+  back-fits = part-fits d (JournalBackRequires (deviceOf d) s n) (JournalBackLocation (deviceOf d) s n) bytes (device-back-in-area d s n)
 
 -- a refused part is empty, and so is one that doesn't exist
 pub refused-empty : (area : List ℕ) (number : ℕ) (o : Option Location) → (number ≡ 0 → ⊥) → cut area (partOf number o) ≡ []

@@ -1,5 +1,5 @@
 // Prints a line for each of a list of journal ranges: what is asked, the number of each part's call, and the blocks of each part, read off the
-// bytes that were handed back.
+// bytes that were handed back. A ? would be 4096 bytes that are not one block's, and +N would be N bytes behind the last whole block.
 ghost use mathlib.Core.Path.{_≡_};
 ghost use Prim.Native.Nat.{ℕ, _/_, _%_, _<_};
 ghost use lib.ListN.{length, getD};
@@ -14,10 +14,10 @@ const JOURNAL1: usize = 262_144;
 
 const JOURNAL2: usize = 1_048_576;
 
-// No block's number: what bytes tell that are not of one block.
+// Not a block's number, which is 0 to 255: for bytes that don't all tell the same block.
 const MIXED: u64 = 256;
 
-const MOST: u64 = 0xffff_ffff_ffff_ffff;
+const U64_MAX: u64 = 0xffff_ffff_ffff_ffff;
 
 // Each byte tells the number of its block.
 fn fill(memory: &mut [u8])
@@ -37,22 +37,21 @@ fn wide(b: u8) -> u64
 }
 
 // The number that each byte of a block tells, or MIXED.
-fn told(block: &[u8]) -> u64
+fn block_number(block: &[u8]) -> u64
     ensures { λ r. ⌜ ((r ≡ 256 → ⊥) → (k : ℕ) → k < length (now (block .entry)) → getD (now (block .entry)) k 0 ≡ r) ⌝ }
 {
     if block.len() == 0 {
         return MIXED;
     }
-    let number = wide(block[0]);
+    let number = block[0];
     let mut i: usize = 0;
     while i < block.len() {
-        let b = wide(block[i]);
-        if b != number {
+        if block[i] != number {
             return MIXED;
         }
         i += 1;
     }
-    number
+    wide(number)
 }
 
 fn field(name: &[u8], n: u64) {
@@ -71,19 +70,19 @@ fn print_block(first: bool, number: u64) {
     }
 }
 
-// Bytes behind the last whole block, of which a part should have none.
+// Bytes behind the last whole block.
 fn print_left(bytes: usize) {
     if bytes != 0 {
         field(b"+", bytes as u64);
     }
 }
 
-// The number that each block of a part tells.
+// The numbers that a part's blocks tell.
 fn print_blocks(part: &[u8]) {
     let mut rest = part;
     let mut first = true;
     while BLOCK <= rest.len() {
-        let number = told(&rest[0..BLOCK]);
+        let number = block_number(&rest[0..BLOCK]);
         print_block(first, number);
         rest = &rest[BLOCK..];
         first = false;
@@ -111,7 +110,7 @@ fn line(device: u64, area: &[u8], start: u64, blocks: u64) {
     io::write_all(STDOUT_FILENO, b"\n");
 }
 
-// Ranges of device 0's journal, and those that are none of it.
+// Ranges of device 0's journal, accepted and refused.
 fn device0(area: &[u8]) {
     line(0, area, 14, 5);
     line(0, area, 14, 2);
@@ -122,14 +121,14 @@ fn device0(area: &[u8]) {
     line(0, area, 15, 16);
     line(0, area, 0, 17);
     line(0, area, 15, 17);
-    line(0, area, 15, MOST);
+    line(0, area, 15, U64_MAX);
     line(0, area, 16, 1);
     line(0, area, 16, 0);
-    line(0, area, MOST, 1);
+    line(0, area, U64_MAX, 1);
 }
 
-// The first bytes of the memory, as many as asked for.
-fn first(memory: &[u8], bytes: usize) -> &[u8] {
+// The first bytes of the memory, as many as asked for or as there are.
+fn prefix(memory: &[u8], bytes: usize) -> &[u8] {
     if bytes <= memory.len() {
         return &memory[0..bytes];
     }
@@ -138,26 +137,27 @@ fn first(memory: &[u8], bytes: usize) -> &[u8] {
 
 // Areas that aren't as long as the journal; 1 comes before 23.
 fn wrong_areas(memory: &[u8]) {
-    line(0, first(memory, JOURNAL0 - 1), 14, 5);
-    line(0, first(memory, JOURNAL0 + 1), 14, 5);
-    line(0, first(memory, 0), 14, 5);
-    line(0, first(memory, JOURNAL0 - 1), 14, 0);
-    line(0, first(memory, JOURNAL0 - 1), 14, 17);
-    line(0, first(memory, JOURNAL0 - 1), 16, 5);
-    line(1, first(memory, JOURNAL0), 14, 5);
-    line(3, first(memory, JOURNAL0), 14, 5);
+    line(0, prefix(memory, JOURNAL0 - 1), 14, 5);
+    line(0, prefix(memory, JOURNAL0 + 1), 14, 5);
+    line(0, prefix(memory, 0), 14, 5);
+    line(0, prefix(memory, JOURNAL0 - 1), 14, 0);
+    line(0, prefix(memory, JOURNAL0 - 1), 14, 17);
+    line(0, prefix(memory, JOURNAL0 - 1), 16, 5);
+    line(1, prefix(memory, JOURNAL0), 14, 5);
+    line(3, prefix(memory, JOURNAL0), 14, 5);
+    line(3, prefix(memory, 0), 14, 5);
 }
 
 // The other devices' journals.
 fn other_devices(memory: &[u8]) {
-    line(1, first(memory, JOURNAL1), 62, 5);
-    line(2, first(memory, JOURNAL2), 254, 5);
+    line(1, prefix(memory, JOURNAL1), 62, 5);
+    line(1, prefix(memory, JOURNAL1), 64, 1);
+    line(2, prefix(memory, JOURNAL2), 254, 5);
+    line(2, prefix(memory, JOURNAL2), 255, 257);
 }
 
-// Room for the longest journal.
-fn zeros() -> [u8; 1_048_576]
-    ensures { λ r. ⌜ 1048576 ≡ length r ⌝ }
-{
+// Room for the longest journal. The array stands in a function of its own: in a proof of `main` it would nest too deep for the checker.
+fn zeros() -> [u8; 1_048_576] {
     [0; 1_048_576]
 }
 
@@ -165,7 +165,7 @@ fn main() {
     let mut memory = zeros();
     fill(&mut memory);
     let whole = &memory[..];
-    device0(first(whole, JOURNAL0));
+    device0(prefix(whole, JOURNAL0));
     wrong_areas(whole);
     other_devices(whole);
 }

@@ -13,17 +13,17 @@ abbrev μ-loop : tie.MeasureT-loop
 loop-holds : tie.Need-loop-holds Inv-loop μ-loop
 loop-holds c = tt
 
-sub-told : tie.Need-sub-told Inv-loop μ-loop
-sub-told c = search needs
+sub-block-number : tie.Need-sub-block-number Inv-loop μ-loop
+sub-block-number c = search needs
 
-part-told-start : tie.Need-part-told-start Inv-loop μ-loop
-part-told-start c = search needs
+part-block-number-start : tie.Need-part-block-number-start Inv-loop μ-loop
+part-block-number-start c = search needs
 
-part-told-end : tie.Need-part-told-end Inv-loop μ-loop
-part-told-end c = search needs
+part-block-number-end : tie.Need-part-block-number-end Inv-loop μ-loop
+part-block-number-end c = search needs
 
-told-requires : tie.Need-told-requires Inv-loop μ-loop
-told-requires c κs = search needs
+block-number-requires : tie.Need-block-number-requires Inv-loop μ-loop
+block-number-requires c κs = search needs
 
 print-block-requires : tie.Need-print-block-requires Inv-loop μ-loop
 print-block-requires c κs = search needs
@@ -56,10 +56,10 @@ print-blocks-spec =
     Inv-loop
     μ-loop
     loop-holds
-    sub-told
-    part-told-start
-    part-told-end
-    told-requires
+    sub-block-number
+    part-block-number-start
+    part-block-number-end
+    block-number-requires
     print-block-requires
     sub-rest
     part-rest-start
