@@ -32,12 +32,12 @@ fn part_number(device: u64, bytes: u64, located: u64) -> u64
     ensures { λ r. ⌜ r ≡ answer (partRows device (eqb located 0) bytes) ⌝ }
 {
     let journal = journal_length(device);
+    let length = journal.value;
     let ok = (journal.answer == 0) & (located == 0);
-    let whole = bytes == journal.value;
     if !ok {
         return 1;
     }
-    if !whole {
+    if bytes != length {
         return 23;
     }
     0

@@ -5,7 +5,7 @@ use mathlib.Core.Option.{Option, some, none}
 use Prim.Native.Nat.{ℕ, _-_, _≤_}
 use native.Mathlib.Omega.{arith}
 use lib.Dec.{eqb}
-use borrow.Author.Tests.{eqb-true, le-leb}
+use borrow.Author.Tests.{eqb-true, eq-eqb, ne-eqb, le-leb}
 use Rattle.base.specs.Maps.{flagged, isSome}
 use Rattle.base.specs.Refusals.{answer}
 use Rattle.base.proofs.Tests.{split, clash, and-iff, and-both, and-left, and-right, some-iff}
@@ -48,13 +48,13 @@ module _ (d bytes located : ℕ) where
   pub number-refused : (eqb (journal d .answer) 0 && eqb located 0) ≡ false → 1 ≡ answer (partRows d (eqb located 0) bytes)
   number-refused e = number-one d bytes (eqb located 0) (rw asked at e)
 
-  pub number-wrong : (eqb (journal d .answer) 0 && eqb located 0) ≡ true → eqb bytes (journal d .value) ≡ false → 23 ≡ answer (partRows d (eqb located 0) bytes)
+  pub number-wrong : (eqb (journal d .answer) 0 && eqb located 0) ≡ true → (bytes ≡ journal d .value → ⊥) → 23 ≡ answer (partRows d (eqb located 0) bytes)
   unfolding partRows answer
-  number-wrong e f = let m = rw asked at e in rw (m, rw (told m) at f)
+  number-wrong e f = let m = rw asked at e in rw (m, ne-eqb bytes (JournalLength (deviceOf d)) (rw (told m) at f))
 
-  pub number-zero : (eqb (journal d .answer) 0 && eqb located 0) ≡ true → eqb bytes (journal d .value) ≡ true → 0 ≡ answer (partRows d (eqb located 0) bytes)
+  pub number-zero : (eqb (journal d .answer) 0 && eqb located 0) ≡ true → bytes ≡ journal d .value → 0 ≡ answer (partRows d (eqb located 0) bytes)
   unfolding partRows answer
-  number-zero e f = let m = rw asked at e in rw (m, rw (told m) at f)
+  number-zero e f = let m = rw asked at e in rw (m, eq-eqb bytes (JournalLength (deviceOf d)) (rw (told m) at f))
 
 -- THE PART
 

@@ -28,7 +28,7 @@ module _ (w : Device) (s i : ℕ) (in-journal : s < NumJournalBlocks w) (short :
   pub pos-mod : rangeBlock w s i ≡ JournalPosAdd w s i
   pos-mod =
       split (leb (NumJournalBlocks w) (s + i))
-      (λ t. let k : NumJournalBlocks w ≤ s + i = leb-true (w .journal) (s + i) t in rw (t, mod-eq-sub-mod k) (mod-eq-of-lt (omega arith)))
+      (λ t. let k : NumJournalBlocks w ≤ s + i = leb-true (w .journal) (s + i) t in rw t (mod-eq-sub-mod k ∙ mod-eq-of-lt (omega arith)))
       (λ f. rw f (mod-eq-of-lt (leb-false (w .journal) (s + i) f)))
 
   round : (rangeBlock w s i ≡ s + i) ⊎ (rangeBlock w s i + NumJournalBlocks w ≡ s + i)

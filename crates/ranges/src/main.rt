@@ -21,7 +21,7 @@ const U64_MAX: u64 = 0xffff_ffff_ffff_ffff;
 
 // Each byte tells the number of its block.
 fn fill(memory: &mut [u8])
-    ensures { λ r. ⌜ ((k : ℕ) → k < length (now (memory .exit)) → getD (now (memory .exit)) k 0 ≡ k / 4096 % 256) ⌝ }
+    ensures { λ _. ⌜ ((k : ℕ) → k < length (now (memory .exit)) → getD (now (memory .exit)) k 0 ≡ k / 4096 % 256) ⌝ }
 {
     let mut i: usize = 0;
     while i < memory.len() {
