@@ -106,6 +106,10 @@ module _ (w : Device) where
       (λ z. rw (z, ne-eqb (TableAreaAddr w 1) (IndirectionTable1Addr w) (λ (x : TableAreaAddr w 1 ≡ IndirectionTable1Addr w). omega arith)) (omega arith))
       (two-cases k h)
 
+  -- each address but area 1's gets area 1's, one of neither area too
+  pub other-else : (a : ℕ) → (a ≡ IndirectionTable1Addr w → ⊥) → otherIndirectionTableAddr w a ≡ IndirectionTable1Addr w
+  other-else a ne = rw (ne-eqb a (IndirectionTable1Addr w) ne)
+
   module _ (g : Good w) where
     -- each area ends at or before the first node block, below 2 to the 64
     pub area-ends : (k : ℕ) → k < 2 → TableAreaAddr w k + w .table ≤ FirstNodeAddr w

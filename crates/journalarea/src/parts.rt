@@ -65,14 +65,16 @@ fn part_of(device: u64, bytes: u64, place: PlaceOption) -> Part
     }
 }
 
-fn front_part(device: u64, bytes: u64, start: u64, blocks: u64) -> Part
+// The number of the front part's call where `bytes` bytes are lent, and where in them the part lies; 0 and 0 where it is refused or doesn't exist.
+pub fn front_part(device: u64, bytes: u64, start: u64, blocks: u64) -> Part
     ensures { λ r. ⌜ r ≡ frontPart device bytes start blocks ⌝ }
 {
     let place = layout::journal_front_location(device, start, blocks);
     part_of(device, bytes, place)
 }
 
-fn back_part(device: u64, bytes: u64, start: u64, blocks: u64) -> Part
+// The same of the back part.
+pub fn back_part(device: u64, bytes: u64, start: u64, blocks: u64) -> Part
     ensures { λ r. ⌜ r ≡ backPart device bytes start blocks ⌝ }
 {
     let place = layout::journal_back_location(device, start, blocks);
