@@ -52,7 +52,7 @@ uint64_t layout_other_table_addr(uint64_t device, uint64_t addr);
  *
  * The range has `blocks` blocks of 4096 bytes, from block `start` of the journal on; behind the journal's last block comes its first. The front
  * part is what lies up to the journal's end. The caller has the journal in memory, in an area of `bytes` bytes, and start and length are
- * told in that area. They are 0 where the range has no blocks.
+ * told in that area: their sum is at most `bytes`. They are 0 where the range has no blocks.
  */
 
 /* 0: answered; 1: there is no such device, or the journal has no block `start`; 23: neither, and the journal doesn't have `bytes` bytes. */
@@ -67,7 +67,8 @@ uint64_t layout_front_len(uint64_t device, uint64_t bytes, uint64_t start, uint6
 /*
  * THE BACK PART OF A RANGE OF THE JOURNAL
  *
- * What the same range has past the journal's end, from the journal's first block on. Start and length are 0 where it doesn't go past the end.
+ * What the same range has past the journal's end, from the journal's first block on, told in the same area. Start and length are 0 where the
+ * range doesn't go past the end.
  */
 
 /* 0: answered; 1: there is no such device, or the journal has no block `start`, or fewer than `blocks` blocks;
