@@ -1,9 +1,9 @@
 /*
  * Where things lie on a device of the clubhouse store: the questions that the store's own library answers, for C11 and C++.
  *
- * All numbers are 64 bits wide. A device is 0, 1 or 2. A place is an address and a length, in bytes. An answer of more than one number is a
- * function for each of them, with the same arguments. The result, by the function whose name ends in `_result`, is 0 where the question is
- * answered; where it is not 0, each of the other numbers is 0.
+ * All numbers are 64 bits wide. A device is 0, 1 or 2. A place is an address and a length, in bytes. Each number of an answer has a function of
+ * its own, all with the same arguments. The result, by the function whose name ends in `_result`, is 0 where the question is answered; where it
+ * is not 0, each of the other numbers is 0.
  *
  * Any numbers may be given. No function reads or writes memory of the caller's, and each returns. That each answers as the store's library
  * does, for all numbers, is proved: crates/kiosk/src/lib.rt. Link with libkiosk.a, which `rt staticlib kiosk` writes (x86-64).
@@ -18,13 +18,14 @@ extern "C" {
 #endif
 
 /*
- * WHICH PLACE THIS IS
+ * WHICH PLACE THIS IS: what could lie there, not what is stored
  */
 
 /* 0: answered; 1: there is no such device. */
 uint64_t layout_place_result(uint64_t device, uint64_t addr, uint64_t len);
 
-/* 1: superblock 1; 2: superblock 2; 3: journal; 4: table; 5: node; 0: none of these, or the result isn't 0. */
+/* 1: superblock 1; 2: superblock 2; 3: journal, whole blocks of it, perhaps none; 4: table; 5: node, at the start of a block, those past the 128 of
+ * the device too; 0: none of these, or the result isn't 0. */
 uint64_t layout_place_kind(uint64_t device, uint64_t addr, uint64_t len);
 
 /*
@@ -50,35 +51,36 @@ uint64_t layout_other_table_addr(uint64_t device, uint64_t addr);
 /*
  * THE FRONT PART OF A RANGE OF THE JOURNAL
  *
- * The range has `blocks` blocks of 4096 bytes, from block `start` of the journal on; behind the journal's last block comes its first. The front
- * part is what lies up to the journal's end. The caller has the journal in memory, in an area of `bytes` bytes, and start and length are
- * told in that area: their sum is at most `bytes`. They are 0 where the range has no blocks.
+ * The range has `blocks` blocks of 4096 bytes, any number of them, from block `start` of the journal on. Blocks are counted from 0, and after the
+ * journal's last block comes its first. The front part is what lies up to the journal's end. The caller has the journal in memory, in an area of
+ * `bytes` bytes: 65536 for device 0, 262144 for device 1, 1048576 for device 2. The part's start and length are told in bytes of that area,
+ * and their sum is at most `bytes`.
  */
 
 /* 0: answered; 1: there is no such device, or the journal has no block `start`; 23: neither, and the journal doesn't have `bytes` bytes. */
 uint64_t layout_front_result(uint64_t device, uint64_t bytes, uint64_t start, uint64_t blocks);
 
-/* Where in the area the front part begins, in bytes; 0 too where it has none, or the result isn't 0. */
+/* Where in the area the front part begins, in bytes; 0 too where the range has no blocks, or the result isn't 0. */
 uint64_t layout_front_start(uint64_t device, uint64_t bytes, uint64_t start, uint64_t blocks);
 
-/* How many bytes the front part has; 0 too where the result isn't 0. */
+/* How many bytes the front part has; 0 where the range has no blocks, or the result isn't 0. */
 uint64_t layout_front_len(uint64_t device, uint64_t bytes, uint64_t start, uint64_t blocks);
 
 /*
  * THE BACK PART OF A RANGE OF THE JOURNAL
  *
- * What the same range has past the journal's end, from the journal's first block on, told in the same area. Start and length are 0 where the
- * range doesn't go past the end.
+ * What the same range has past the journal's end, from the journal's first block on, told in bytes of the same area. A range of more blocks than
+ * the journal has is refused.
  */
 
 /* 0: answered; 1: there is no such device, or the journal has no block `start`, or fewer than `blocks` blocks;
  * 23: none of these, and the journal doesn't have `bytes` bytes. */
 uint64_t layout_back_result(uint64_t device, uint64_t bytes, uint64_t start, uint64_t blocks);
 
-/* Where in the area the back part begins, in bytes: 0, the journal's first byte. */
+/* Where in the area the back part begins, in bytes: 0, the journal's first byte, for every range. */
 uint64_t layout_back_start(uint64_t device, uint64_t bytes, uint64_t start, uint64_t blocks);
 
-/* How many bytes the back part has; 0 too where the result isn't 0. */
+/* How many bytes the back part has; 0 where the range doesn't go past the journal's end, or the result isn't 0. */
 uint64_t layout_back_len(uint64_t device, uint64_t bytes, uint64_t start, uint64_t blocks);
 
 #ifdef __cplusplus

@@ -1,5 +1,5 @@
 -- The start and the length that C is told of a part are those of the part that Q-3 hands back, whatever is lent and asked for. Assumes nothing.
-use mathlib.Core.Path.{_≡_, refl}
+use mathlib.Core.Path.{refl}
 use mathlib.Core.List.{List}
 use Prim.Native.Nat.{ℕ, _+_, _≤_}
 use native.Mathlib.Omega.{arith}

@@ -33,7 +33,7 @@ module _ (d : ℕ) where
 -- OF A PART
 
 -- the part has start and length 0
-abbrev Zeros : Part → Type 0
+abbrev pub Zeros : Part → Type 0
 Zeros p = (p .start ≡ 0) × (p .len ≡ 0)
 
 refused-zeros : (number : ℕ) (o : Option Location) → (number ≡ 0 → ⊥) → Zeros (partOf number o)
