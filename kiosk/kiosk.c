@@ -27,7 +27,7 @@ struct line {
 	size_t len;
 };
 
-/* Reads a line up to its line feed, which isn't kept, or to the end of the input; false where there is none. */
+/* Reads a line up to its line feed, which isn't kept, or to the end of the input; false where there is none, or it couldn't be read to its end. */
 static bool read_line(FILE *in, struct line *line)
 {
 	int c = getc(in);
@@ -38,7 +38,7 @@ static bool read_line(FILE *in, struct line *line)
 			line->text[line->len++] = (char)c;
 		c = getc(in);
 	}
-	return there;
+	return there && !ferror(in);
 }
 
 static bool take_word(const struct line *line, const char *word, size_t *at)
@@ -135,14 +135,20 @@ static void answer(const struct line *line)
 	puts("error");
 }
 
+static int failed(const char *what)
+{
+	fprintf(stderr, "kiosk: %s\n", what);
+	return 1;
+}
+
 int main(void)
 {
 	struct line line;
 	while (!ferror(stdout) && read_line(stdin, &line))
 		answer(&line);
-	if (ferror(stdin) || fflush(stdout) != 0 || ferror(stdout)) {
-		fputs("kiosk: the input couldn't be read, or the output written\n", stderr);
-		return 1;
-	}
+	if (fflush(stdout) != 0 || ferror(stdout))
+		return failed("the output couldn't be written");
+	if (ferror(stdin))
+		return failed("the input couldn't be read");
 	return 0;
 }

@@ -24,12 +24,16 @@ extern "C" {
 /* 0: answered; 1: there is no such device. */
 uint64_t layout_place_result(uint64_t device, uint64_t addr, uint64_t len);
 
-/* 1: superblock 1; 2: superblock 2; 3: journal, whole blocks of it, perhaps none; 4: table; 5: node, at the start of a block, those past the 128 of
- * the device too; 0: none of these, or the result isn't 0. */
+/* 1: superblock 1; 2: superblock 2; 3: whole blocks of the journal, perhaps none; 4: at a table area's address, not empty, no longer than the area;
+ * 5: at the start of a node block, perhaps empty, no longer than a block, and blocks past the device's 128 count too; 0: none of these, or the
+ * result isn't 0. */
 uint64_t layout_place_kind(uint64_t device, uint64_t addr, uint64_t len);
 
 /*
  * WHETHER TWO PLACES OVERLAP, the one of len1 bytes at addr1 and the one of len2 bytes at addr2
+ *
+ * They do where each ends past the other's address; an end may be past 64 bits. So an empty place overlaps one that begins before it and ends past
+ * it, and doesn't overlap itself.
  */
 
 /* 0: answered; 1: there is no such device. */
@@ -77,7 +81,7 @@ uint64_t layout_front_len(uint64_t device, uint64_t bytes, uint64_t start, uint6
  * 23: none of these, and the journal doesn't have `bytes` bytes. */
 uint64_t layout_back_result(uint64_t device, uint64_t bytes, uint64_t start, uint64_t blocks);
 
-/* Where in the area the back part begins, in bytes: 0, the journal's first byte, for every range. */
+/* Where in the area the back part begins, in bytes: always 0, the journal's first byte. */
 uint64_t layout_back_start(uint64_t device, uint64_t bytes, uint64_t start, uint64_t blocks);
 
 /* How many bytes the back part has; 0 where the range doesn't go past the journal's end, or the result isn't 0. */
