@@ -19,6 +19,7 @@ use Rattle.disklayout.specs.Layout.{NumJournalBlocks, JournalStartAddr, ValidJo
 use Rattle.disklayout.proofs.Devices.{device-good}
 use Rattle.disklayout.proofs.Facts.{journal-iff}
 use Rattle.disklayout.proofs.Ranges.{front-valid, back-valid}
+use Rattle.journalrange.specs.declared.Part.{Part}
 use Rattle.journalrange.specs.Parts.{JournalLength, partRows, startOf, lenOf, partOf, frontPart, backPart, cut}
 
 -- THE NUMBERS
@@ -87,12 +88,25 @@ module _ (d bytes s n : ℕ) where
   unfolding backPart
   back-fits = part-fits d (JournalBackRequires (deviceOf d) s n) (JournalBackLocation (deviceOf d) s n) bytes (device-back-in-area d s n)
 
--- a refused part is empty, and so is one that doesn't exist
+-- a refused part has start 0 and length 0, and so has one that doesn't exist
+abbrev pub Zeros : Part → Type 0
+Zeros p = (p .start ≡ 0) × (p .len ≡ 0)
+
+pub refused-zeros : (number : ℕ) (o : Option Location) → (number ≡ 0 → ⊥) → Zeros (partOf number o)
+refused-zeros number o ne = (rw (ne-eqb number 0 ne), rw (ne-eqb number 0 ne))
+
+pub absent-zeros : (number : ℕ) → Zeros (partOf number none)
+absent-zeros number = split (eqb number 0) (λ t. (rw t, rw t)) (λ f. (rw f, rw f))
+
+-- so what is handed back is empty
+zeros-empty : (area : List ℕ) (p : Part) → Zeros p → cut area p ≡ []
+zeros-empty area p z = rw (z .1)
+
 pub refused-empty : (area : List ℕ) (number : ℕ) (o : Option Location) → (number ≡ 0 → ⊥) → cut area (partOf number o) ≡ []
-refused-empty area number o ne = rw (ne-eqb number 0 ne)
+refused-empty area number o ne = zeros-empty area (partOf number o) (refused-zeros number o ne)
 
 pub absent-empty : (area : List ℕ) (number : ℕ) → cut area (partOf number none) ≡ []
-absent-empty area number = split (eqb number 0) (λ t. rw t) (λ f. rw f)
+absent-empty area number = zeros-empty area (partOf number none) (absent-zeros number)
 
 -- WHERE IT BEGINS, AND HOW LONG IT IS
 

@@ -1,5 +1,5 @@
 -- The start and the length that C is told of a part are those of the part that Q-3 hands back, whatever is lent and asked for. Assumes nothing.
-use mathlib.Core.Path.{refl}
+use mathlib.Core.Path.{_≡_, refl, sym, ap, _∙_}
 use mathlib.Core.List.{List}
 use Prim.Native.Nat.{ℕ, _+_, _≤_}
 use native.Mathlib.Omega.{arith}
@@ -23,3 +23,10 @@ module _ (d s n : ℕ) (area : List ℕ) (areaAt : ℕ × ℕ) where
   pub back-told : Tells (backPart d (length area) s n .start) (backPart d (length area) s n .len) area areaAt
       (backBytes d area s n) (partPtr areaAt (backPart d (length area) s n))
   back-told = part-told (backPart d (length area) s n) area areaAt (back-fits d (length area) s n)
+
+-- no other numbers are: what is handed back decides both
+pub told-once : (start len start2 len2 : ℕ) (area : List ℕ) (areaAt : ℕ × ℕ) (part : List ℕ) (partAt : ℕ × ℕ) →
+    Tells start len area areaAt part partAt → Tells start2 len2 area areaAt part partAt → (start ≡ start2) × (len ≡ len2)
+told-once start len start2 len2 area areaAt part partAt a b =
+    let e : start + areaAt .1 ≡ start2 + areaAt .1 = ap (λ (p : ℕ × ℕ). p .1) (sym (a .begins) ∙ b .begins) in
+    (omega arith, sym (a .counts) ∙ b .counts)

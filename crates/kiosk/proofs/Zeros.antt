@@ -1,21 +1,18 @@
 -- Where the result of a question isn't 0 its other numbers are 0, and so are the start and the length of a part that doesn't exist. Assumes nothing.
 use mathlib.Core.Path.{_≡_}
 use mathlib.Core.Bool.{Bool}
-use mathlib.Core.Option.{Option, none}
+use mathlib.Core.Option.{none}
 use Prim.Native.Nat.{ℕ}
-use borrow.Author.Tests.{ne-eqb}
-use lib.Dec.{eqb}
 use Rattle.base.specs.Refusals.{answer}
 use Rattle.base.specs.Scan.{bit}
 use Rattle.base.proofs.Tests.{split}
 use Rattle.disklayout.specs.declared.Kind.{Kind}
-use Rattle.disklayout.specs.declared.Location.{Location}
 use Rattle.disklayout.specs.Calls.{flag, number, placeKind}
 use Rattle.disklayout.specs.Device.{deviceOf, made}
 use Rattle.disklayout.specs.Journal.{JournalFrontLocation, JournalBackLocation}
 use Rattle.disklayout.specs.Kinds.{kindNumber}
-use Rattle.journalrange.specs.declared.Part.{Part}
-use Rattle.journalrange.specs.Parts.{frontRows, backRows, partOf, frontPart, backPart}
+use Rattle.journalrange.specs.Parts.{frontRows, backRows, frontPart, backPart}
+use Rattle.journalrange.proofs.Parts.{Zeros, refused-zeros, absent-zeros}
 
 -- OF A REFUSED QUESTION
 
@@ -30,17 +27,7 @@ module _ (d : ℕ) where
   pub other-refused : (v : ℕ) → (number d v .answer ≡ 0 → ⊥) → number d v .value ≡ 0
   other-refused v ne = split (made d) (λ t. absurd (ne (rw t))) (λ f. rw f)
 
--- OF A PART
-
--- the part has start and length 0
-abbrev pub Zeros : Part → Type 0
-Zeros p = (p .start ≡ 0) × (p .len ≡ 0)
-
-refused-zeros : (number : ℕ) (o : Option Location) → (number ≡ 0 → ⊥) → Zeros (partOf number o)
-refused-zeros number o ne = (rw (ne-eqb number 0 ne), rw (ne-eqb number 0 ne))
-
-absent-zeros : (number : ℕ) → Zeros (partOf number none)
-absent-zeros number = split (eqb number 0) (λ t. (rw t, rw t)) (λ f. (rw f, rw f))
+-- OF A PART: start and length are 0
 
 module _ (d bytes s n : ℕ) where
   pub front-refused : (answer (frontRows d bytes s) ≡ 0 → ⊥) → Zeros (frontPart d bytes s n)
