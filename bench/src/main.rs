@@ -9,7 +9,7 @@ mod sector;
 use cache::{Cache, Call, VersionOp};
 use disk::{Disk, DiskOp, NodeRecord, Records, TableRecord};
 use layout::Location;
-use sector::{Entry, Node, Succs, Table};
+use sector::{Contents, Entry, Node, Succs, Table};
 
 #[derive(Default)]
 struct State {
@@ -72,7 +72,7 @@ fn with_node(reference: u64, vop: VersionOp, dop: DiskOp, node: Node) -> Call {
     Call { reference, vop, dop, node, table: Table::default() }
 }
 
-fn naming(contents: u64, list: &[u8]) -> Node {
+fn naming(contents: Contents, list: &[u8]) -> Node {
     let mut at = [0; 8];
     at[..list.len()].copy_from_slice(list);
     Node { contents, succs: Succs { count: list.len() as u8, at } }
@@ -80,6 +80,7 @@ fn naming(contents: u64, list: &[u8]) -> Node {
 
 const INTERNAL: VersionOp = VersionOp::StatesInternal;
 const NONE: DiskOp = DiskOp::None;
+const ONE: Contents = Contents { high: 0, low: 1 };
 
 impl State {
     fn mix(&mut self, x: u64) {
@@ -92,7 +93,8 @@ impl State {
         self.calls += 1;
         self.accepted += (answer == 0) as u64;
         self.mix(answer);
-        self.mix(node.contents);
+        self.mix(node.contents.high);
+        self.mix(node.contents.low);
     }
 
     fn turn(&mut self, number: u64, q: Call) {
@@ -116,7 +118,7 @@ impl State {
         let mut table = Table::default();
         table.set(0, Entry { allocated: true, located: true, loc: place, succs: Succs::default() });
         self.disk.records.tables[0] = TableRecord { present: true, loc: at, table };
-        self.disk.records.nodes[0] = NodeRecord { present: true, loc: place, node: naming(base, &[]) };
+        self.disk.records.nodes[0] = NodeRecord { present: true, loc: place, node: naming(self.contents(0), &[]) };
     }
 
     fn read(&mut self, r: u64) {
@@ -173,8 +175,13 @@ impl State {
         self.turn(12, bare(0, VersionOp::Freeze, NONE));
     }
 
+    /// The contents of reference r in this round: high its number, low that and r more.
+    fn contents(&self, r: u64) -> Contents {
+        Contents { high: self.base, low: self.base.wrapping_add(r) }
+    }
+
     fn leaf(&self, r: u8) -> Node {
-        naming(self.base.wrapping_add(r as u64), &[r.saturating_sub(1), 0])
+        naming(self.contents(r as u64), &[r.saturating_sub(1), 0])
     }
 
     fn round(&mut self, i: u64) {
@@ -189,14 +196,14 @@ impl State {
         self.evict(0);
         self.node_req(0, 7, 0);
         self.node_req(0, 8, 0);
-        self.node_resp(7, naming(self.base, &[]));
+        self.node_resp(7, naming(self.contents(0), &[]));
         self.read(0);
-        self.alloc(5, naming(1, &[5, 5]));
+        self.alloc(5, naming(ONE, &[5, 5]));
 
         for r in 1..=8 {
             self.alloc(r as u64, self.leaf(r));
         }
-        let contents = self.base.wrapping_add(100);
+        let contents = self.contents(100);
         self.dirty(0, naming(contents, &[1, 2, 3, 4, 5, 6, 7, 8]));
         for r in 0..=8 {
             self.read(r);
@@ -217,7 +224,7 @@ impl State {
         }
         self.write_resp(99);
 
-        let small = naming(1, &[0, 0]);
+        let small = naming(ONE, &[0, 0]);
         self.freeze();
         self.dirty(1, small);
         let dop = DiskOp::ReqWriteTable(40, self.area(1));

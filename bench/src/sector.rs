@@ -9,8 +9,14 @@ pub struct Succs {
 }
 
 #[derive(Clone, Copy, PartialEq, Eq, Default)]
+pub struct Contents {
+    pub high: u64,
+    pub low: u64,
+}
+
+#[derive(Clone, Copy, PartialEq, Eq, Default)]
 pub struct Node {
-    pub contents: u64,
+    pub contents: Contents,
     pub succs: Succs,
 }
 

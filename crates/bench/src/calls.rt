@@ -6,12 +6,13 @@ use blockdisk::DiskOp;
 use blockdisk::Records;
 use blocksystem::Outcome;
 use disklayout::Location;
+use sectortype::Contents;
 use sectortype::Node;
 use sectortype::Succs;
 use sectortype::Table;
 use system::Store;
 
-// The device and the contents number of this round, the counts and the checksum so far, and the store.
+// The device and the number of this round, which its contents are made of, the counts and the checksum so far, and the store.
 pub struct State {
     pub device: u64,
     pub base: u64,
@@ -52,13 +53,15 @@ pub fn offer(s: State, number: u64, q: Call, offered: Records) -> State {
     };
     let o = store.step(number, q, offered);
     let node = o.node;
+    let read = node.contents;
     let answered = mixed(s.checksum, o.answer);
+    let higher = mixed(answered, read.high);
     State {
         device: s.device,
         base: s.base,
         calls: std::num::wrapping_add_u64(s.calls, 1),
         accepted: std::num::wrapping_add_u64(s.accepted, one_if_accepted(o.answer)),
-        checksum: mixed(answered, node.contents),
+        checksum: mixed(higher, read.low),
         store: o,
     }
 }
@@ -71,9 +74,12 @@ pub fn turn(s: State, number: u64, q: Call) -> State {
     offer(s, number, q, offered)
 }
 
-// The contents number of reference r in this round.
-pub fn contents(base: u64, r: u64) -> u64 {
-    std::num::wrapping_add_u64(base, r)
+// The contents of reference r in this round: high its number, low that and r more.
+pub fn contents(base: u64, r: u64) -> Contents {
+    Contents {
+        high: base,
+        low: std::num::wrapping_add_u64(base, r),
+    }
 }
 
 pub fn node_place(device: u64, block: u64) -> Location {
@@ -135,7 +141,7 @@ pub fn with_table(vop: VersionOp, dop: DiskOp, table: Table) -> Call {
 }
 
 // A node that names two references.
-pub fn naming(contents: u64, first: u8, second: u8) -> Node {
+pub fn naming(contents: Contents, first: u8, second: u8) -> Node {
     let mut at: [u8; 8] = [0; 8];
     at[0] = first;
     at[1] = second;
@@ -144,7 +150,7 @@ pub fn naming(contents: u64, first: u8, second: u8) -> Node {
 }
 
 // A node that names 1 to 7, and 8 too where `all` holds.
-pub fn root(contents: u64, all: bool) -> Node {
+pub fn root(contents: Contents, all: bool) -> Node {
     let mut at: [u8; 8] = [0; 8];
     at[0] = 1;
     at[1] = 2;

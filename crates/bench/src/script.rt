@@ -39,9 +39,8 @@ fn leaf(base: u64, r: u8) -> Node {
 
 // The root as formatting leaves it.
 fn first_root(base: u64) -> Node {
-    let mut n = sector::zero_node();
-    n.contents = base;
-    n
+    let x = contents(base, 0);
+    sector::leaf_node(x)
 }
 
 // Calls 1 to 12: a start from area 1, and the root paged in.
@@ -58,7 +57,8 @@ fn load(s: State) -> State {
     let n = first_root(s.base);
     let s = page_in_node_resp(s, 7, n);
     let s = read(s, 0);
-    let m = naming(1, 5, 5);
+    let x = sector::carried_contents(1);
+    let m = naming(x, 5, 5);
     alloc(s, 5, m) // 13: it names itself
 }
 
@@ -147,10 +147,16 @@ fn write_back(s: State) -> State {
     write_back_node_resp(s, 99) // 5: not awaited
 }
 
+// A node with the number 1 that names the root twice.
+fn small() -> Node {
+    let x = sector::carried_contents(1);
+    naming(x, 0, 0)
+}
+
 // Calls 53 to 62: a frozen table written and cleaned up.
 fn persist(s: State) -> State {
     let s = freeze(s);
-    let n = naming(1, 0, 0);
+    let n = small();
     let s = dirty(s, 1, n);
     let s = write_back_table_req(s, 40);
     let s = freeze(s); // 10: a table write is outstanding
@@ -171,7 +177,7 @@ fn lose(s: State) -> State {
     let s = page_in_node_resp(s, 50, n);
     let s = read(s, 2);
     let s = freeze(s);
-    let m = naming(1, 0, 0);
+    let m = small();
     let s = dirty(s, 1, m); // 11: the frozen table needs the cached node
     let s = write_back_node_req(s, 1, 60, 21, m);
     let s = crash(s, VersionOp::StatesInternalOp); // 2
@@ -193,9 +199,10 @@ fn again(s: State) -> State {
     crash(s, VersionOp::CrashOp)
 }
 
-// The store newly formatted on this device, with this contents number; counts and checksum as they were.
+// The store newly formatted on this device for the round of this number; counts and checksum as they were.
 fn formatted(s: State, device: u64, base: u64) -> State {
-    let o = Store::format(device, base);
+    let x = contents(base, 0);
+    let o = Store::format(device, x);
     State {
         device,
         base,
@@ -219,7 +226,8 @@ pub fn round(s: State, i: u64) -> State {
 
 // Nothing called yet.
 pub fn start() -> State {
-    let o = Store::format(0, 0);
+    let x = sector::zero_contents();
+    let o = Store::format(0, x);
     State {
         device: 0,
         base: 0,

@@ -28,7 +28,7 @@ use Rattle.disklayout.specs.declared.Location.{Location}
 use Rattle.queue.proofs.Laws.{none-form, none-map}
 use Rattle.queue.specs.Queue.{emptyRequests}
 use Rattle.queue.specs.declared.Requests.{Requests}
-use Rattle.sectortype.proofs.Forms.{empty-table-form, zero-node-form, zero-succs-form}
+use Rattle.sectortype.proofs.Forms.{empty-table-form, zero-node-form, zero-node-zero}
 use Rattle.sectortype.specs.Abstract.{indirectionTable}
 use Rattle.sectortype.specs.declared.Node.{Node}
 use Rattle.sectortype.specs.declared.Table.{Table}
@@ -80,7 +80,7 @@ empty-table d k = and-both empty-table-form refl
 
 zero-node : (d k : ℕ) → nodeRecordChecked d k zeroNodeRecord .form ≡ true
 unfolding nodeRecordChecked
-zero-node d k = and-both zero-node-form (and-both refl zero-succs-form)
+zero-node d k = and-both zero-node-form zero-node-zero
 
 pub empty-records-form : (d : ℕ) → recordsChecked d emptyRecords .form ≡ true
 empty-records-form d =

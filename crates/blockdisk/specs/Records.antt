@@ -11,7 +11,7 @@ use Rattle.disklayout.specs.Calls.{numberOption, zeroLoc}
 use Rattle.disklayout.specs.Device.{deviceOf}
 use Rattle.disklayout.specs.declared.Location.{Location}
 use Rattle.disklayout.specs.declared.NumberOption.{NumberOption}
-use Rattle.sectortype.specs.Form.{emptyTable, defaultSuccs, zeroNode}
+use Rattle.sectortype.specs.Form.{emptyTable, defaultNode, zeroNode}
 use Rattle.disklayout.specs.Layout.{sameLoc}
 use Rattle.sectortype.specs.declared.Node.{Node}
 use Rattle.sectortype.specs.declared.Table.{Table}
@@ -30,7 +30,7 @@ abbrev pub defaultTableRecord : TableRecord
 defaultTableRecord = record { present = false; loc = zeroLoc; table = record { count = 0; entries = [] } }
 
 abbrev pub defaultNodeRecord : NodeRecord
-defaultNodeRecord = record { present = false; loc = zeroLoc; node = record { contents = 0; succs = defaultSuccs } }
+defaultNodeRecord = record { present = false; loc = zeroLoc; node = defaultNode }
 
 abbrev pub tableRecordAt : Records → ℕ → TableRecord
 tableRecordAt r k = getD (r .tables) k defaultTableRecord

@@ -6,6 +6,7 @@ use mathlib.Core.List.{List, [], _∷_}
 use mathlib.Core.Path.{_≡_}
 use Rattle.base.proofs.Tests.{and-left, and-right}
 use Rattle.disklayout.specs.Device.{made}
+use Rattle.sectortype.specs.declared.Contents.{Contents}
 use Rattle.blocksystem.proofs.Answering.{answered-as}
 use Rattle.blocksystem.proofs.Counting.{none-counted}
 use Rattle.blocksystem.proofs.Formatted.{formatted-holds}
@@ -32,6 +33,7 @@ holds-nothing-lost d s v = (
   (λ e. none-counted d (s .disk) (s .pictures .second) (v .whole .second (s .pictures .second .place) (rw e)) (v .pictures-form .second)),
 )
 
-pub nothing-lost : (d : ℕ) → made d ≡ true → (x : ℕ) (calls : List JoinedCall) → startsNamed d (start d x) calls ≡ true → Answered d (start d x) calls × nothingLost d (after d (start d x) calls)
+pub nothing-lost : (d : ℕ) → made d ≡ true → (x : Contents) (calls : List JoinedCall) → startsNamed d (start d x) calls ≡ true →
+    Answered d (start d x) calls × nothingLost d (after d (start d x) calls)
 nothing-lost d on x calls n =
     (all-answered d calls (start d x), holds-nothing-lost d (after d (start d x) calls) (run-keeps d calls (start d x) (formatted-holds d x on) n))

@@ -33,6 +33,7 @@ use Rattle.sectortype.proofs.Forms.{empty-nodes-form, empty-table-form, with-en
 use Rattle.sectortype.proofs.Maps.{empty-graph, empty-locs, empty-nodes, graph-put, locs-put, nodes-put}
 use Rattle.sectortype.specs.Abstract.{graphOf, indirectionTable, locsOf, nodesMap}
 use Rattle.sectortype.specs.Form.{emptyNodes, emptyTable, nodesForm, succAt, tableForm, zeroNode, zeroSuccs}
+use Rattle.sectortype.specs.declared.Contents.{Contents}
 use Rattle.blocksystem.proofs.Accepting.{none-queued}
 use Rattle.blocksystem.proofs.Invariant.{Invariant, KeptOn, ListsAgree}
 use Rattle.blocksystem.proofs.Laws.{same-put}
@@ -79,7 +80,7 @@ module _ (l : Location) where
   unfolding rootTable
   root-table-form = with-entry-form emptyTable 0 (record { allocated = true; located = true; loc = l; succs = zeroSuccs }) empty-table-form (omega arith) (rw zero-succs-form)
 
-module _ (x : ℕ) where
+module _ (x : Contents) where
   pub root-picture : nodesMap (withRoot x) ≡ put empty 0 (rootNode x)
   root-picture = nodes-put emptyNodes 0 (record { present = true; node = rootNode x }) empty-nodes-form (omega arith) refl ∙ ap (λ m. put m 0 (rootNode x)) empty-nodes
 
@@ -91,6 +92,10 @@ pub no-successor : (r : ℕ) → hasSucc zeroSuccs r ≡ false
 unfolding hasSucc
 no-successor r = some-of-none (λ k. ltb k 0 && eqb (succAt zeroSuccs k) r) 8 (λ k b. rw (le-ltb k 0 (omega arith)))
 
+-- the root's contents are those that were chosen, both numbers, and it has no successors
+pub root-chosen : (x : Contents) → (rootNode x .contents ≡ x) × ((r : ℕ) → hasSucc (rootNode x .succs) r ≡ false)
+root-chosen x = (refl, no-successor)
+
 -- a valid node place
 node-place-valid : (d : ℕ) (l : Location) → NodePlace (deviceOf d) l ≡ true → ValidNodeLocation (deviceOf d) l ≡ true
 unfolding NodePlace
@@ -98,7 +103,7 @@ node-place-valid d l e = let h = simp and-iff at e in h .0 .1
 
 -- WHAT IS STORED
 
-module _ (d x : ℕ) (on : made d ≡ true) where
+module _ (d : ℕ) (x : Contents) (on : made d ≡ true) where
   abbrev k : Location
   k = tablePlaceOf d
 

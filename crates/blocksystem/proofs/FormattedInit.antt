@@ -18,6 +18,7 @@ use Rattle.sectortype.specs.Abstract.{IndirectionTable, indirectionTable}
 use Rattle.sectortype.specs.Form.{zeroSuccs}
 use Rattle.sectortype.specs.declared.Node.{Node}
 use Rattle.sectortype.specs.declared.Succs.{Succs}
+use Rattle.sectortype.specs.declared.Contents.{Contents}
 use Rattle.blocksystem.proofs.Formatted.{formatted-is, formatted-node, no-successor, root-complete, formatted-table, root-graph, root-locs, table-place}
 use Rattle.blocksystem.specs.Format.{formatted, formattedDisk, formattedRecords, rootNode, rootPlace, rootTable, tablePlaceOf}
 use Rattle.blocksystem.specs.Upstream.{DiskGraph, Init, NoDanglingPointers, SuccessorsAgree, systemVars}
@@ -27,7 +28,7 @@ only-zero : {A : Type 0} (a : A) (k : ℕ) → In k (put empty 0 a) → k ≡ 0
 unfolding put
 only-zero a k i = split (eqb k 0) (λ t. eqb-true k 0 t) (λ t. absurd (let z : false ≡ true = rw t at i in false≢true z))
 
-module _ (d x : ℕ) (on : made d ≡ true) where
+module _ (d : ℕ) (x : Contents) (on : made d ≡ true) where
   abbrev l : Location
   l = rootPlace d
 

@@ -29,6 +29,7 @@ use Rattle.disklayout.proofs.Facts.{same-loc-iff}
 use Rattle.sectortype.specs.Abstract.{nodesMap}
 use Rattle.disklayout.specs.Layout.{sameLoc}
 use Rattle.sectortype.specs.declared.Node.{Node}
+use Rattle.sectortype.specs.declared.Contents.{Contents}
 use Rattle.blocksystem.proofs.Accepting.{joined-node, joined-zero}
 use Rattle.blocksystem.proofs.Demand3.{run-keeps}
 use Rattle.blocksystem.proofs.Formatted.{formatted-holds}
@@ -42,7 +43,7 @@ use Rattle.blocksystem.specs.Start.{WFSuccs as wholeGraph}
 use Rattle.blocksystem.specs.Upstream.{DiskGraph, WFSuccs, systemVars}
 
 -- after any list a place is named
-pub always-named : (d : ℕ) → made d ≡ true → (x : ℕ) (calls : List JoinedCall) → startsNamed d (start d x) calls ≡ true → after d (start d x) calls .pictures .first .present ≡ true
+pub always-named : (d : ℕ) → made d ≡ true → (x : Contents) (calls : List JoinedCall) → startsNamed d (start d x) calls ≡ true → after d (start d x) calls .pictures .first .present ≡ true
 always-named d on x calls n = run-keeps d calls (start d x) (formatted-holds d x on) n .first-named
 
 -- A START

@@ -12,13 +12,15 @@ use Rattle.disklayout.specs.Calls.{number}
 use Rattle.disklayout.specs.Device.{deviceOf, made}
 use Rattle.disklayout.specs.Layout.{IndirectionTable1Addr}
 use Rattle.disklayout.specs.declared.Location.{Location}
-use Rattle.sectortype.specs.Form.{emptyTable, withEntry, zeroNode, zeroSuccs}
+use Rattle.sectortype.specs.Form.{emptyTable, leafNode, withEntry, zeroNode, zeroSuccs}
+use Rattle.sectortype.specs.declared.Contents.{Contents}
 use Rattle.sectortype.specs.declared.Node.{Node}
 use Rattle.sectortype.specs.declared.Table.{Table}
 use Rattle.blocksystem.specs.declared.Outcome.{Outcome}
 
-abbrev pub rootNode : ℕ → Node
-rootNode x = record { contents = x; succs = zeroSuccs }
+-- contents chosen, no successors
+abbrev pub rootNode : Contents → Node
+rootNode x = leafNode x
 
 -- 4,096 bytes from an address on: the root's in the first node block, its table's in area 1
 abbrev pub placeAt : ℕ → Location
@@ -35,21 +37,21 @@ unfoldable pub rootTable : Location → Table
 rootTable l = withEntry emptyTable 0 (record { allocated = true; located = true; loc = l; succs = zeroSuccs })
 
 -- the table at k, the root at l
-unfoldable pub formattedRecords : Location → Location → ℕ → Records
+unfoldable pub formattedRecords : Location → Location → Contents → Records
 formattedRecords k l x =
     record {
       tables = set (emptyRecords .tables) 0 (record { present = true; loc = k; table = rootTable l });
       nodes = set (emptyRecords .nodes) 0 (record { present = true; loc = l; node = rootNode x });
     }
 
-abbrev pub formattedDisk : ℕ → ℕ → DiskState
+abbrev pub formattedDisk : ℕ → Contents → DiskState
 formattedDisk d x = record { records = formattedRecords (tablePlaceOf d) (rootPlace d) x; queues = emptyQueues }
 
 abbrev pub emptyDisk : DiskState
 emptyDisk = record { records = emptyRecords; queues = emptyQueues }
 
 -- a device above 2 gives 1 and zeros
-unfoldable pub formatted : ℕ → ℕ → Outcome
+unfoldable pub formatted : ℕ → Contents → Outcome
 formatted d x =
     cond (made d)
     (record { answer = 0; node = zeroNode; cache = emptyCache; disk = formattedDisk d x })

@@ -12,6 +12,7 @@ use Rattle.disklayout.specs.Calls.{zeroLoc}
 use Rattle.disklayout.specs.declared.Location.{Location}
 use Rattle.sectortype.specs.Form.{emptyNodes, withSlot, zeroSlot}
 use Rattle.disklayout.specs.Layout.{sameLoc}
+use Rattle.sectortype.specs.declared.Contents.{Contents}
 use Rattle.sectortype.specs.declared.Nodes.{Nodes}
 use Rattle.blocksystem.specs.Format.{rootNode, tablePlaceOf}
 use Rattle.blocksystem.specs.declared.Named.{Named}
@@ -23,11 +24,11 @@ zeroNamed = record { present = false; place = zeroLoc; picture = emptyNodes }
 abbrev pub naming : Location → Nodes → Named
 naming l p = record { present = true; place = l; picture = p }
 
-abbrev pub withRoot : ℕ → Nodes
+abbrev pub withRoot : Contents → Nodes
 withRoot x = withSlot emptyNodes 0 (record { present = true; node = rootNode x })
 
 -- at first the formatted table's place is named; its picture and the working one hold the root
-unfoldable pub firstPictures : ℕ → ℕ → Pictures
+unfoldable pub firstPictures : ℕ → Contents → Pictures
 firstPictures d x = record { first = naming (tablePlaceOf d) (withRoot x); second = zeroNamed; working = withRoot x; frozen = emptyNodes }
 
 -- the name is of this place

@@ -16,6 +16,7 @@ use Rattle.blockdisk.specs.Ops.{diskRows}
 use Rattle.blockdisk.specs.declared.DiskState.{DiskState}
 use Rattle.blockdisk.specs.declared.Records.{Records}
 use Rattle.sectortype.specs.Form.{zeroNode}
+use Rattle.sectortype.specs.declared.Contents.{Contents}
 use Rattle.blocksystem.specs.Audit.{counted, noneCounted}
 use Rattle.blocksystem.specs.Format.{formatted}
 use Rattle.blocksystem.specs.Joined.{diskAsked, diskCall, joined, startRows}
@@ -34,7 +35,7 @@ pub record State : Type 0 where
   pub pictures : Pictures
 
 module _ (d : ℕ) where
-  abbrev pub start : ℕ → State
+  abbrev pub start : Contents → State
   start x = record { cache = formatted d x .cache; disk = formatted d x .disk; pictures = firstPictures d x }
 
   -- A STEP

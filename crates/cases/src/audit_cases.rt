@@ -1,5 +1,5 @@
 // The references lost, added and altered at the place (AREA1, 4096). After a list of joined calls none are, so pictures and disks are
-// made by hand here. The picture's reference k has contents 100 + k; a node with contents 200 + k is another one. The numbers follow
+// made by hand here. The picture's reference k has contents 100 + k, high 0; a node with contents 200 + k is another one. The numbers follow
 // from document 01: a reference is lost if only the picture has it, added if only the disk has it, altered if both have it with
 // different nodes; the disk has what is stored at exactly the place, then at exactly the reference's location.
 use blockdisk::Records;
@@ -8,6 +8,7 @@ use fixtures::AREA1;
 use fixtures::AREA2;
 use fixtures::at;
 use fixtures::entry_nowhere;
+use fixtures::high_leaf;
 use fixtures::leaf;
 use fixtures::node_record;
 use fixtures::put_node;
@@ -136,7 +137,8 @@ fn added() {
     audited(b"one_reference_not_in_the_picture", most, full);
 }
 
-// Both have all 64; each has other contents on the disk, or 63 alone has other contents, or the same contents and another list.
+// Both have all 64; each has other contents on the disk, or 63 alone has other contents, another high with the same low, both exchanged, or
+// the same contents and another list.
 fn altered() {
     let all = picture_of(0, 64, 100);
     let full = whole();
@@ -147,9 +149,15 @@ fn altered() {
     succs.count = 1;
     node.succs = succs;
     let list = with_last(full, 4096, node);
+    let above = high_leaf(1, 163);
+    let higher = with_last(full, 4096, above);
+    let turned = high_leaf(163, 0);
+    let exchanged = with_last(full, 4096, turned);
     audited(b"64_other_nodes", all, others);
     audited(b"one_node_with_other_contents", all, last);
     audited(b"one_node_with_another_list", all, list);
+    audited(b"one_node_with_another_high", all, higher);
+    audited(b"one_node_with_high_and_low_exchanged", all, exchanged);
 }
 
 // The picture has 0 to 61, the table 1 to 63: 0 is lost, 62 and 63 are added. The nodes of 1, 2 and 3 are others.

@@ -6,6 +6,7 @@ use fixtures::AREA2;
 use fixtures::BLOCK0;
 use fixtures::BLOCK1;
 use fixtures::at;
+use fixtures::high_leaf;
 use fixtures::leaf;
 use fixtures::node_record;
 use fixtures::one;
@@ -56,11 +57,15 @@ fn table_changed(r: Records) -> Records {
     put_table(r, 0, x)
 }
 
-// The stored node: kept, lost, changed, of another length, moved.
+// The stored node: kept, lost, changed, changed in high alone, of another length, moved.
 fn nodes(name: &[u8], queues: Queues) {
     let r = stored();
     let lost = without_node(r);
     let changed = with_node(r, 0, BLOCK0, 4096, 8);
+    let place = at(BLOCK0, 4096);
+    let above = high_leaf(1, 7);
+    let x = node_record(place, above);
+    let higher = put_node(r, 0, x);
     let longer = with_node(r, 0, BLOCK0, 8192, 7);
     let moved = with_node(lost, 1, BLOCK0, 4096, 7);
     let a = crash_answer(r, queues, r);
@@ -68,11 +73,13 @@ fn nodes(name: &[u8], queues: Queues) {
     let c = crash_answer(r, queues, changed);
     let d = crash_answer(r, queues, longer);
     let e = crash_answer(r, queues, moved);
+    let f = crash_answer(r, queues, higher);
     pair(name, b"keeps_the_node", a);
     pair(name, b"loses_the_node", b);
     pair(name, b"changes_the_node", c);
     pair(name, b"changes_the_length_of_the_node", d);
     pair(name, b"puts_the_node_into_another_block", e);
+    pair(name, b"changes_the_high_of_the_node", f);
 }
 
 // The stored table: kept, lost, changed, of another length, moved.
@@ -150,15 +157,21 @@ fn absent() {
     let table = two_entries();
     let mut y = table_record(nowhere, table);
     y.present = false;
+    let high = high_leaf(1, 0);
+    let mut z = node_record(nowhere, high);
+    z.present = false;
     let offered = put_node(r, 1, x);
+    let higher = put_node(r, 1, z);
     let lost = put_node(r, 0, x);
     let tabled = put_table(r, 1, y);
     let a = crash_answer(r, none, offered);
     let b = crash_answer(r, none, lost);
     let c = crash_answer(r, none, tabled);
+    let d = crash_answer(r, none, higher);
     line(b"crash_offers_an_absent_node_that_is_not_zeros", a);
     line(b"crash_loses_a_node_and_the_absent_one_is_not_zeros", b);
     line(b"crash_offers_an_absent_table_that_is_not_zeros", c);
+    line(b"crash_offers_an_absent_node_with_high_alone", d);
 }
 
 pub(crate) fn run() {

@@ -10,6 +10,7 @@ use fixtures::AREA1;
 use fixtures::AREA2;
 use fixtures::BLOCK0;
 use fixtures::at;
+use fixtures::high_leaf;
 use fixtures::leaf;
 use fixtures::queue_of;
 use fixtures::show::disk_answer;
@@ -20,6 +21,7 @@ use fixtures::stored;
 use fixtures::two_entries;
 use queue::Request;
 use queue::Requests;
+use sectortype::Node;
 use sectortype::Table;
 
 fn request_of(kind: u64, id: u64, loc: Location) -> DiskOp {
@@ -189,9 +191,8 @@ fn reading() -> DiskState {
     DiskState { records, queues }
 }
 
-fn node_brought(id: u64, contents: u64) -> u64 {
+fn node_brought(id: u64, node: Node) -> u64 {
     let s = reading();
-    let node = leaf(contents);
     let op = DiskOp::RespReadNodeOp(id, Brought::Something);
     disk_brings(s, op, node)
 }
@@ -212,15 +213,20 @@ fn table_brought(id: u64, table: Table) -> u64 {
 fn brought() {
     let t = two_entries();
     let none = sector::empty_table();
-    let a = node_brought(2, 7);
-    let b = node_brought(1, 7);
-    let c = node_brought(2, 8);
+    let node = leaf(7);
+    let other = leaf(8);
+    let higher = high_leaf(1, 7);
+    let a = node_brought(2, node);
+    let b = node_brought(1, node);
+    let c = node_brought(2, other);
+    let g = node_brought(2, higher);
     let d = table_brought(2, t);
     let e = table_brought(1, t);
     let f = table_brought(2, none);
     line(b"node_answer_at_the_stored_length", a);
     line(b"node_answer_at_another_length", b);
     line(b"node_answer_with_another_node", c);
+    line(b"node_answer_with_another_high", g);
     line(b"table_answer_at_the_stored_length", d);
     line(b"table_answer_at_another_length", e);
     line(b"table_answer_with_another_table", f);

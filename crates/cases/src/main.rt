@@ -1,12 +1,13 @@
 // What no list of joined calls leads to, on states made by hand. Prints a line for each: `case=NAME answer=N` for a call of cache and
-// disk, where every N is document 01's, and `case=NAME lost=X added=Y altered=Z` for the counts of demand 3, which are 0 after every
-// list. (`forms` has the written forms that are broken.)
+// disk, where every N is document 01's, `case=NAME lost=X added=Y altered=Z` for the counts of demand 3, which are 0 after every list, and
+// `case=NAME answer=N` for two nodes that are compared, N 1 where they are equal. (`forms` has the written forms that are broken.)
 mod audit_cases;
 mod cache_cases;
 mod changed;
 mod crash_cases;
 mod disk_cases;
 mod joined_cases;
+mod node_cases;
 
 fn main() {
     disk_cases::run();
@@ -14,4 +15,5 @@ fn main() {
     cache_cases::run();
     joined_cases::run();
     audit_cases::run();
+    node_cases::run();
 }

@@ -14,6 +14,7 @@ use fixtures::AREA2;
 use fixtures::BLOCK0;
 use fixtures::BLOCK1;
 use fixtures::at;
+use fixtures::high_leaf;
 use fixtures::in_phase;
 use fixtures::leaf;
 use fixtures::node_record;
@@ -38,6 +39,7 @@ use fixtures::with_frozen;
 use fixtures::with_persistent;
 use fixtures::with_reads;
 use fixtures::with_writes;
+use sectortype::Node;
 
 fn with_awaited(c: CacheState, waiting: bool, id: u64) -> CacheState {
     let mut next = c;
@@ -106,12 +108,10 @@ fn flags() {
     line(b"awaited_flag_off_with_an_id", d);
 }
 
-// Cached nodes: a slot that is absent and not zeros, a wrong count.
-fn cached() {
-    let node = leaf(9);
+// A Ready cache in whose slot 1 this node stands, though the slot is absent.
+fn absent_cached(node: Node) -> CacheState {
     let c = ready();
-    let good = with_cached(c, 1, node);
-    let mut absent = good;
+    let mut absent = with_cached(c, 1, node);
     let mut m = absent.nodes;
     let mut slots = m.slots;
     let mut slot = slots[1];
@@ -120,6 +120,19 @@ fn cached() {
     m.slots = slots;
     m.count = 0;
     absent.nodes = m;
+    absent
+}
+
+// Cached nodes: a slot that is absent and not zeros, a wrong count.
+fn cached() {
+    let node = leaf(9);
+    let c = ready();
+    let good = with_cached(c, 1, node);
+    let absent = absent_cached(node);
+    let none = sector::zero_node();
+    let zeros = absent_cached(none);
+    let high = high_leaf(1, 0);
+    let higher = absent_cached(high);
     let mut wrong = good;
     let mut n = wrong.nodes;
     n.count = 2;
@@ -127,9 +140,13 @@ fn cached() {
     let a = cache_form(good);
     let b = cache_form(absent);
     let d = cache_form(wrong);
+    let e = cache_form(zeros);
+    let f = cache_form(higher);
     line(b"cached_nodes_of_one_reference", a);
     line(b"cached_nodes_with_an_absent_one_that_is_not_zeros", b);
     line(b"cached_nodes_with_a_wrong_count", d);
+    line(b"cached_nodes_with_an_absent_one_of_zeros", e);
+    line(b"cached_nodes_with_an_absent_one_that_has_high_alone", f);
 }
 
 // Neither phase before Ready has a table, a frozen place, a node, or a node request outstanding.
@@ -203,6 +220,9 @@ fn node_records() {
     let good = node_record(own, node);
     let mut absent = node_record(nowhere, node);
     absent.present = false;
+    let high = high_leaf(1, 0);
+    let mut higher = node_record(nowhere, high);
+    higher.present = false;
     let mut placed = node_record(own, none);
     placed.present = false;
     let moved = node_record(other, node);
@@ -211,6 +231,7 @@ fn node_records() {
     stored_node(b"stored_node_in_another_block", moved);
     stored_node(b"stored_node_of_length_0", empty);
     stored_node(b"absent_node_record_with_contents", absent);
+    stored_node(b"absent_node_record_with_high_alone", higher);
     stored_node(b"absent_node_record_with_a_place", placed);
 }
 

@@ -4,6 +4,7 @@ use disklayout::Kind;
 use disklayout::Location;
 use disklayout::PlaceKind;
 use libc::STDOUT_FILENO;
+use sectortype::Contents;
 use sectortype::Node;
 use sectortype::Succs;
 use words::digits::wide;
@@ -85,11 +86,21 @@ fn list(l: Succs) {
     }
 }
 
+// A word with contents: `LOW` where high is 0, else `HIGH.LOW`.
+fn contents_word(key: &[u8], c: Contents) {
+    if c.high == 0 {
+        word(key, c.low);
+    } else {
+        word(key, c.high);
+        word(b".", c.low);
+    }
+}
+
 // What step 17 answers.
 pub fn read(line: u64, answer: u64, node: Node) {
     word(b"line=", line);
     word(b" answer=", answer);
-    word(b" contents=", node.contents);
+    contents_word(b" contents=", node.contents);
     text(b" succs=");
     list(node.succs);
     text(b"\n");

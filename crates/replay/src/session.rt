@@ -9,6 +9,7 @@ use blocksystem::Named;
 use blocksystem::Outcome;
 use blocksystem::Pictures;
 use disklayout::Location;
+use sectortype::Contents;
 use system::CRASH;
 use system::READ;
 use system::Store;
@@ -42,8 +43,9 @@ fn moved(device: u64, o: Outcome, pictures: Pictures) -> Sequence {
 }
 
 pub fn unstarted() -> Session {
-    let o = Store::format(0, 0);
-    let pictures = system::format_pictures(0, 0);
+    let contents = sector::zero_contents();
+    let o = Store::format(0, contents);
+    let pictures = system::format_pictures(0, contents);
     let sequence = moved(0, o, pictures);
     Session {
         started: false,
@@ -124,7 +126,7 @@ impl Session {
     }
 
     // A refused `format` leaves the sequence before it as it was.
-    fn format(self, device: u64, contents: u64) -> Session {
+    fn format(self, device: u64, contents: Contents) -> Session {
         let o = Store::format(device, contents);
         let answer = o.answer;
         print::answer(self.tally.lines, answer);

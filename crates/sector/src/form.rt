@@ -3,6 +3,7 @@
 ghost use mathlib.Core.Path.{_≡_};
 ghost use Rattle.base.specs.Scan.{bit, countBelow};
 ghost use Rattle.sectortype.specs.Form.{placesZero, succOk, succsForm, succsZero, locZero, nodeForm, nodeZero, entryForm, tableForm, slotForm, nodesForm, allocatedAt, presentAt};
+use crate::contents::contents_zero;
 use disklayout::Location;
 use sectortype::Entry;
 use sectortype::Node;
@@ -76,7 +77,9 @@ pub fn node_zero(n: Node) -> bool
 {
     let s = n.succs;
     let zero = succs_zero(s);
-    (n.contents == 0) & zero
+    let c = n.contents;
+    let blank = contents_zero(c);
+    blank & zero
 }
 
 fn entry_form(e: Entry) -> bool

@@ -1,10 +1,14 @@
 // The functions on the records of `sectortype`: written form, equality, graphs, well-formed tables, and changes by value.
+mod contents;
 mod form;
 mod graph;
 mod same;
 mod update;
 mod wf;
 
+pub use contents::carried;
+pub use contents::carried_contents;
+pub use contents::zero_contents;
 pub use form::loc_zero;
 pub use form::node_form;
 pub use form::node_zero;
@@ -21,6 +25,7 @@ pub use same::same_succs;
 pub use same::same_table;
 pub use update::empty_nodes;
 pub use update::empty_table;
+pub use update::leaf_node;
 pub use update::with_entry;
 pub use update::with_slot;
 pub use update::zero_entry;

@@ -1,7 +1,7 @@
 // Equality: contents and list equal, order and repeats counted.
 ghost use mathlib.Core.Path.{_≡_};
-ghost use Rattle.disklayout.specs.Layout.{sameLoc};
 ghost use Rattle.sectortype.specs.Same.{sameBool, sameSuccs, sameNode, sameEntry, sameTable};
+use crate::contents::same_contents;
 use sectortype::Entry;
 use sectortype::Node;
 use sectortype::Succs;
@@ -31,7 +31,10 @@ pub fn same_node(a: Node, b: Node) -> bool
     let s = a.succs;
     let t = b.succs;
     let listed = same_succs(s, t);
-    (a.contents == b.contents) & listed
+    let x = a.contents;
+    let y = b.contents;
+    let held = same_contents(x, y);
+    held & listed
 }
 
 fn same_entry(a: Entry, b: Entry) -> bool

@@ -2,10 +2,12 @@
 ghost use lib.ListN.{set};
 ghost use mathlib.Core.Path.{_≡_};
 ghost use Rattle.disklayout.specs.Calls.{zeroLoc};
-ghost use Rattle.sectortype.specs.Form.{zeroSuccs, zeroNode, zeroEntry, zeroSlot, emptyTable, emptyNodes, withEntry, withSlot};
+ghost use Rattle.sectortype.specs.Form.{zeroSuccs, leafNode, zeroNode, zeroEntry, zeroSlot, emptyTable, emptyNodes, withEntry, withSlot};
+use crate::contents::zero_contents;
 use crate::form::count_allocated;
 use crate::form::count_present;
 use disklayout::Location;
+use sectortype::Contents;
 use sectortype::Entry;
 use sectortype::Node;
 use sectortype::Nodes;
@@ -28,11 +30,19 @@ pub fn zero_loc() -> Location
     Location { addr: 0, len: 0 }
 }
 
+// A node that lists nothing.
+pub fn leaf_node(contents: Contents) -> Node
+    ensures { λ r. ⌜ r ≡ leafNode contents ⌝ }
+{
+    let succs = zero_succs();
+    Node { contents, succs }
+}
+
 pub fn zero_node() -> Node
     ensures { λ r. ⌜ r ≡ zeroNode ⌝ }
 {
-    let succs = zero_succs();
-    Node { contents: 0, succs }
+    let contents = zero_contents();
+    leaf_node(contents)
 }
 
 pub fn zero_entry() -> Entry

@@ -15,11 +15,11 @@ use Rattle.base.specs.Scan.{allBelow}
 use Rattle.disklayout.proofs.Facts.{same-loc-iff}
 use Rattle.disklayout.specs.declared.Location.{Location}
 use Rattle.disklayout.specs.Calls.{zeroLoc}
+use Rattle.sectortype.proofs.HighLow.{contents-ext, contents-zero-iff, same-contents-iff}
 use Rattle.sectortype.proofs.Forms.{empty-table-form, entry-at-form, entry-succs, nodes-of-slots, slot-at-form, succ-unused, succs-iff, table-iff, table-of-entries, zero-succs-form}
 use Rattle.sectortype.specs.Abstract.{graphOf, indirectionTable, locsOf, nodesMap}
 use Rattle.sectortype.specs.Form.{allocatedAt, defaultEntry, emptyTable, entryAt, entryForm, locZero, nodeForm, nodeZero, nodesForm}
 use Rattle.sectortype.specs.Form.{slotAt, slotForm, succAt, succsForm, succsZero, tableForm, zeroEntry, zeroNode, zeroSlot, zeroSuccs}
-use Rattle.disklayout.specs.Layout.{sameLoc}
 use Rattle.sectortype.specs.Same.{sameBool, sameEntry, sameNode, sameSuccs, sameTable}
 use Rattle.sectortype.specs.declared.Entry.{Entry}
 use Rattle.sectortype.specs.declared.Node.{Node}
@@ -64,8 +64,15 @@ same-succs-iff a b f g =
 
 pub same-node-iff : (a b : Node) → nodeForm a ≡ true → nodeForm b ≡ true → (sameNode a b ≡ true) ↔ (a ≡ b)
 same-node-iff a b f g = (
-  (λ e. let h = simp (and-iff, eqb-iff, same-succs-iff, f, g) at e in node-ext (h .0) (h .1)),
-  (λ e. simp (and-iff, eqb-iff, same-succs-iff, f, g) (ap (λ x. x .contents) e, ap (λ x. x .succs) e)),
+  (λ e. let h = simp (and-iff, same-contents-iff, same-succs-iff, f, g) at e in node-ext (h .0) (h .1)),
+  (λ e. simp (and-iff, same-contents-iff, same-succs-iff, f, g) (ap (λ x. x .contents) e, ap (λ x. x .succs) e)),
+)
+
+-- two nodes are equal when high, low and list are
+pub node-equal-iff : (a b : Node) → (a ≡ b) ↔ ((a .contents .high ≡ b .contents .high) × ((a .contents .low ≡ b .contents .low) × (a .succs ≡ b .succs)))
+node-equal-iff a b = (
+  (λ e. (ap (λ x. x .contents .high) e, (ap (λ x. x .contents .low) e, ap (λ x. x .succs) e))),
+  (λ h. node-ext (contents-ext (h .0) (h .1 .0)) (h .1 .1)),
 )
 
 pub same-entry-iff : (a b : Entry) → entryForm a ≡ true → entryForm b ≡ true → (sameEntry a b ≡ true) ↔ (a ≡ b)
@@ -99,7 +106,7 @@ pub succs-zero-is : (s : Succs) → succsZero s ≡ true → s ≡ zeroSuccs
 succs-zero-is s e = let h = simp tests at e in succs-none s (h .0) (h .1)
 
 pub node-zero-is : (n : Node) → nodeZero n ≡ true → n ≡ zeroNode
-node-zero-is n e = let h = simp tests at e in node-ext (h .0) (succs-none (n .succs) (h .1 .0) (h .1 .1))
+node-zero-is n e = let h = simp (tests, contents-zero-iff) at e in node-ext (h .0) (succs-none (n .succs) (h .1 .0) (h .1 .1))
 
 -- a list that is not allocated and a location that is absent
 entry-no-succs : (e : Entry) → entryForm e ≡ true → e .allocated ≡ false → e .succs ≡ zeroSuccs

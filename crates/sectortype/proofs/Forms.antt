@@ -8,11 +8,12 @@ use borrow.Author.Tests.{eq-eqb, eqb-true, le-ltb, leb-true, lt-ltb, ltb-false, 
 use lib.Dec.{eqb, leb, ltb}
 use lib.ListN.{List·getD-eq-default, length}
 use Rattle.base.proofs.Scan.{all-at, all-iff, all-of}
-use Rattle.base.proofs.Tests.{and-iff, clash, eqb-iff, leb-iff, split, tests}
+use Rattle.base.proofs.Tests.{and-both, and-iff, clash, eqb-iff, leb-iff, split, tests}
 use Rattle.base.specs.Scan.{allBelow, countBelow}
+use Rattle.sectortype.proofs.HighLow.{zero-contents-zero}
 use Rattle.sectortype.proofs.Rows.{rows-blank, rows-ext, rows-iff, rows-set, set-at-place}
-use Rattle.sectortype.specs.Form.{allocatedAt, emptyNodes, emptyTable, entryAt, entryForm, defaultEntry, defaultSlot, nodeForm, nodesForm, placesZero, presentAt, slotAt, slotForm, succAt}
-use Rattle.sectortype.specs.Form.{succOk, succsForm, tableForm, withEntry, withSlot, zeroEntry, zeroNode, zeroSlot, zeroSuccs}
+use Rattle.sectortype.specs.Form.{allocatedAt, emptyNodes, emptyTable, entryAt, entryForm, defaultEntry, defaultSlot, nodeForm, nodeZero, nodesForm, placesZero, presentAt, slotAt}
+use Rattle.sectortype.specs.Form.{slotForm, succAt, succOk, succsForm, tableForm, withEntry, withSlot, zeroEntry, zeroNode, zeroSlot, zeroSuccs}
 use Rattle.sectortype.specs.declared.Entry.{Entry}
 use Rattle.sectortype.specs.declared.Nodes.{Nodes}
 use Rattle.sectortype.specs.declared.Slot.{Slot}
@@ -58,11 +59,14 @@ zero-succs-form = refl
 pub zero-node-form : nodeForm zeroNode ≡ true
 zero-node-form = zero-succs-form
 
+pub zero-node-zero : nodeZero zeroNode ≡ true
+zero-node-zero = and-both zero-contents-zero zero-succs-form
+
 pub zero-entry-form : entryForm zeroEntry ≡ true
 zero-entry-form = rw zero-succs-form
 
 pub zero-slot-form : slotForm zeroSlot ≡ true
-zero-slot-form = rw zero-succs-form
+zero-slot-form = and-both zero-node-form zero-node-zero
 
 -- TABLES
 

@@ -7,6 +7,8 @@ use lib.ListN.{getD, length, replicate, set}
 use Rattle.base.specs.Scan.{allBelow, countBelow}
 use Rattle.disklayout.specs.Calls.{zeroLoc}
 use Rattle.disklayout.specs.declared.Location.{Location}
+use Rattle.sectortype.specs.HighLow.{contentsZero, zeroContents}
+use Rattle.sectortype.specs.declared.Contents.{Contents}
 use Rattle.sectortype.specs.declared.Entry.{Entry}
 use Rattle.sectortype.specs.declared.Node.{Node}
 use Rattle.sectortype.specs.declared.Nodes.{Nodes}
@@ -19,8 +21,12 @@ use Rattle.sectortype.specs.declared.Table.{Table}
 abbrev pub zeroSuccs : Succs
 zeroSuccs = record { count = 0; at = replicate 8 0 }
 
+-- a node that lists nothing
+abbrev pub leafNode : Contents → Node
+leafNode c = record { contents = c; succs = zeroSuccs }
+
 abbrev pub zeroNode : Node
-zeroNode = record { contents = 0; succs = zeroSuccs }
+zeroNode = leafNode zeroContents
 
 abbrev pub zeroEntry : Entry
 zeroEntry = record { allocated = false; located = false; loc = zeroLoc; succs = zeroSuccs }
@@ -40,8 +46,11 @@ defaultSuccs = record { count = 0; at = [] }
 abbrev pub defaultEntry : Entry
 defaultEntry = record { allocated = false; located = false; loc = zeroLoc; succs = defaultSuccs }
 
+abbrev pub defaultNode : Node
+defaultNode = record { contents = zeroContents; succs = defaultSuccs }
+
 abbrev pub defaultSlot : Slot
-defaultSlot = record { present = false; node = record { contents = 0; succs = defaultSuccs } }
+defaultSlot = record { present = false; node = defaultNode }
 
 -- A PLACE OF A RECORD
 
@@ -83,7 +92,7 @@ abbrev pub nodeForm : Node → Bool
 nodeForm n = succsForm (n .succs)
 
 abbrev pub nodeZero : Node → Bool
-nodeZero n = eqb (n .contents) 0 && succsZero (n .succs)
+nodeZero n = contentsZero (n .contents) && succsZero (n .succs)
 
 -- a location that is absent is zeros; a reference that is not allocated has no location and no list
 abbrev pub entryForm : Entry → Bool

@@ -3,6 +3,7 @@ use mathlib.Core.Bool.{Bool, _&&_, _||_, not}
 use lib.Dec.{eqb}
 use Rattle.base.specs.Scan.{allBelow}
 use Rattle.disklayout.specs.Layout.{sameLoc}
+use Rattle.sectortype.specs.HighLow.{sameContents}
 use Rattle.sectortype.specs.Form.{entryAt, succAt}
 use Rattle.sectortype.specs.declared.Entry.{Entry}
 use Rattle.sectortype.specs.declared.Node.{Node}
@@ -16,7 +17,7 @@ unfoldable pub sameSuccs : Succs → Succs → Bool
 sameSuccs a b = eqb (a .count) (b .count) && allBelow (λ k. eqb (succAt a k) (succAt b k)) 8
 
 abbrev pub sameNode : Node → Node → Bool
-sameNode a b = eqb (a .contents) (b .contents) && sameSuccs (a .succs) (b .succs)
+sameNode a b = sameContents (a .contents) (b .contents) && sameSuccs (a .succs) (b .succs)
 
 abbrev pub sameEntry : Entry → Entry → Bool
 sameEntry a b =

@@ -8,8 +8,21 @@ pub struct Succs {
     pub at: [u8; 8],
 }
 
-// What is stored under a reference: a contents number and the references that it points to.
+// A card with its course and tee: two 64-bit numbers. They are compared and zeroed here and in `sector`; what lies between those and the
+// words of a script hands them on and looks at neither.
+pub struct Contents {
+    pub high: u64,
+    pub low: u64,
+}
+
+// What is stored under a reference: its contents and the references that it points to.
 pub struct Node {
+    pub contents: Contents,
+    pub succs: Succs,
+}
+
+// A node as it was stored when its contents were one number. `carried` says which node it is now.
+pub struct OlderNode {
     pub contents: u64,
     pub succs: Succs,
 }

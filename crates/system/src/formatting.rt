@@ -1,6 +1,6 @@
 // Formatting: the root in the first node block, its table in area 1, all else empty; and the names and pictures at first.
 ghost use mathlib.Core.Path.{_≡_};
-ghost use Rattle.blocksystem.specs.Format.{placeAt, rootNode, rootTable, formattedRecords, formatted};
+ghost use Rattle.blocksystem.specs.Format.{placeAt, rootTable, formattedRecords, formatted};
 ghost use Rattle.blocksystem.specs.Names.{zeroNamed, withRoot, firstPictures};
 use crate::Store;
 use blockdisk::DiskState;
@@ -11,18 +11,10 @@ use blocksystem::Named;
 use blocksystem::Outcome;
 use blocksystem::Pictures;
 use disklayout::Location;
-use sectortype::Node;
+use sectortype::Contents;
 use sectortype::Nodes;
 use sectortype::Slot;
 use sectortype::Table;
-
-fn root_node(contents: u64) -> Node
-    ensures { λ n. ⌜ n ≡ rootNode contents ⌝ }
-{
-    let mut n = sector::zero_node();
-    n.contents = contents;
-    n
-}
 
 fn place_at(addr: u64) -> Location
     ensures { λ l. ⌜ l ≡ placeAt addr ⌝ }
@@ -41,11 +33,11 @@ fn root_table(place: Location) -> Table
     sector::with_entry(t, 0, e)
 }
 
-fn formatted_records(at: Location, place: Location, contents: u64) -> Records
+fn formatted_records(at: Location, place: Location, contents: Contents) -> Records
     ensures { λ r. ⌜ r ≡ formattedRecords at place contents ⌝ }
 {
     let table = root_table(place);
-    let node = root_node(contents);
+    let node = sector::leaf_node(contents);
     let mut r = disk::empty_records();
     let mut tables = r.tables;
     let mut nodes = r.nodes;
@@ -68,7 +60,7 @@ fn formatted_records(at: Location, place: Location, contents: u64) -> Records
 
 impl Store {
     // A newly formatted device; one above 2 gives 1 and zeros.
-    pub fn format(device: u64, contents: u64) -> Outcome
+    pub fn format(device: u64, contents: Contents) -> Outcome
         ensures { λ o. ⌜ o ≡ formatted device contents ⌝ }
     {
         let node = sector::zero_node();
@@ -111,11 +103,11 @@ pub(crate) fn zero_named() -> Named
     }
 }
 
-fn with_root(contents: u64) -> Nodes
+fn with_root(contents: Contents) -> Nodes
     ensures { λ p. ⌜ p ≡ withRoot contents ⌝ }
 {
     let m = sector::empty_nodes();
-    let node = root_node(contents);
+    let node = sector::leaf_node(contents);
     let s = Slot {
         present: true,
         node,
@@ -124,7 +116,7 @@ fn with_root(contents: u64) -> Nodes
 }
 
 // Names and pictures of a newly formatted device.
-pub fn format_pictures(device: u64, contents: u64) -> Pictures
+pub fn format_pictures(device: u64, contents: Contents) -> Pictures
     ensures { λ t. ⌜ t ≡ firstPictures device contents ⌝ }
 {
     let t = layout::indirection_table1_addr(device);

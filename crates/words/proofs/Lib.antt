@@ -1,3 +1,4 @@
--- The laws of numbers as text and of cutting.
+-- The laws of numbers and contents as text and of cutting.
 pub mod Cuts
+pub mod HighLow
 pub mod Numbers

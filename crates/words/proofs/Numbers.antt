@@ -15,11 +15,11 @@ use Rattle.words.specs.declared.digits.Digits.{Digits}
 use Rattle.words.specs.declared.digits.Digits.the-variants.{Value, Bad}
 use Rattle.words.specs.Numbers.{digit, worthOf, appendedOf, valueOf, numberOf}
 
-abbrev isValue : Digits → Bool
+abbrev pub isValue : Digits → Bool
 isValue (Value n) = true
 isValue Bad = false
 
-abbrev valueIn : Digits → ℕ
+abbrev pub valueIn : Digits → ℕ
 valueIn (Value n) = n
 valueIn Bad = 0
 

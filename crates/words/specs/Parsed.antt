@@ -7,6 +7,7 @@ use lib.ListN.{length, getD, set, take, drop}
 use Rattle.disklayout.specs.Calls.{zeroLoc}
 use Rattle.sectortype.specs.Form.{zeroSuccs, zeroNode, zeroEntry, emptyTable, withEntry}
 use Rattle.sectortype.specs.declared.Succs.{Succs}
+use Rattle.words.specs.declared.contents.ContentsText.{ContentsText}
 use Rattle.words.specs.declared.digits.Digits.{Digits}
 use Rattle.words.specs.declared.digits.Digits.the-variants.{Value, Bad}
 use Rattle.words.specs.declared.digits.Place.{Place}
@@ -16,12 +17,14 @@ use Rattle.words.specs.declared.tables.Head.{Head}
 use Rattle.words.specs.declared.tables.EntryRead.{EntryRead}
 use Rattle.words.specs.declared.tables.TableRead.{TableRead}
 use Rattle.words.specs.declared.line.Line.{Line}
+use Rattle.words.specs.declared.contents.ContentsText.the-variants as contents
 use Rattle.words.specs.declared.digits.Place.the-variants as place
 use Rattle.words.specs.declared.tables.Head.the-variants as head
 use Rattle.words.specs.declared.line.Line.the-variants as line
 use Rattle.words.specs.declared.text.Keys.{Keys}
 use Rattle.words.specs.declared.text.Keys.the-variants as keys
 use Rattle.words.specs.Bytes.{findOf, startsOf, sameOf, DEVICE, CONTENTS, LOC}
+use Rattle.words.specs.HighLow.{contentsOf, contentsWord}
 use Rattle.words.specs.Numbers.{numberOf, smallOf, locationOf}
 use Rattle.words.specs.Cut.{wordOf, fitOf, numberWord, placeWord, piecesOf, foldFrom}
 
@@ -56,15 +59,15 @@ listStep l w = joinedOf (l .succs) w
 unfoldable pub listOf : List ℕ → Listed
 listOf w = cond (eqb (length w) 0) emptyListed (foldFrom listOk listStep noList emptyListed (piecesOf 44 w))
 
-abbrev pub nodeFrom : Digits → Listed → NodeRead
-nodeFrom (Value n) l = cond (l .ok) (record { ok = true; node = record { contents = n; succs = l .succs } }) noNode
-nodeFrom Bad l = noNode
+abbrev pub nodeFrom : ContentsText → Listed → NodeRead
+nodeFrom (contents.Value c) l = cond (l .ok) (record { ok = true; node = record { contents = c; succs = l .succs } }) noNode
+nodeFrom contents.Bad l = noNode
 
 -- CONTENTS:LIST
 unfoldable pub nodeOf : List ℕ → NodeRead
 nodeOf w =
     cond (eqb (findOf w 58) (length w)) noNode
-    (nodeFrom (numberOf (take (findOf w 58) w)) (listOf (drop (findOf w 58 + 1) w)))
+    (nodeFrom (contentsOf (take (findOf w 58) w)) (listOf (drop (findOf w 58 + 1) w)))
 
 -- TABLES
 
@@ -129,16 +132,16 @@ tableReadOf w = foldFrom tableOk extendedOf noTable startTable (piecesOf 59 w)
 unfoldable pub bothOf : List ℕ → Keys → List ℕ → List ℕ → Bool
 bothOf r ks one two = (fitOf r ks && not (eqb (length (wordOf r one)) 0)) && not (eqb (length (wordOf r two)) 0)
 
-abbrev pub formatFrom : Digits → Digits → Line
-formatFrom (Value d) (Value c) = line.Format d c
-formatFrom (Value d) Bad = line.Bad
+abbrev pub formatFrom : Digits → ContentsText → Line
+formatFrom (Value d) (contents.Value c) = line.Format d c
+formatFrom (Value d) contents.Bad = line.Bad
 formatFrom Bad c = line.Bad
 
 -- device= and contents=, in either order
 unfoldable pub formatOf : List ℕ → Line
 formatOf r =
     cond (not (bothOf r keys.Format DEVICE CONTENTS)) line.Bad
-    (formatFrom (numberWord r DEVICE) (numberWord r CONTENTS))
+    (formatFrom (numberWord r DEVICE) (contentsWord r CONTENTS))
 
 abbrev pub placeLineFrom : Digits → Place → Line
 placeLineFrom (Value d) (place.At l) = line.Place d l

@@ -2,6 +2,8 @@
 ghost use mathlib.Core.Path.{_≡_};
 ghost use Rattle.words.specs.Cut.{restOf};
 ghost use Rattle.words.specs.Parsed.{bothOf, formatOf, placeOf, aloneOf, lineOf};
+use crate::contents::ContentsText;
+use crate::contents::contents_word;
 use crate::digits::Digits;
 use crate::digits::Place;
 use crate::digits::number;
@@ -16,6 +18,7 @@ use crate::text::starts;
 use crate::text::word;
 use crate::text::words_fit;
 use disklayout::Location;
+use sectortype::Contents;
 
 // A line is at most this long, without its line feed.
 pub const MOST: usize = 4096;
@@ -24,7 +27,7 @@ pub enum Line {
     // Empty, or a comment.
     Skip,
     // `format`, with the device and the root's contents.
-    Format(u64, u64),
+    Format(u64, Contents),
     // `step`, with its number; its words are yet to be read.
     Step(u64),
     Audit,
@@ -63,10 +66,10 @@ fn format_of(rest: &[u8]) -> Line
     let Digits::Value(d) = number_word(rest, b"device=") else {
         return Line::Bad;
     };
-    let Digits::Value(n) = number_word(rest, b"contents=") else {
+    let ContentsText::Value(c) = contents_word(rest, b"contents=") else {
         return Line::Bad;
     };
-    Line::Format(d, n)
+    Line::Format(d, c)
 }
 
 // A `place` line, from its first word and what follows it: both words, in either order.

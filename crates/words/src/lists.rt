@@ -1,8 +1,9 @@
 // Lists of references, and nodes, written out.
 ghost use mathlib.Core.Path.{_≡_};
 ghost use Rattle.words.specs.Parsed.{noList, noNode, joinedOf, listOf, nodeOf};
+use crate::contents::ContentsText;
+use crate::contents::contents_of;
 use crate::digits::Digits;
-use crate::digits::number;
 use crate::digits::small;
 use crate::text::after;
 use crate::text::find;
@@ -95,7 +96,7 @@ pub fn node(w: &[u8]) -> NodeRead
     if at == w.len() {
         return no_node();
     }
-    let Digits::Value(contents) = number(front(w, at)) else {
+    let ContentsText::Value(contents) = contents_of(front(w, at)) else {
         return no_node();
     };
     let l = list(after(w, at + 1));

@@ -38,14 +38,14 @@ returns-2 c =
     let c5 = c4 .before in
     simp (rw (c5 .words-both .ensures) at (c4 .if1 .left), sym (c2 .number-word .ensures) ∙ c .enum-told .given .1)
 
-slice-aggregate-number-word-2 : tie.Need-slice-aggregate-number-word-2
-slice-aggregate-number-word-2 c = search needs
+slice-aggregate-contents-word : tie.Need-slice-aggregate-contents-word
+slice-aggregate-contents-word c = search needs
 
-number-word-requires-2 : tie.Need-number-word-requires-2
-number-word-requires-2 c κs = search needs
+contents-word-requires : tie.Need-contents-word-requires
+contents-word-requires c κs = search needs
 
-enum-known-n : tie.Need-enum-known-n
-enum-known-n c = search needs
+enum-known-c : tie.Need-enum-known-c
+enum-known-c c = search needs
 
 enum-told-2 : tie.Need-enum-told-2
 enum-told-2 c = search needs
@@ -61,7 +61,7 @@ returns-3 c =
     simp (
       rw (c10 .words-both .ensures) at (c9 .if1 .left),
       sym (c7 .number-word .ensures) ∙ c5 .d .given .1,
-      sym (c2 .number-word2 .ensures) ∙ c .enum-told2 .given .1,
+      sym (c2 .contents-word .ensures) ∙ c .enum-told2 .given .1,
     )
 
 returns-4 : tie.Need-returns-4
@@ -76,7 +76,7 @@ returns-4 c =
     simp (
       rw (c11 .words-both .ensures) at (c10 .if1 .left),
       sym (c8 .number-word .ensures) ∙ c6 .d .given .1,
-      sym (c3 .number-word2 .ensures) ∙ c1 .n .given .1,
+      sym (c3 .contents-word .ensures) ∙ c1 .c .given .1,
     )
 
 pub format-of-spec : {M : Type 1} → statement M
@@ -92,9 +92,9 @@ format-of-spec =
     enum-known-d
     enum-told
     returns-2
-    slice-aggregate-number-word-2
-    number-word-requires-2
-    enum-known-n
+    slice-aggregate-contents-word
+    contents-word-requires
+    enum-known-c
     enum-told-2
     returns-3
     returns-4)

@@ -19,8 +19,8 @@ returns c = simp (eq-eqb _ _ (rw (c .before .before .find .ensures .0) at (c .be
 front-requires : tie.Need-front-requires
 front-requires c κs = search needs
 
-number-requires : tie.Need-number-requires
-number-requires c κs = search needs
+contents-of-requires : tie.Need-contents-of-requires
+contents-of-requires c κs = search needs
 
 enum-known-contents : tie.Need-enum-known-contents
 enum-known-contents c = search needs
@@ -39,7 +39,8 @@ returns-2 c =
     let c3 = c2 .before in
     let c4 = c3 .before in
     let c5 = c4 .before in
-    simp (ne-eqb _ _ (rw (c5 .find .ensures .0) at (c4 .if1 .left)), rw (c3 .front .ensures, c5 .find .ensures .0) at (sym (c2 .number .ensures) ∙ c1 .enum-told .given .1)) (c .no-node2 .ensures)
+    let told = rw (c3 .front .ensures, c5 .find .ensures .0) at (sym (c2 .contents-of .ensures) ∙ c1 .enum-told .given .1) in
+    simp (ne-eqb _ _ (rw (c5 .find .ensures .0) at (c4 .if1 .left)), told) (c .no-node2 .ensures)
 
 add-after : tie.Need-add-after
 add-after c = search needs
@@ -66,7 +67,7 @@ returns-3 c =
     let c8 = c7 .before in
     simp (
       ne-eqb _ _ (rw (c8 .find .ensures .0) at (c7 .if1 .left)),
-      rw (c6 .front .ensures, c8 .find .ensures .0) at (sym (c5 .number .ensures) ∙ c4 .contents .given .1),
+      rw (c6 .front .ensures, c8 .find .ensures .0) at (sym (c5 .contents-of .ensures) ∙ c4 .contents .given .1),
       rw (
         c2 .list .ensures,
         c3 .after .ensures .0,
@@ -87,7 +88,7 @@ returns-4 c =
     let c8 = c7 .before in
     simp (
       ne-eqb _ _ (rw (c8 .find .ensures .0) at (c7 .if1 .left)),
-      rw (c6 .front .ensures, c8 .find .ensures .0) at (sym (c5 .number .ensures) ∙ c4 .contents .given .1),
+      rw (c6 .front .ensures, c8 .find .ensures .0) at (sym (c5 .contents-of .ensures) ∙ c4 .contents .given .1),
       rw (
         c2 .list .ensures,
         c3 .after .ensures .0,
@@ -104,7 +105,7 @@ node-spec =
     no-node-requires
     returns
     front-requires
-    number-requires
+    contents-of-requires
     enum-known-contents
     enum-told
     no-node-requires-2

@@ -1,0 +1,27 @@
+-- Contents are equal, and zeros, where the tests say so. Assumes nothing.
+use mathlib.Core.Bool.{true}
+use mathlib.Core.Logic.{_↔_}
+use mathlib.Core.Path.{_≡_, ap, refl}
+use Rattle.base.proofs.Tests.{and-iff, eqb-iff}
+use Rattle.sectortype.specs.HighLow.{contentsZero, sameContents, zeroContents}
+use Rattle.sectortype.specs.declared.Contents.{Contents}
+
+pub contents-ext : {a b : Contents} → a .high ≡ b .high → a .low ≡ b .low → a ≡ b
+contents-ext p q = λ i. record { high = p i; low = q i }
+
+pub same-contents-iff : (a b : Contents) → (sameContents a b ≡ true) ↔ (a ≡ b)
+unfolding sameContents
+same-contents-iff a b = (
+  (λ e. let h = simp (and-iff, eqb-iff) at e in contents-ext (h .0) (h .1)),
+  (λ e. simp (and-iff, eqb-iff) (ap (λ c. c .high) e, ap (λ c. c .low) e)),
+)
+
+pub contents-zero-iff : (c : Contents) → (contentsZero c ≡ true) ↔ (c ≡ zeroContents)
+unfolding contentsZero
+contents-zero-iff c = (
+  (λ e. let h = simp (and-iff, eqb-iff) at e in contents-ext (h .0) (h .1)),
+  (λ e. simp (and-iff, eqb-iff) (ap (λ x. x .high) e, ap (λ x. x .low) e)),
+)
+
+pub zero-contents-zero : contentsZero zeroContents ≡ true
+zero-contents-zero = contents-zero-iff zeroContents .1 refl
