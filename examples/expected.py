@@ -476,7 +476,7 @@ def contents():
     xa('.. and named.','step=4 v=SendFrozenLocOp vloc=139264+4096 d=RespWriteIndirectionTableOp id=7',0)
     x('Each place has its own picture, of wider nodes.','audit','place=73728+4096 '+OK,'place=139264+4096 '+OK)
     xa('The old place is given up.','step=13 v=CleanUpOp',0)
-    x('Four cards in four blocks; block 0 has its record still.','show','phase=Ready allocated=4 cached=4 writes=0 reads=0',dots('o****'))
+    x('Three cards and the root in four blocks; block 0 has its record still.','show','phase=Ready allocated=4 cached=4 writes=0 reads=0',dots('o****'))
     xa('19: nobody was writing block 1, so that a crash leaves its high as it is ..','step=18 v=CrashOp block=1:327680+4096/5.12:',19)
     xa('.. and does not lose it ..','step=18 v=CrashOp block=1:327680+4096/12:',19)
     xa('.. nor give one to a card that has none.','step=18 v=CrashOp block=2:393216+4096/1.12:',19)
@@ -498,32 +498,39 @@ def contents():
     x('No table that is named needs block 5.','audit','place=139264+4096 '+OK)
 
 def contents_words():
-    c(b'A high of 0, in the words of format too; zeros; the largest numbers in both; any order.')
-    def root(s,shown):
-        a('format device=0 contents='+s,0)
-        a('step=10 v=SendPersistentLocOp vloc=73728+4096',0)
-        a('step=8 d=ReqReadIndirectionTableOp id=1 loc=73728+4096',0)
+    c(b'High contents on each device; a high of 0; zeros; the largest numbers. A refused read shows zeros whatever the root has.')
+    def root(s,shown,device=0,table=73728,block=262144):
+        a('format device=%d contents=%s'%(device,s),0)
+        l('step=17','answer=4 contents=0 succs=')
+        a('step=10 v=SendPersistentLocOp vloc=%d+4096'%table,0)
+        a('step=8 d=ReqReadIndirectionTableOp id=1 loc=%d+4096'%table,0)
         a('step=9 d=RespReadIndirectionTableOp id=1 table=stored',0)
-        a('step=6 d=ReqReadNodeOp id=7 loc=262144+4096',0)
+        a('step=6 d=ReqReadNodeOp id=7 loc=%d+4096'%block,0)
         a('step=7 d=RespReadNodeOp id=7 node=%s:'%s,0)
         l('step=17','answer=0 contents=%s succs='%shown)
+    root('5.12','5.12',1,270336,917504)
+    root('5.12','5.12',2,1056768,4194304)
     for s,shown in [('0.5','5'),('0.0','0'),(M+'.'+M,M+'.'+M),('1.0','1.0'),('0.'+M,M),(M+'.0',M+'.0')]: root(s,shown)
     a('format contents=3.4 device=0',0)
     a('format contents=3.4 device=3',1)
     a('step=14 node=3.4:1,2',0)
     a('step=14 node=3.4:64',1)
     c(b'What a crash may leave in an empty block, and it is there afterwards.')
-    a('step=18 v=CrashOp block=9:851968+1/3.4:',0)
-    a('step=18 v=CrashOp block=9:851968+1/4:',19)
-    a('step=18 v=CrashOp block=9:851968+1/3.4:',0)
+    a('step=18 v=CrashOp block=9:851968+1/3.4:1,2',0)
+    a('step=18 v=CrashOp block=9:851968+1/4:1,2',19)
+    a('step=18 v=CrashOp block=9:851968+1/4.3:1,2',19)
+    a('step=18 v=CrashOp block=9:851968+1/3.4:2,1',19)
+    a('step=18 v=CrashOp block=9:851968+1/3.4:1,64',1)
+    a('step=18 v=CrashOp block=9:851968+1/3.4:1,2',0)
     c(b'Contents that are not of the form.')
-    for s in ['.','5.','.5','..','5..12','.5.12','5.12.','5.12.1','05.12','5.012','00.12','0.00','5.+12','+5.12','5.-12','5.x','x.12','5.12x','5,12','18446744073709551616.0','0.18446744073709551616',M+'0.1']:
+    for s in ['','.','5.','.5','0.','.0','..','5.12:','5..12','.5.12','5.12.','5.12.1','05.12','5.012','00.12','0.00','5.+12','+5.12','5.-12','5.x','x.12','5.12x','5,12','18446744073709551616.0','0.18446744073709551616','1.18446744073709551616',M+'0.1']:
         e('format device=0 contents='+s)
         e('step=14 node=%s:'%s)
         e('step=18 v=CrashOp block=9:851968+1/%s:'%s)
     c(b'No other number has two parts.')
-    for s in ['step=0.14','step=14 ref=0.1','step=14 id=0.1','step=14 loc=0.1+0','step=14 loc=0+0.1','step=14 vloc=0.1+0','step=14 node=5:0.1','step=14 node=5.12','step=14 table=0.0:','step=14 table=0@0.1+0:','step=14 table=0:0.1',
-        'format device=0.0 contents=0','place device=0.0 loc=0+4096','place device=0 loc=0.0+4096','step=18 v=CrashOp block=0.9:851968+1/3.4:','step=18 v=CrashOp block=9:851968.0+1/3.4:']: e(s)
+    for s in ['step=0.14','step=14 ref=0.1','step=14 id=0.1','step=14 loc=0.1+0','step=14 loc=0+0.1','step=14 vloc=0.1+0','step=14 vloc=0+0.1','step=14 node=5:0.1','step=14 node=5.12','step=14 table=0.0:','step=14 table=0@0.1+0:','step=14 table=0:0.1',
+        'format device=0.0 contents=0','place device=0.0 loc=0+4096','place device=0 loc=0.0+4096','step=18 v=CrashOp block=0.9:851968+1/3.4:','step=18 v=CrashOp block=9:851968.0+1/3.4:',
+        'step=18 v=CrashOp table1=73728.0+1/empty','step=18 v=CrashOp table1=73728+1/0.0:']: e(s)
     c(b'')
 
 life()

@@ -175,7 +175,7 @@ impl State {
         self.turn(12, bare(0, VersionOp::Freeze, NONE));
     }
 
-    /// The contents of reference r in this round: high its number, low that and r more.
+    /// Contents in this round: high its number, low that and r more.
     fn contents(&self, r: u64) -> Contents {
         Contents { high: self.base, low: self.base.wrapping_add(r) }
     }

@@ -74,7 +74,7 @@ pub fn turn(s: State, number: u64, q: Call) -> State {
     offer(s, number, q, offered)
 }
 
-// The contents of reference r in this round: high its number, low that and r more.
+// Contents in the round of this number: high the number, low that and r more.
 pub fn contents(base: u64, r: u64) -> Contents {
     Contents {
         high: base,

@@ -43,6 +43,12 @@ fn first_root(base: u64) -> Node {
     sector::leaf_node(x)
 }
 
+// A node with the number 1 that names r twice.
+fn small(r: u8) -> Node {
+    let x = sector::carried_contents(1);
+    naming(x, r, r)
+}
+
 // Calls 1 to 12: a start from area 1, and the root paged in.
 fn load(s: State) -> State {
     let s = read(s, 0); // 4: Unready
@@ -57,8 +63,7 @@ fn load(s: State) -> State {
     let n = first_root(s.base);
     let s = page_in_node_resp(s, 7, n);
     let s = read(s, 0);
-    let x = sector::carried_contents(1);
-    let m = naming(x, 5, 5);
+    let m = small(5);
     alloc(s, 5, m) // 13: it names itself
 }
 
@@ -147,16 +152,10 @@ fn write_back(s: State) -> State {
     write_back_node_resp(s, 99) // 5: not awaited
 }
 
-// A node with the number 1 that names the root twice.
-fn small() -> Node {
-    let x = sector::carried_contents(1);
-    naming(x, 0, 0)
-}
-
 // Calls 53 to 62: a frozen table written and cleaned up.
 fn persist(s: State) -> State {
     let s = freeze(s);
-    let n = small();
+    let n = small(0);
     let s = dirty(s, 1, n);
     let s = write_back_table_req(s, 40);
     let s = freeze(s); // 10: a table write is outstanding
@@ -177,7 +176,7 @@ fn lose(s: State) -> State {
     let s = page_in_node_resp(s, 50, n);
     let s = read(s, 2);
     let s = freeze(s);
-    let m = small();
+    let m = small(0);
     let s = dirty(s, 1, m); // 11: the frozen table needs the cached node
     let s = write_back_node_req(s, 1, 60, 21, m);
     let s = crash(s, VersionOp::StatesInternalOp); // 2

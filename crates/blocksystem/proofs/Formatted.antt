@@ -96,6 +96,24 @@ no-successor r = some-of-none (λ k. ltb k 0 && eqb (succAt zeroSuccs k) r) 8 (�
 pub root-chosen : (x : Contents) → (rootNode x .contents ≡ x) × ((r : ℕ) → hasSucc (rootNode x .succs) r ≡ false)
 root-chosen x = (refl, no-successor)
 
+-- at first the table's place is named and no other; its picture and the working one hold the root and nothing else, the frozen one nothing
+module _ (d : ℕ) (x : Contents) where
+  pub first-place : (firstPictures d x .first .present ≡ true) × (firstPictures d x .first .place ≡ tablePlaceOf d) × (firstPictures d x .second .present ≡ false)
+  unfolding firstPictures
+  first-place = (refl, refl, refl)
+
+  pub first-picture : nodesMap (firstPictures d x .first .picture) ≡ put empty 0 (rootNode x)
+  unfolding firstPictures
+  first-picture = root-picture x
+
+  pub first-working : nodesMap (firstPictures d x .working) ≡ put empty 0 (rootNode x)
+  unfolding firstPictures
+  first-working = root-picture x
+
+  pub first-frozen : nodesMap (firstPictures d x .frozen) ≡ empty
+  unfolding firstPictures
+  first-frozen = empty-nodes
+
 -- a valid node place
 node-place-valid : (d : ℕ) (l : Location) → NodePlace (deviceOf d) l ≡ true → ValidNodeLocation (deviceOf d) l ≡ true
 unfolding NodePlace

@@ -62,6 +62,9 @@ cleaned t = record { first = t .second; second = zeroNamed; working = t .working
 
 -- Dirty and Alloc set a reference's node in the working picture; Unalloc removes it; crash and the other steps change nothing
 module _ (q : Call) (t : Pictures) where
+  abbrev pub nodePictured : Pictures
+  nodePictured = withWorking t (withSlot (t .working) (q .reference) (cachedSlot (q .node)))
+
   abbrev pub stepPictures : Step → Pictures
   stepPictures writeBackNodeReqStep = t
   stepPictures writeBackNodeRespStep = t
@@ -77,8 +80,8 @@ module _ (q : Call) (t : Pictures) where
   stepPictures freezeStep = froze t
   stepPictures cleanUpStep = cleaned t
   stepPictures noOpStep = t
-  stepPictures dirtyStep = withWorking t (withSlot (t .working) (q .reference) (cachedSlot (q .node)))
-  stepPictures allocStep = withWorking t (withSlot (t .working) (q .reference) (cachedSlot (q .node)))
+  stepPictures dirtyStep = nodePictured
+  stepPictures allocStep = nodePictured
   stepPictures readStep = t
   stepPictures crashStep = t
 

@@ -1,6 +1,6 @@
 // The references lost, added and altered at the place (AREA1, 4096). After a list of joined calls none are, so pictures and disks are
-// made by hand here. The picture's reference k has contents 100 + k, high 0; a node with contents 200 + k is another one. The numbers follow
-// from document 01: a reference is lost if only the picture has it, added if only the disk has it, altered if both have it with
+// made by hand here. The picture's reference k has contents 100 + k, high 0; a node with contents 200 + k is another one. The numbers
+// follow from document 01: a reference is lost if only the picture has it, added if only the disk has it, altered if both have it with
 // different nodes; the disk has what is stored at exactly the place, then at exactly the reference's location.
 use blockdisk::Records;
 use blocksystem::Named;

@@ -1,6 +1,7 @@
 // What no list of joined calls leads to, on states made by hand. Prints a line for each: `case=NAME answer=N` for a call of cache and
-// disk, where every N is document 01's, `case=NAME lost=X added=Y altered=Z` for the counts of demand 3, which are 0 after every list, and
-// `case=NAME answer=N` for two nodes that are compared, N 1 where they are equal. (`forms` has the written forms that are broken.)
+// disk, where every N is document 01's, and `case=NAME lost=X added=Y altered=Z` for the counts of demand 3, which are 0 after every
+// list. Then nodes are compared, carried ones among them: `case=NAME equal=1` where the two are equal, else `equal=0`. (`forms` has the
+// written forms that are broken.)
 mod audit_cases;
 mod cache_cases;
 mod changed;

@@ -1,15 +1,14 @@
-// Two nodes compared, 1 where they are equal: high, low and list. And older nodes carried over, whose contents were one number.
+// Two nodes compared by high, low and list. And older nodes carried over, whose contents were one number.
 use fixtures::high_leaf;
 use fixtures::leaf;
-use fixtures::show::line;
+use fixtures::show::equal;
 use sectortype::Node;
 use sectortype::OlderNode;
 use sectortype::Succs;
 
 fn compared(name: &[u8], a: Node, b: Node) {
     let same = sector::same_node(a, b);
-    let answer: u64 = if same { 1 } else { 0 };
-    line(name, answer);
+    equal(name, same);
 }
 
 // A list of two.
@@ -39,12 +38,12 @@ fn equality() {
     compared(b"another_high", node, higher);
     compared(b"another_low", node, lower);
     compared(b"high_and_low_exchanged", node, exchanged);
-    compared(b"high_against_none", node, alone);
+    compared(b"high_5_and_high_0", node, alone);
     compared(b"another_list", node, listing);
-    compared(b"the_largest_numbers_in_both", most, most);
-    compared(b"the_largest_high_alone", most, high);
-    compared(b"the_largest_low_alone", most, low);
-    compared(b"the_largest_high_against_the_largest_low", high, low);
+    compared(b"both_largest_and_the_same", most, most);
+    compared(b"both_largest_and_high_alone", most, high);
+    compared(b"both_largest_and_low_alone", most, low);
+    compared(b"high_alone_and_low_alone", high, low);
 }
 
 // An older node with this number and this list.

@@ -13,6 +13,7 @@ use fixtures::AREA1;
 use fixtures::AREA2;
 use fixtures::BLOCK0;
 use fixtures::BLOCK1;
+use fixtures::absent_node_record;
 use fixtures::at;
 use fixtures::high_leaf;
 use fixtures::in_phase;
@@ -123,7 +124,7 @@ fn absent_cached(node: Node) -> CacheState {
     absent
 }
 
-// Cached nodes: a slot that is absent and not zeros, a wrong count.
+// Cached nodes: a slot that is absent and zeros, not zeros, or zeros but for its high; a wrong count.
 fn cached() {
     let node = leaf(9);
     let c = ready();
@@ -218,13 +219,10 @@ fn node_records() {
     let short = at(BLOCK1, 0);
     let nowhere = sector::zero_loc();
     let good = node_record(own, node);
-    let mut absent = node_record(nowhere, node);
-    absent.present = false;
+    let absent = absent_node_record(nowhere, node);
     let high = high_leaf(1, 0);
-    let mut higher = node_record(nowhere, high);
-    higher.present = false;
-    let mut placed = node_record(own, none);
-    placed.present = false;
+    let higher = absent_node_record(nowhere, high);
+    let placed = absent_node_record(own, none);
     let moved = node_record(other, node);
     let empty = node_record(short, node);
     stored_node(b"stored_node_in_its_own_block", good);

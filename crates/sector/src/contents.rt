@@ -1,4 +1,5 @@
-// A node's contents, two numbers: zeroed, compared, and carried over from the one number of an older node. Nothing else here looks inside.
+// A node's contents, two numbers: zeroed, compared, and carried over from the one number of an older node. Nothing else in this crate
+// looks inside.
 ghost use mathlib.Core.Path.{_≡_};
 ghost use Rattle.sectortype.specs.HighLow.{carriedContents, contentsZero, sameContents, zeroContents};
 ghost use Rattle.sectortype.specs.Older.{carried};
@@ -24,7 +25,7 @@ pub(crate) fn same_contents(a: Contents, b: Contents) -> bool
     (a.high == b.high) & (a.low == b.low)
 }
 
-// What was one number.
+// The contents of an older node, from its one number: high 0.
 pub fn carried_contents(low: u64) -> Contents
     ensures { λ r. ⌜ r ≡ carriedContents low ⌝ }
 {

@@ -15,11 +15,12 @@ use Rattle.base.specs.Scan.{allBelow}
 use Rattle.disklayout.proofs.Facts.{same-loc-iff}
 use Rattle.disklayout.specs.declared.Location.{Location}
 use Rattle.disklayout.specs.Calls.{zeroLoc}
-use Rattle.sectortype.proofs.HighLow.{contents-ext, contents-zero-iff, same-contents-iff}
+use Rattle.sectortype.proofs.HighLow.{contents-ext, contents-zero-is, same-contents-iff}
 use Rattle.sectortype.proofs.Forms.{empty-table-form, entry-at-form, entry-succs, nodes-of-slots, slot-at-form, succ-unused, succs-iff, table-iff, table-of-entries, zero-succs-form}
 use Rattle.sectortype.specs.Abstract.{graphOf, indirectionTable, locsOf, nodesMap}
 use Rattle.sectortype.specs.Form.{allocatedAt, defaultEntry, emptyTable, entryAt, entryForm, locZero, nodeForm, nodeZero, nodesForm}
 use Rattle.sectortype.specs.Form.{slotAt, slotForm, succAt, succsForm, succsZero, tableForm, zeroEntry, zeroNode, zeroSlot, zeroSuccs}
+use Rattle.sectortype.specs.HighLow.{contentsZero}
 use Rattle.sectortype.specs.Same.{sameBool, sameEntry, sameNode, sameSuccs, sameTable}
 use Rattle.sectortype.specs.declared.Entry.{Entry}
 use Rattle.sectortype.specs.declared.Node.{Node}
@@ -106,7 +107,8 @@ pub succs-zero-is : (s : Succs) → succsZero s ≡ true → s ≡ zeroSuccs
 succs-zero-is s e = let h = simp tests at e in succs-none s (h .0) (h .1)
 
 pub node-zero-is : (n : Node) → nodeZero n ≡ true → n ≡ zeroNode
-node-zero-is n e = let h = simp (tests, contents-zero-iff) at e in node-ext (h .0) (succs-none (n .succs) (h .1 .0) (h .1 .1))
+node-zero-is n e =
+    let h = and-iff (contentsZero (n .contents)) (succsZero (n .succs)) .0 e in node-ext (contents-zero-is (n .contents) (h .0)) (succs-zero-is (n .succs) (h .1))
 
 -- a list that is not allocated and a location that is absent
 entry-no-succs : (e : Entry) → entryForm e ≡ true → e .allocated ≡ false → e .succs ≡ zeroSuccs

@@ -1,4 +1,4 @@
--- A node's contents: two 64-bit numbers, high and low. What is asked of them is asked here.
+-- A node's contents, two 64-bit numbers: zeros, equality, and the contents of an older node.
 use Prim.Native.Nat.{ℕ}
 use mathlib.Core.Bool.{Bool, _&&_}
 use lib.Dec.{eqb}
@@ -13,6 +13,6 @@ contentsZero c = eqb (c .high) 0 && eqb (c .low) 0
 unfoldable pub sameContents : Contents → Contents → Bool
 sameContents a b = eqb (a .high) (b .high) && eqb (a .low) (b .low)
 
--- the contents of a node whose contents were one number
+-- of an older node, whose contents were one number: high 0
 abbrev pub carriedContents : ℕ → Contents
 carriedContents n = record { high = 0; low = n }

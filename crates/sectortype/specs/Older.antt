@@ -7,10 +7,11 @@ use Rattle.sectortype.specs.Same.{sameSuccs}
 use Rattle.sectortype.specs.declared.Node.{Node}
 use Rattle.sectortype.specs.declared.OlderNode.{OlderNode}
 
--- its written form, and document 01's equality of nodes: contents and list equal
+-- its written form
 abbrev pub olderForm : OlderNode → Bool
 olderForm n = succsForm (n .succs)
 
+-- document 01's equality of nodes: contents and list equal
 abbrev pub sameOlder : OlderNode → OlderNode → Bool
 sameOlder a b = eqb (a .contents) (b .contents) && sameSuccs (a .succs) (b .succs)
 

@@ -8,8 +8,8 @@ pub struct Succs {
     pub at: [u8; 8],
 }
 
-// A card with its course and tee: two 64-bit numbers. They are compared and zeroed here and in `sector`; what lies between those and the
-// words of a script hands them on and looks at neither.
+// A node's contents: two 64-bit numbers, as a card with its course and tee doesn't fit one. They are zeroed and compared by the definitions
+// here and by `sector`; above `sector` only the words of a script and the programs name the two fields.
 pub struct Contents {
     pub high: u64,
     pub low: u64,

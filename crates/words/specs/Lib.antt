@@ -1,5 +1,5 @@
 pub mod Bytes
+pub mod ContentsText
 pub mod Cut
-pub mod HighLow
 pub mod Numbers
 pub mod Parsed

@@ -24,7 +24,7 @@ use Rattle.words.specs.declared.line.Line.the-variants as line
 use Rattle.words.specs.declared.text.Keys.{Keys}
 use Rattle.words.specs.declared.text.Keys.the-variants as keys
 use Rattle.words.specs.Bytes.{findOf, startsOf, sameOf, DEVICE, CONTENTS, LOC}
-use Rattle.words.specs.HighLow.{contentsOf, contentsWord}
+use Rattle.words.specs.ContentsText.{contentsOf, contentsWord}
 use Rattle.words.specs.Numbers.{numberOf, smallOf, locationOf}
 use Rattle.words.specs.Cut.{wordOf, fitOf, numberWord, placeWord, piecesOf, foldFrom}
 

@@ -1,6 +1,6 @@
 // Contents, written out.
 ghost use mathlib.Core.Path.{_≡_};
-ghost use Rattle.words.specs.HighLow.{lowAlone, contentsOf, contentsWord};
+ghost use Rattle.words.specs.ContentsText.{lowAlone, contentsOf, contentsWord};
 ghost use Rattle.words.specs.Numbers.{numberOf};
 use crate::digits::Digits;
 use crate::digits::number;
@@ -15,7 +15,7 @@ pub enum ContentsText {
     Bad,
 }
 
-// `LOW` alone: what was one number.
+// `LOW` alone: high 0.
 fn low_alone(w: &[u8]) -> ContentsText
     ensures { λ r. ⌜ r ≡ lowAlone (numberOf (now (w .entry))) ⌝ }
 {

@@ -3,7 +3,7 @@ use mathlib.Core.Path.{_∙_, sym}
 use borrow.Author.Needs.{needs}
 use borrow.Author.Tests.{eq-eqb, ne-eqb}
 use Rattle.words.proofs.contents.contents_of.Statement.{statement}
-use Rattle.words.specs.HighLow.{contentsOf}
+use Rattle.words.specs.ContentsText.{contentsOf}
 use Rattle.words.proofs.contents.contents_of.Tie as tie
 
 find-requires : tie.Need-find-requires

@@ -2,7 +2,7 @@
 use borrow.Author.Needs.{needs}
 use borrow.Author.Tests.{eq-eqb, ne-eqb}
 use Rattle.words.proofs.contents.contents_word.Statement.{statement}
-use Rattle.words.specs.HighLow.{contentsWord}
+use Rattle.words.specs.ContentsText.{contentsWord}
 use Rattle.words.proofs.contents.contents_word.Tie as tie
 
 word-requires : tie.Need-word-requires

@@ -1,4 +1,4 @@
--- Contents as text: HIGH.LOW, or LOW alone, which is what was one number.
+-- Contents as text: HIGH.LOW, or LOW alone, which is high 0.
 use Prim.Native.Nat.{ℕ, _+_}
 use mathlib.Core.Bool.{cond}
 use mathlib.Core.List.{List}
