@@ -43,7 +43,7 @@ fn first_root(base: u64) -> Node {
     sector::leaf_node(x)
 }
 
-// A node with the number 1 that names r twice.
+// A node with high 0 and low 1 that names r twice.
 fn small(r: u8) -> Node {
     let x = sector::carried_contents(1);
     naming(x, r, r)

@@ -219,17 +219,17 @@ fn brought() {
     let a = node_brought(2, node);
     let b = node_brought(1, node);
     let c = node_brought(2, other);
-    let g = node_brought(2, higher);
-    let d = table_brought(2, t);
-    let e = table_brought(1, t);
-    let f = table_brought(2, none);
+    let d = node_brought(2, higher);
+    let e = table_brought(2, t);
+    let f = table_brought(1, t);
+    let g = table_brought(2, none);
     line(b"node_answer_at_the_stored_length", a);
     line(b"node_answer_at_another_length", b);
     line(b"node_answer_with_another_node", c);
-    line(b"node_answer_with_another_high", g);
-    line(b"table_answer_at_the_stored_length", d);
-    line(b"table_answer_at_another_length", e);
-    line(b"table_answer_with_another_table", f);
+    line(b"node_answer_with_another_high", d);
+    line(b"table_answer_at_the_stored_length", e);
+    line(b"table_answer_at_another_length", f);
+    line(b"table_answer_with_another_table", g);
 }
 
 pub(crate) fn run() {

@@ -86,21 +86,21 @@ fn list(l: Succs) {
     }
 }
 
-// A word with contents: `LOW` where high is 0, else `HIGH.LOW`.
-fn contents_word(key: &[u8], c: Contents) {
-    if c.high == 0 {
-        word(key, c.low);
-    } else {
-        word(key, c.high);
-        word(b".", c.low);
+// `LOW` where high is 0, else `HIGH.LOW`.
+fn contents(c: Contents) {
+    if c.high > 0 {
+        io::print_decimal(STDOUT_FILENO, c.high);
+        text(b".");
     }
+    io::print_decimal(STDOUT_FILENO, c.low);
 }
 
 // What step 17 answers.
 pub fn read(line: u64, answer: u64, node: Node) {
     word(b"line=", line);
     word(b" answer=", answer);
-    contents_word(b" contents=", node.contents);
+    text(b" contents=");
+    contents(node.contents);
     text(b" succs=");
     list(node.succs);
     text(b"\n");

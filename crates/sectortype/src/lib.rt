@@ -9,7 +9,7 @@ pub struct Succs {
 }
 
 // A node's contents: two 64-bit numbers, as a card with its course and tee doesn't fit one. They are zeroed and compared by the definitions
-// here and by `sector`; above `sector` only the words of a script and the programs name the two fields.
+// here and by `sector`; above `sector` only the words of a script, the programs and their fixtures name the two fields.
 pub struct Contents {
     pub high: u64,
     pub low: u64,

@@ -1,7 +1,8 @@
 -- Contents as text: what HIGH.LOW, 0.LOW and LOW alone are read as, and that a script of before means the carried nodes. Assumes nothing.
 use Prim.Native.Nat.{ℕ, _+_, _<_, _^_}
-use mathlib.Core.Bool.{true, false, false≢true, _&&_}
+use mathlib.Core.Bool.{Bool, true, false, false≢true, _&&_}
 use mathlib.Core.List.{List, [], _∷_, _++_}
+use mathlib.Core.Logic.{_⊎_, inl, inr}
 use mathlib.Core.Path.{_≡_, refl, sym, ap, _∙_}
 use native.Mathlib.Omega.{arith}
 use borrow.Author.Tests.{eq-eqb, ne-eqb}
@@ -11,10 +12,11 @@ use lib.Seq.{drop-append-add, getD-append-seam, take-append-seam}
 use Rattle.base.specs.Scan.{allBelow}
 use Rattle.base.proofs.Scan.{all-at, first-hit, first-miss, some-of-none}
 use Rattle.base.proofs.Tests.{and-left, split}
-use Rattle.sectortype.specs.HighLow.{carriedContents}
+use Rattle.sectortype.specs.HighLow.{carriedContents, zeroContents}
 use Rattle.sectortype.specs.Older.{carried}
 use Rattle.sectortype.specs.declared.Contents.{Contents}
 use Rattle.words.proofs.Numbers.{isValue, valueIn}
+use Rattle.words.specs.declared.contents.ContentsText.{ContentsText}
 use Rattle.words.specs.declared.contents.ContentsText.the-variants as contents
 use Rattle.words.specs.declared.digits.Digits.{Digits}
 use Rattle.words.specs.declared.digits.Digits.the-variants.{Value, Bad}
@@ -85,7 +87,40 @@ zero-first Bad = refl
 pub zero-high : (s : List ℕ) → findOf s 46 ≡ length s → contentsOf (48 ∷ 46 ∷ s) ≡ contentsOf s
 zero-high s e = high-first (48 ∷ []) s 0 zero-number ∙ zero-first (numberOf s) ∙ sym (alone s e)
 
+-- NOTHING ELSE IS READ
+
+abbrev inside : ContentsText → Contents
+inside (contents.Value c) = c
+inside contents.Bad = zeroContents
+
+abbrev isRead : ContentsText → Bool
+isRead (contents.Value c) = true
+isRead contents.Bad = false
+
+alone-only : (d : Digits) (c : Contents) → lowAlone d ≡ contents.Value c → (c .high ≡ 0) × (d ≡ Value (c .low))
+alone-only (Value n) c e = let h = ap inside e in (ap (λ x. x .high) (sym h), ap (λ x. Value (x .low)) h)
+alone-only Bad c e = absurd (false≢true (ap isRead e))
+
+both-only : (d e : Digits) (c : Contents) → highLow d e ≡ contents.Value c → (d ≡ Value (c .high)) × (e ≡ Value (c .low))
+both-only (Value a) (Value b) c e = let h = ap inside e in (ap (λ x. Value (x .high)) h, ap (λ x. Value (x .low)) h)
+both-only (Value a) Bad c e = absurd (false≢true (ap isRead e))
+both-only Bad d c e = absurd (false≢true (ap isRead e))
+
+-- contents that are read are a number alone, with high 0, or a number on each side of the first full stop
+pub contents-only : (s : List ℕ) (c : Contents) → contentsOf s ≡ contents.Value c →
+    ((c .high ≡ 0) × (numberOf s ≡ Value (c .low))) ⊎ ((numberOf (take (findOf s 46) s) ≡ Value (c .high)) × (numberOf (drop (findOf s 46 + 1) s) ≡ Value (c .low)))
+unfolding contentsOf
+contents-only s c e =
+    split (eqb (findOf s 46) (length s))
+    (λ t. inl (alone-only (numberOf s) c (rw t at e)))
+    (λ t. inr (both-only (numberOf (take (findOf s 46) s)) (numberOf (drop (findOf s 46 + 1) s)) c (rw t at e)))
+
 -- WHERE CONTENTS STAND
+
+-- a word has the contents behind its key
+pub word-read : (r key : List ℕ) → (length (wordOf r key) ≡ 0 → ⊥) → contentsWord r key ≡ contentsOf (drop (length key) (wordOf r key))
+unfolding contentsWord
+word-read r key h = rw (ne-eqb _ _ h)
 
 -- a node has the contents in front of its colon, whole, and the list behind it
 pub node-read : (w : List ℕ) (c : Contents) → (findOf w 58 ≡ length w → ⊥) → contentsOf (take (findOf w 58) w) ≡ contents.Value c → listOf (drop (findOf w 58 + 1) w) .ok ≡ true →
