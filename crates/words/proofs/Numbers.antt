@@ -19,7 +19,7 @@ abbrev pub isValue : Digits → Bool
 isValue (Value n) = true
 isValue Bad = false
 
-abbrev pub valueIn : Digits → ℕ
+abbrev valueIn : Digits → ℕ
 valueIn (Value n) = n
 valueIn Bad = 0
 

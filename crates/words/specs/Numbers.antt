@@ -9,6 +9,8 @@ use Rattle.words.specs.declared.digits.Digits.{Digits}
 use Rattle.words.specs.declared.digits.Digits.the-variants.{Value, Bad}
 use Rattle.words.specs.declared.digits.Place.{Place}
 use Rattle.words.specs.declared.digits.Place.the-variants as place
+use Rattle.words.specs.declared.digits.Pair.{Pair}
+use Rattle.words.specs.declared.digits.Pair.the-variants as pair
 use Rattle.words.specs.Bytes.{findOf}
 
 -- 0 to 9 are the bytes 48 to 57
@@ -44,13 +46,21 @@ atMost m Bad = Bad
 unfoldable pub smallOf : List ℕ → ℕ → Digits
 smallOf s m = atMost m (numberOf s)
 
-abbrev pub placeFrom : Digits → Digits → Place
-placeFrom (Value a) (Value l) = place.At (record { addr = a; len = l })
-placeFrom (Value a) Bad = place.Bad
-placeFrom Bad l = place.Bad
+abbrev pub sidesFrom : Digits → Digits → Pair
+sidesFrom (Value a) (Value c) = pair.Of a c
+sidesFrom (Value a) Bad = pair.Bad
+sidesFrom Bad d = pair.Bad
 
--- ADDR+LEN: the two sides of the first +
+-- the numbers on the two sides of the first byte b
+unfoldable pub sidesOf : List ℕ → ℕ → Pair
+sidesOf s b =
+    cond (eqb (findOf s b) (length s)) pair.Bad
+    (sidesFrom (numberOf (take (findOf s b) s)) (numberOf (drop (findOf s b + 1) s)))
+
+abbrev pub placeFrom : Pair → Place
+placeFrom (pair.Of a l) = place.At (record { addr = a; len = l })
+placeFrom pair.Bad = place.Bad
+
+-- ADDR+LEN: the two sides of + (byte 43)
 unfoldable pub locationOf : List ℕ → Place
-locationOf s =
-    cond (eqb (findOf s 43) (length s)) place.Bad
-    (placeFrom (numberOf (take (findOf s 43) s)) (numberOf (drop (findOf s 43 + 1) s)))
+locationOf s = placeFrom (sidesOf s 43)

@@ -1,7 +1,7 @@
 // Numbers and places.
 ghost use mathlib.Core.Path.{_≡_};
 ghost use Rattle.words.specs.Cut.{numberWord, placeWord};
-ghost use Rattle.words.specs.Numbers.{worthOf, appendedOf, numberOf, smallOf, locationOf};
+ghost use Rattle.words.specs.Numbers.{worthOf, appendedOf, numberOf, smallOf, sidesOf, locationOf};
 use crate::text::after;
 use crate::text::find;
 use crate::text::front;
@@ -10,6 +10,11 @@ use disklayout::Location;
 
 pub enum Digits {
     Value(u64),
+    Bad,
+}
+
+pub enum Pair {
+    Of(u64, u64),
     Bad,
 }
 
@@ -90,18 +95,28 @@ pub fn small(w: &[u8], most: u64) -> Digits
     Digits::Value(n)
 }
 
+// The numbers on the two sides of the first byte b.
+pub(crate) fn sides(w: &[u8], b: u8) -> Pair
+    ensures { λ r. ⌜ r ≡ sidesOf (now (w .entry)) b ⌝ }
+{
+    let at = find(w, b);
+    if at == w.len() {
+        return Pair::Bad;
+    }
+    let Digits::Value(left) = number(front(w, at)) else {
+        return Pair::Bad;
+    };
+    let Digits::Value(right) = number(after(w, at + 1)) else {
+        return Pair::Bad;
+    };
+    Pair::Of(left, right)
+}
+
 // `ADDR+LEN`.
 pub fn location(w: &[u8]) -> Place
     ensures { λ r. ⌜ r ≡ locationOf (now (w .entry)) ⌝ }
 {
-    let at = find(w, b'+');
-    if at == w.len() {
-        return Place::Bad;
-    }
-    let Digits::Value(addr) = number(front(w, at)) else {
-        return Place::Bad;
-    };
-    let Digits::Value(len) = number(after(w, at + 1)) else {
+    let Pair::Of(addr, len) = sides(w, b'+') else {
         return Place::Bad;
     };
     Place::At(Location { addr, len })
