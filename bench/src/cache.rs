@@ -103,6 +103,15 @@ impl Cache {
             || self.writes.list().iter().any(|w| w.loc.addr == addr)
     }
 
+    /// The answer of a read that the cache awaits: a node's in Ready, a table's in Loading.
+    fn awaits_read(&self, dop: DiskOp) -> bool {
+        match dop {
+            DiskOp::RespReadNode(id, _) => self.phase == Phase::Ready && self.reads.has(id),
+            DiskOp::RespReadTable(id, _) => self.phase == Phase::Loading && self.waiting && self.awaited == id,
+            _ => false,
+        }
+    }
+
     /// The number of a call, 0 if the cache accepts it.
     pub fn refusal(&self, device: u64, number: u64, q: &Call) -> u64 {
         if !(device <= 2 && self.form() && q.reference <= 63 && q.node.form() && q.table.form()) {
@@ -227,7 +236,8 @@ impl Cache {
                     VersionOp::StatesInternal | VersionOp::JournalInternal | VersionOp::PushSync | VersionOp::PopSync
                 ));
                 match q.dop {
-                    DiskOp::None | DiskOp::RespReadTable(..) | DiskOp::RespReadNode(..) => {}
+                    DiskOp::None => {}
+                    DiskOp::RespReadTable(..) | DiskOp::RespReadNode(..) => first!(22: self.awaits_read(q.dop)),
                     DiskOp::RespWriteTable(id) => first!(5: ready && self.waiting && self.awaited == id),
                     DiskOp::RespWriteNode(id) => first!(5: ready && self.writes.has(id)),
                     _ => return 3,
@@ -250,6 +260,15 @@ impl Cache {
             ),
             17 => first!(4: !ready, 8: !entry.allocated || !slot.present),
             18 => first!(2: q.vop != VersionOp::Crash),
+            19 => {
+                first!(2: !internal);
+                match q.dop {
+                    DiskOp::RespReadNode(..) => first!(4: !ready),
+                    DiskOp::RespReadTable(..) => first!(4: self.phase != Phase::Loading),
+                    _ => return 3,
+                }
+                first!(5: !self.awaits_read(q.dop));
+            }
             _ => return 1,
         }
         0
@@ -330,6 +349,11 @@ impl Cache {
             }
             (17, _) => return self.nodes.slots[r].node,
             (18, _) => *self = Cache::default(),
+            (19, DiskOp::RespReadNode(id, _)) => self.reads.remove(id),
+            (19, _) => {
+                self.waiting = false;
+                self.awaited = 0;
+            }
             _ => {}
         }
         Node::default()

@@ -1,5 +1,5 @@
 //! The baseline of docs/PERFORMANCE.md: the script of crates/bench on plain Rust structs, changed in place, with the checks of
-//! document 01 in the same order. `baseline ROUNDS` prints the line that `bench ROUNDS` prints.
+//! documents 01 and 02 in the same order. `baseline ROUNDS` prints the line that `bench ROUNDS` prints.
 
 mod cache;
 mod disk;
@@ -240,7 +240,10 @@ impl State {
         self.evict(2);
         self.read(2);
         self.node_req(2, 50, 3);
-        self.node_resp(50, self.leaf(2));
+        self.turn(14, bare(0, VersionOp::PushSync, DiskOp::RespReadNode(50, false)));
+        self.turn(19, bare(0, INTERNAL, DiskOp::RespReadNode(50, false)));
+        self.node_req(2, 51, 3);
+        self.node_resp(51, self.leaf(2));
         self.read(2);
         self.freeze();
         self.dirty(1, small);
@@ -256,7 +259,7 @@ impl State {
         self.node_resp(71, self.leaf(1));
         self.read(1);
         self.turn(0, bare(0, INTERNAL, NONE));
-        self.turn(19, bare(0, INTERNAL, NONE));
+        self.turn(21, bare(0, INTERNAL, NONE));
         self.turn(18, bare(0, VersionOp::Crash, NONE));
     }
 }

@@ -1,4 +1,4 @@
-// The script: 82 calls on a newly formatted device, of which document 01 accepts 62. Each refused call says its number.
+// The script: 85 calls on a newly formatted device, of which documents 01 and 02 accept 64. Each refused call says its number.
 use crate::calls::State;
 use crate::calls::contents;
 use crate::calls::naming;
@@ -11,6 +11,7 @@ use crate::steps::crash_to_nothing;
 use crate::steps::dirty;
 use crate::steps::evict;
 use crate::steps::freeze;
+use crate::steps::let_go;
 use crate::steps::no_op;
 use crate::steps::no_step;
 use crate::steps::page_in_node_req;
@@ -167,13 +168,16 @@ fn persist(s: State) -> State {
     no_op(s, DiskOp::RespReadNodeOp(77, Brought::Something)) // 15: no such read
 }
 
-// Calls 63 to 73: a node out and in again, and a crash with a write outstanding.
+// Calls 63 to 76: a node out and in again, after the drive first brought nothing, and a crash with a write outstanding.
 fn lose(s: State) -> State {
     let s = evict(s, 2);
     let s = read(s, 2); // 8: not cached
     let s = page_in_node_req(s, 2, 50, 3);
+    let s = no_op(s, DiskOp::RespReadNodeOp(50, Brought::Nothing)); // 22: it is awaited
+    let s = let_go(s, 50);
+    let s = page_in_node_req(s, 2, 51, 3);
     let n = leaf(s.base, 2);
-    let s = page_in_node_resp(s, 50, n);
+    let s = page_in_node_resp(s, 51, n);
     let s = read(s, 2);
     let s = freeze(s);
     let m = small(0);
@@ -184,7 +188,7 @@ fn lose(s: State) -> State {
     crash(s, VersionOp::CrashOp)
 }
 
-// Calls 74 to 82: a start from area 2.
+// Calls 77 to 85: a start from area 2.
 fn again(s: State) -> State {
     let s = receive_loc(s, true);
     let s = page_in_table_req(s, 70, true);
@@ -194,7 +198,7 @@ fn again(s: State) -> State {
     let s = page_in_node_resp(s, 71, n);
     let s = read(s, 1);
     let s = no_step(s, 0); // 1
-    let s = no_step(s, 19); // 1
+    let s = no_step(s, 21); // 1
     crash(s, VersionOp::CrashOp)
 }
 

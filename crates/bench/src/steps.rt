@@ -1,4 +1,4 @@
-// One function for each step of document 01 that the script takes, named as there.
+// One function for each step of documents 01 and 02 that the script takes, named as there.
 use crate::calls::State;
 use crate::calls::bare;
 use crate::calls::node_place;
@@ -177,6 +177,16 @@ pub fn crash_to_nothing(s: State) -> State {
     let q = bare(0, VersionOp::CrashOp, DiskOp::NoDiskOp);
     let offered = disk::empty_records();
     offer(s, 18, q, offered)
+}
+
+// 19, the read of a node, with nothing brought
+pub fn let_go(s: State, id: u64) -> State {
+    let q = bare(
+        0,
+        VersionOp::StatesInternalOp,
+        DiskOp::RespReadNodeOp(id, Brought::Nothing),
+    );
+    turn(s, 19, q)
 }
 
 // A number that no step has.

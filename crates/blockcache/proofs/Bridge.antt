@@ -9,10 +9,11 @@ use Rattle.base.proofs.Flagged.{flagged-each-iff, flagged-is-iff}
 use Rattle.base.proofs.Scan.{all-at, all-of, none-at, some-of-none}
 use Rattle.base.proofs.Tests.{and-both, and-false-iff, and-iff, and-left, bool-ext, eqb-iff, not-iff, or-iff, split}
 use Rattle.base.specs.Maps.{flagged, isSome}
-use Rattle.base.specs.Scan.{allBelow, someBelow}
+use Rattle.base.specs.Scan.{someBelow}
 use Rattle.blockcache.proofs.Waiting.{write-holds-iff}
 use Rattle.blockcache.specs.Abstract.{awaitedId, writesMap}
 use Rattle.blockcache.specs.Next.{assigned}
+use Rattle.blockcache.specs.Rows.{awaitsTable}
 use Rattle.blockcache.specs.Scan.{hasPredecessor, heldIn, listNames, namesAt, needsCached, nodeRejected, tableRejected}
 use Rattle.blockcache.specs.Upstream.{AllLocationsForDifferentRefsDontOverlap, FrozenLocated, In, LocsValid, NoAddr, NoPredecessors, OutstandingWrite, SameSuccs, WFCompleteIndirectionTable}
 use Rattle.blockcache.specs.Upstream.{WFIndirectionTable, assignRefToLocation}
@@ -37,7 +38,7 @@ use Rattle.sectortype.specs.declared.Node.{Node}
 use Rattle.sectortype.specs.declared.Table.{Table}
 
 -- the id that is awaited
-pub awaits-iff : (a : Awaited) (id : ℕ) → ((a .waiting && eqb (a .id) id) ≡ true) ↔ (awaitedId a ≡ some id)
+pub awaits-iff : (a : Awaited) (id : ℕ) → (awaitsTable a id ≡ true) ↔ (awaitedId a ≡ some id)
 awaits-iff a id =
     let is = flagged-is-iff (a .waiting) (a .id) id in
     ((λ e. is .1 (simp (and-iff, eqb-iff) at e)), (λ e. simp (and-iff, eqb-iff) (is .0 e)))

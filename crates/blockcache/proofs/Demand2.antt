@@ -1,10 +1,13 @@
--- Demand 2 for the cache: a call is accepted exactly where upstream's NextStep allows some next state and no narrowing of document 01 refuses it,
--- and then the state handed back is one that upstream allows. For any device, cache, step number and call. Assumes nothing.
-use Prim.Native.Nat.{ℕ}
+-- Demand 2 for the cache: a call is accepted exactly where upstream's NextStep allows some next state and no narrowing refuses it, and then the
+-- state handed back is one that upstream allows. For any device, cache, call and step number but those of document 02's steps, which upstream
+-- doesn't have: LetGo.antt has their laws, from the same theorem over every step of the store. Assumes nothing.
+use Prim.Native.Nat.{_≤_, ℕ}
 use mathlib.Core.Bool.{false, true}
 use mathlib.Core.Logic.{_↔_}
 use mathlib.Core.Option.{some}
 use mathlib.Core.Path.{_≡_, refl, subst}
+use native.Mathlib.Omega.{arith}
+use borrow.Author.Tests.{ne-eqb}
 use Rattle.base.proofs.Refusals.{Clear}
 use Rattle.base.proofs.Tests.{or-iff}
 use Rattle.base.specs.Refusals.{answer}
@@ -12,21 +15,22 @@ use Rattle.blockcache.proofs.EveryStep.{exact}
 use Rattle.blockcache.proofs.Forms.{well-formed-iff, WellFormed}
 use Rattle.blockcache.proofs.Frames.{frame, gate-iff, Next}
 use Rattle.blockcache.proofs.GraphSteps.{read-cached}
-use Rattle.blockcache.proofs.Numbers.{call-accepted-iff, limits-iff, number-decides}
+use Rattle.blockcache.proofs.Numbers.{call-accepted-iff, limits-iff, number-decides, step-of-number}
 use Rattle.blockcache.specs.Abstract.{Allowed, cacheVars, callOp, readyVars}
 use Rattle.blockcache.specs.Form.{isReady}
+use Rattle.blockcache.specs.LetGo.{StoreStep}
 use Rattle.blockcache.specs.Narrowings.{narrowed, narrowedOf, stepNarrowed}
 use Rattle.blockcache.specs.Next.{stepNext}
 use Rattle.blockcache.specs.NextStep.{NextStep}
 use Rattle.blockcache.specs.Rows.{ownRows, stepRows, takes}
 use Rattle.blockcache.specs.Step.{cacheNext, cacheRows, nodeOf, outsideLimits}
-use Rattle.blockcache.specs.Steps.{readStep, Step, stepOf, steps}
+use Rattle.blockcache.specs.Steps.{isNew, numberOf, readStep, Step, stepOf, steps}
 use Rattle.blockcache.specs.Upstream.{ReadStep, unready, Variables}
 use Rattle.blockcache.specs.declared.CacheState.{CacheState}
 use Rattle.blockcache.specs.declared.Call.{Call}
 
 module _ (d : ℕ) (c : CacheState) (q : Call) (w : WellFormed d c q) where
-  -- the rows of a step are clear exactly where upstream allows it and no narrowing of it applies
+  -- the rows of a step are clear exactly where its predicate allows it and no narrowing of it applies
   step-accepted : (step : Step) → Clear (stepRows d c q step) ↔ ((stepNarrowed c q step ≡ false) × ((s' : Variables) × Next d c q step s'))
   step-accepted step =
       let x = exact d c q w step in
@@ -36,17 +40,22 @@ module _ (d : ℕ) (c : CacheState) (q : Call) (w : WellFormed d c q) where
         (λ (n, (s', nx)). let o = frame d c q s' step .0 nx in g .1 (o .0, x .complete s' n (o .1))),
       )
 
-  -- the next state is one that upstream allows
+  -- the next state is one that it allows
   step-allowed : (step : Step) → Clear (stepRows d c q step) → Next d c q step (cacheVars (stepNext c q step))
   step-allowed step k =
       let h = gate-iff (takes (c .phase) (q .vop) (q .dop) step) (ownRows d c q step) .0 k in
       frame d c q (cacheVars (stepNext c q step)) step .1 (h .0, exact d c q w step .sound (h .0) (h .1))
 
--- THE THEOREMS
+-- EVERY STEP OF THE STORE
 
-pub cache-accepted : (d : ℕ) (c : CacheState) (n : ℕ) (q : Call) → (answer (cacheRows d c n q) ≡ 0) ↔ ((narrowed d c n q ≡ false) × Allowed d c n q)
+-- some next state
+abbrev pub StoreAllows : ℕ → CacheState → ℕ → Call → Type 0
+StoreAllows d c n q =
+    (step : Step) × (stepOf n ≡ some step) × ((s' : Variables) × StoreStep d (cacheVars c) s' (callOp q) (q .vop) (q .reference) (q .node) step)
+
+pub store-accepted : (d : ℕ) (c : CacheState) (n : ℕ) (q : Call) → (answer (cacheRows d c n q) ≡ 0) ↔ ((narrowed d c n q ≡ false) × StoreAllows d c n q)
 unfolding narrowed
-cache-accepted d c n q = (
+store-accepted d c n q = (
   (λ e. let x = call-accepted-iff d c n q .0 e in
       let h = step-accepted d c q (x .form) (x .step) .0 (x .clear) in
       let within = limits-iff d c n q .1 (well-formed-iff d c q .1 (x .form), (x .step, x .is)) in
@@ -57,10 +66,32 @@ cache-accepted d c n q = (
       call-accepted-iff d c n q .1 (record { form = w; step = step; is = e; clear = step-accepted d c q w step .1 (rw e at (h .1), a) })),
 )
 
-pub cache-allowed : (d : ℕ) (c : CacheState) (n : ℕ) (q : Call) → answer (cacheRows d c n q) ≡ 0 →
-    (step : Step) × (stepOf n ≡ some step) × NextStep d (cacheVars c) (cacheVars (cacheNext c n q)) (callOp q) (q .vop) (q .reference) (q .node) step
-cache-allowed d c n q e =
+pub store-allowed : (d : ℕ) (c : CacheState) (n : ℕ) (q : Call) → answer (cacheRows d c n q) ≡ 0 →
+    (step : Step) × (stepOf n ≡ some step) × StoreStep d (cacheVars c) (cacheVars (cacheNext c n q)) (callOp q) (q .vop) (q .reference) (q .node) step
+store-allowed d c n q e =
     let x = call-accepted-iff d c n q .0 e in (x .step, x .is, rw (x .is) (step-allowed d c q (x .form) (x .step) (x .clear)))
+
+-- THE THEOREMS: upstream's steps
+
+-- document 01's are not new
+pub old-steps : (n : ℕ) → n ≤ 18 → isNew n ≡ false
+old-steps n b = ne-eqb n 19 (λ e. let h = b in omega arith)
+
+-- a number that is no new step's is a step of upstream
+pub upstreams : (n : ℕ) (step : Step) → isNew n ≡ false → stepOf n ≡ some step → isNew (numberOf step) ≡ false
+upstreams n step old e = subst (λ m. isNew m ≡ false) (step-of-number n step e) old
+
+module _ (d : ℕ) (c : CacheState) (n : ℕ) (q : Call) (old : isNew n ≡ false) where
+  pub cache-accepted : (answer (cacheRows d c n q) ≡ 0) ↔ ((narrowed d c n q ≡ false) × Allowed d c n q)
+  cache-accepted =
+      let a = store-accepted d c n q in (
+        (λ e. let h = a .0 e in let x = h .1 in (h .0, (x .0, x .1, (x .2 .0, rw (upstreams n (x .0) old (x .1)) at (x .2 .1))))),
+        (λ (m, (step, e, (s', g))). a .1 (m, (step, e, (s', rw (upstreams n step old e) g)))),
+      )
+
+  pub cache-allowed : answer (cacheRows d c n q) ≡ 0 →
+      (step : Step) × (stepOf n ≡ some step) × NextStep d (cacheVars c) (cacheVars (cacheNext c n q)) (callOp q) (q .vop) (q .reference) (q .node) step
+  cache-allowed e = let x = store-allowed d c n q e in (x .0, x .1, rw (upstreams n (x .0) old (x .1)) at (x .2))
 
 -- an accepted read leaves the cache as it is, and ReadStep names the cached node
 pub cache-read : (d : ℕ) (c : CacheState) (q : Call) → answer (cacheRows d c 17 q) ≡ 0 →

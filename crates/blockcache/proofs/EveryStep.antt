@@ -2,6 +2,7 @@
 use Prim.Native.Nat.{_<_, ℕ}
 use mathlib.Core.Bool.{_||_, Bool, false, true}
 use mathlib.Core.List.{_∷_}
+use mathlib.Core.Logic.{⊎-elim}
 use mathlib.Core.Option.{some}
 use mathlib.Core.Path.{_≡_, refl, subst, sym}
 use native.Mathlib.Omega.{arith}
@@ -18,22 +19,26 @@ use Rattle.blockcache.proofs.Forms.{writes-insert-form, writes-remove-f
 use Rattle.blockcache.proofs.Frames.{Exact, Open}
 use Rattle.blockcache.proofs.GraphSteps.{alloc-exact, dirty-exact, evict-exact, read-exact, unalloc-exact}
 use Rattle.blockcache.proofs.InvGraph.{alloc-fixed, dirty-fixed, evict-kept, set-kept, unalloc-fixed, unalloc-kept}
-use Rattle.blockcache.proofs.InvReads.{clean-up-kept, freeze-kept, loaded-fixed, loaded-inv, page-in-kept, paged-in-kept}
+use Rattle.blockcache.proofs.InvReads.{clean-up-kept, freeze-kept, let-go-kept, loaded-fixed, loaded-inv, page-in-kept, paged-in-kept}
 use Rattle.blockcache.proofs.InvWrites.{table-write-kept, table-written-kept, write-fixed, write-kept, written-kept}
+use Rattle.blockcache.proofs.LetGoStep.{let-go-exact}
 use Rattle.blockcache.proofs.OtherSteps.{clean-up-exact, crash-exact, freeze-exact, no-op-exact}
+use Rattle.blockcache.proofs.ReadAnswers.{awaits-read-is, table-not-node}
 use Rattle.blockcache.proofs.ReadSteps.{page-in-node-req-exact, page-in-node-resp-exact, page-in-table-req-exact, page-in-table-resp-exact, receive-loc-exact}
 use Rattle.blockcache.proofs.WriteSteps.{write-back-node-req-exact, write-back-node-resp-exact, write-back-table-req-exact, write-back-table-resp-exact}
-use Rattle.blockcache.specs.Form.{isReady, loadingPhase, notWaiting}
+use Rattle.blockcache.specs.Form.{awaitedForm, isReady, loadingPhase, notWaiting}
+use Rattle.blockcache.specs.LetGo.{LetNodeGo, StoreStep}
 use Rattle.blockcache.specs.Next.{assigned, cachedSlot, nodeSet, stepNext, unlocated, waitingFor, withAwaited, withEphemeral, withNodes, withPlaces, withTables, withWrites}
-use Rattle.blockcache.specs.NextStep.{NextStep, OnBoth}
+use Rattle.blockcache.specs.NextStep.{OnBoth}
 use Rattle.blockcache.specs.Ops.{dopId, dopLoc, vopLoc}
-use Rattle.blockcache.specs.Rows.{ownRows, stepRows}
-use Rattle.blockcache.specs.Steps.{allocStep, cleanUpStep, crashStep, dirtyStep, evictStep, freezeStep, noOpStep, numberOf, pageInIndirectionTableReqStep}
+use Rattle.blockcache.specs.Rows.{awaitsRead, ownRows, stepRows}
+use Rattle.blockcache.specs.Steps.{allocStep, cleanUpStep, crashStep, dirtyStep, evictStep, freezeStep, letGoStep, noOpStep, numberOf, pageInIndirectionTableReqStep}
 use Rattle.blockcache.specs.Steps.{pageInIndirectionTableRespStep, pageInNodeReqStep, pageInNodeRespStep, readStep, receiveLocStep, Step, stepOf, steps, unallocStep}
 use Rattle.blockcache.specs.Steps.{writeBackIndirectionTableReqStep, writeBackIndirectionTableRespStep, writeBackNodeReqStep, writeBackNodeRespStep}
 use Rattle.blockcache.specs.Upstream.{Alloc, CleanUp, Dirty, Evict, Freeze, PageInNodeReq, PageInNodeResp, Ready, Unalloc, Variables, WriteBackIndirectionTableReq}
 use Rattle.blockcache.specs.Upstream.{WriteBackIndirectionTableResp, WriteBackNodeReq, WriteBackNodeResp}
 use Rattle.blockcache.specs.UpstreamInv.{Inv, InvReady}
+use Rattle.blockcache.specs.declared.Awaited.{Awaited}
 use Rattle.blockcache.specs.declared.CacheState.{CacheState}
 use Rattle.blockcache.specs.declared.Call.{Call}
 use Rattle.blockcache.specs.declared.Places.{Places}
@@ -72,6 +77,7 @@ number-of-step dirtyStep = refl
 number-of-step allocStep = refl
 number-of-step readStep = refl
 number-of-step crashStep = refl
+number-of-step letGoStep = refl
 
 -- THE ROWS ASCEND
 
@@ -96,6 +102,7 @@ module _ (d : ℕ) (c : CacheState) (q : Call) (b : Bool) where
   rows-ascend allocStep = refl
   rows-ascend readStep = refl
   rows-ascend crashStep = refl
+  rows-ascend letGoStep = refl
 
 -- DEMAND 2
 
@@ -119,6 +126,7 @@ module _ (d : ℕ) (c : CacheState) (q : Call) (w : WellFormed d c q) where
   exact allocStep = alloc-exact d c q w
   exact readStep = read-exact d c q w
   exact crashStep = crash-exact d c q w
+  exact letGoStep = let-go-exact d c q w
 
 -- THE WRITTEN FORM IS KEPT
 
@@ -154,20 +162,20 @@ module _ (d : ℕ) (c : CacheState) (q : Call) (w : WellFormed d c q) where
       (λ t. let z = frozen-empty c f t in rw (t, assigned-absent (c .tables .frozen) r loc (f .tables .frozen) (w .call .reference) z) (eq-eqb _ _ z))
 
   -- the awaited id is no part of what a cache lacks before Ready
-  awaiting-form : loadingPhase (c .phase) ≡ true → CacheForm (withAwaited c (waitingFor id))
-  awaiting-form loading =
+  loading-awaited-form : (a : Awaited) → awaitedForm a ≡ true → loadingPhase (c .phase) ≡ true → CacheForm (withAwaited c a)
+  loading-awaited-form a h loading =
       let i = loading-idle c (f .phase) loading in
-      let a = withAwaited c (waitingFor id) in
+      let after = withAwaited c a in
       record {
         tables = f .tables;
         places = f .places;
-        awaited = refl;
+        awaited = h;
         outstanding = f .outstanding;
         nodes = f .nodes;
-        phase = loading-form a loading (idle-iff a .1 (still-idle i));
+        phase = loading-form after loading (idle-iff after .1 (still-idle i));
       }
     where
-      still-idle : Idle c → Idle (withAwaited c (waitingFor id))
+      still-idle : Idle c → Idle (withAwaited c a)
       still-idle i =
           record {
             no-persistent = i .no-persistent;
@@ -221,7 +229,7 @@ module _ (d : ℕ) (c : CacheState) (q : Call) (w : WellFormed d c q) where
       let n = with-nodes-form c f (taken .2) m
       (with-slot-form (c .nodes) ref (cachedSlot (q .node)) (f .nodes) (read-ref-bounded reads id (f .outstanding .reading) there) (cached-slot-form (q .node) (w .call .node))) in
       with-reads-form (withNodes c m) n (taken .2) (removeOf reads id) (reads-remove-form reads id (f .outstanding .reading) there)
-  next-form pageInIndirectionTableReqStep taken k = awaiting-form (taken .2)
+  next-form pageInIndirectionTableReqStep taken k = loading-awaited-form (waitingFor id) refl (taken .2)
   next-form pageInIndirectionTableRespStep taken k =
       record {
         tables = record { persistent = w .call .table; ephemeral = w .call .table; frozen = empty-table-form; frozen-absent = refl };
@@ -249,6 +257,11 @@ module _ (d : ℕ) (c : CacheState) (q : Call) (w : WellFormed d c q) where
   next-form allocStep taken k = set-node-form (taken .2)
   next-form readStep taken k = f
   next-form crashStep taken k = empty-cache-form
+  next-form letGoStep taken k =
+      ⊎-elim
+      (λ x. rw (x .0) (with-reads-form c f (x .1) (removeOf reads id) (reads-remove-form reads id (f .outstanding .reading) (x .2))))
+      (λ x. rw (table-not-node (q .dop) (x .0)) (loading-awaited-form notWaiting refl (x .1)))
+      (awaits-read-is c (q .dop) .0 (not-iff (awaitsRead c (q .dop)) .0 (k .0)))
 
 -- UPSTREAM'S INV IS KEPT. No narrowing is needed for it: a used id, which upstream would overwrite, keeps it too.
 
@@ -261,7 +274,7 @@ fixed-kept : (d : ℕ) {y z : Ready} → y ≡ z → InvReady d z → InvReady d
 fixed-kept d e i = subst (InvReady d) (sym e) i
 
 module _ (d : ℕ) (s s' : Variables) (dop : Dop) (vop : VersionOp) (r : ℕ) (n : Node) where
-  pub next-inv : (step : Step) → NextStep d s s' dop vop r n step → Inv d s → Inv d s'
+  pub next-inv : (step : Step) → StoreStep d s s' dop vop r n step → Inv d s → Inv d s'
   next-inv writeBackNodeReqStep (v, (id, loc, m, e, p)) =
       both-kept d s s' (λ x y. WriteBackNodeReq d x y id loc m r) (λ x y i u. fixed-kept d (write-fixed d x y id loc m r u) (write-kept d x y id loc m r i u)) p
   next-inv writeBackNodeRespStep (v, (id, e, p)) =
@@ -290,3 +303,8 @@ module _ (d : ℕ) (s s' : Variables) (dop : Dop) (vop : VersionOp) (r : ℕ) (n
       both-kept d s s' (λ x y. Alloc x y r n) (λ x y i u. fixed-kept d (alloc-fixed d x y r n i u) (set-kept d x r (u .list) n i (u .points) (u .succs))) p
   next-inv readStep (e, p) = λ i. subst (Inv d) (sym e) i
   next-inv crashStep (v, e) = λ i. subst (Inv d) (sym e) tt
+  next-inv letGoStep g =
+      ⊎-elim
+      (λ (id, m, e, p). both-kept d s s' (λ x y. LetNodeGo x y id) (λ x y i u. fixed-kept d (u .next) (let-go-kept d x id i)) p)
+      (λ (id, t, e, (at, read, q, u)). λ i. subst (Inv d) (sym (u .next)) (subst (Inv d) q i))
+      (g .answer)

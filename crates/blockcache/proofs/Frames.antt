@@ -1,28 +1,30 @@
--- V, D and phase apart from the rest of a step: of the rows, the gate that is clear exactly where they are the step's; of upstream's NextStep,
--- the step's own predicate over the cache's abstract state, once they are. Assumes nothing.
+-- V, D and phase apart from the rest of a step: of the rows, the gate that is clear exactly where they are the step's; of upstream's NextStep and
+-- of let go, the step's own predicate over the cache's abstract state, once they are. Assumes nothing.
 use Prim.Native.Nat.{ℕ}
-use mathlib.Core.Bool.{true, false}
+use mathlib.Core.Bool.{false, true}
 use mathlib.Core.List.{List}
-use mathlib.Core.Logic.{_↔_}
+use mathlib.Core.Logic.{_↔_, _⊎_, inl, inr, ⊎-elim}
 use mathlib.Core.Option.{Option}
 use mathlib.Core.Path.{_≡_, refl}
 use lib.Dec.{eqb}
 use Rattle.base.specs.Maps.{flagged}
 use Rattle.base.proofs.Refusals.{Clear}
-use Rattle.base.proofs.Tests.{not-iff}
+use Rattle.base.proofs.Tests.{not-iff, or-inl, or-inr}
 use Rattle.base.specs.Refusals.{Row}
 use Rattle.blockcache.proofs.IdleOps.{idle-kind}
 use Rattle.blockcache.proofs.OpKinds.{crash-op-iff, idle-vop-iff, unready-iff, advance-iff, clean-up-iff, freeze-iff, internal-iff, no-disk-op-iff, no-op-iff, on-loading-iff, on-ready-iff}
 use Rattle.blockcache.proofs.OpKinds.{req-read-node-iff, req-read-table-iff, req-write-node-iff, req-write-table-iff, resp-read-node-iff, resp-read-table-iff, resp-write-node-iff}
 use Rattle.blockcache.proofs.OpKinds.{resp-write-table-iff, send-frozen-iff, send-persistent-iff}
+use Rattle.blockcache.proofs.ReadAnswers.{answer-phase-iff}
 use Rattle.blockcache.specs.Abstract.{awaitedId, cacheVars, callOp, readyVars}
-use Rattle.blockcache.specs.Form.{isReady}
+use Rattle.blockcache.specs.Form.{isReady, loadingPhase}
+use Rattle.blockcache.specs.LetGo.{LetNodeGo, LetTableGo, StoreStep}
 use Rattle.blockcache.specs.Narrowings.{stepNarrowed}
 use Rattle.blockcache.specs.Next.{stepNext}
-use Rattle.blockcache.specs.NextStep.{NextStep, OnBoth, OnLoading, OnReady, OnRespWriteIndirectionTable, TransactionOp}
-use Rattle.blockcache.specs.Ops.{advance, dopBrought, dopId, dopKind, dopLoc, internal, noDop, vopKind, vopLoc}
+use Rattle.blockcache.specs.NextStep.{OnBoth, OnLoading, OnReady, OnRespWriteIndirectionTable, TransactionOp}
+use Rattle.blockcache.specs.Ops.{advance, dopBrought, dopId, dopKind, dopLoc, internal, isD, noDop, nodeReadResp, tableReadResp, vopKind, vopLoc}
 use Rattle.blockcache.specs.Rows.{Takes, gate, ownRows, takes}
-use Rattle.blockcache.specs.Steps.{Step, allocStep, cleanUpStep, crashStep, dirtyStep, evictStep, freezeStep, noOpStep, pageInIndirectionTableReqStep, pageInIndirectionTableRespStep}
+use Rattle.blockcache.specs.Steps.{Step, allocStep, cleanUpStep, crashStep, dirtyStep, evictStep, freezeStep, letGoStep, noOpStep, pageInIndirectionTableReqStep, pageInIndirectionTableRespStep}
 use Rattle.blockcache.specs.Steps.{pageInNodeReqStep, pageInNodeRespStep, readStep, receiveLocStep, unallocStep, writeBackIndirectionTableReqStep, writeBackIndirectionTableRespStep}
 use Rattle.blockcache.specs.Steps.{writeBackNodeReqStep, writeBackNodeRespStep}
 use Rattle.blockcache.specs.Upstream.{Alloc, CleanUp, Dirty, Evict, Freeze, Init, NoOp, PageInIndirectionTableReq, PageInIndirectionTableResp, PageInNodeReq, PageInNodeResp, ReadStep}
@@ -85,9 +87,13 @@ module _ (d : ℕ) (c : CacheState) (q : Call) where
   Own allocStep s' = OnReady s' (λ y. Alloc (readyVars c) y r (q .node))
   Own readStep s' = (s' ≡ cacheVars c) × ((n : Node) × ReadStep (readyVars c) r n)
   Own crashStep s' = Init s'
+  -- one for each kind of answer, with its phase
+  Own letGoStep s' =
+      ((isD nodeReadResp (q .dop) ≡ true) × (isReady c ≡ true) × OnReady s' (λ y. LetNodeGo (readyVars c) y id))
+      ⊎ ((isD tableReadResp (q .dop) ≡ true) × (loadingPhase (c .phase) ≡ true) × LetTableGo (c .places .persistent) (awaitedId (c .awaited)) s' id)
 
   abbrev pub Next : Step → Variables → Type 0
-  Next step s' = NextStep d (cacheVars c) s' (callOp q) (q .vop) (q .reference) (q .node) step
+  Next step s' = StoreStep d (cacheVars c) s' (callOp q) (q .vop) (q .reference) (q .node) step
 
   -- what the rows accept upstream allows, with the next state
   abbrev pub Sound : Step → Type 0
@@ -148,6 +154,27 @@ module _ (d : ℕ) (c : CacheState) (q : Call) where
           (λ ((v, o, u), p). (no-op .0 o, sent .1 (v, p))),
         )
 
+    let-go-frame : Next letGoStep s' ↔ (Open letGoStep × Own letGoStep s')
+    let-go-frame =
+        let node = resp-read-node-iff (q .dop) (q .node) (q .table) (λ i n. OnBoth (cacheVars c) s' (λ x y. LetNodeGo x y i)) in
+        let table = resp-read-table-iff (q .dop) (q .node) (q .table) (λ i t. OnLoading (cacheVars c) (λ at read. LetTableGo at read s' i)) in
+        let ready = on-ready-iff c (λ x. OnReady s' (λ y. LetNodeGo x y id)) in
+        let loading = on-loading-iff c (λ at read. LetTableGo at read s' id) in
+        let phase = answer-phase-iff (c .phase) (q .dop) in
+        let n = isD nodeReadResp (q .dop) in
+        let t = isD tableReadResp (q .dop) in (
+          (λ g. let v = internal-iff (q .vop) .1 (g .op) in
+              ⊎-elim
+              (λ x. let a = node .0 x in let b = ready .0 (a .1) in ((v, or-inl t (a .0), phase .1 (inl (a .0, b .0))), inl (a .0, b .0, b .1)))
+              (λ x. let a = table .0 x in let b = loading .0 (a .1) in ((v, or-inr n (a .0), phase .1 (inr (a .0, b .0))), inr (a .0, b .0, b .1)))
+              (g .answer)),
+          (λ ((v, o, p), u).
+              record {
+                op = internal-iff (q .vop) .0 v;
+                answer = ⊎-elim (λ x. inl (node .1 (x .0, ready .1 (x .1, x .2)))) (λ x. inr (table .1 (x .0, loading .1 (x .1, x .2)))) u;
+              }),
+        )
+
     pub frame : (step : Step) → Next step s' ↔ (Open step × Own step s')
     frame writeBackNodeReqStep =
         internal-frame (req-write-node-iff (q .dop) (q .node) (q .table) (λ i l n. OnBoth (cacheVars c) s' (λ x y. WriteBackNodeReq d x y i l n r)))
@@ -186,3 +213,4 @@ module _ (d : ℕ) (c : CacheState) (q : Call) where
         let on = on-ready-iff c (λ x. (n : Node) × ReadStep x r n) in
         ((λ (e, p). let h = on .0 p in ((refl, refl, h .0), (e, h .1))), (λ ((v, o, h), u). (u .0, on .1 (h, u .1))))
     frame crashStep = ((λ (v, i). ((crash-op-iff (q .vop) .1 v, refl, refl), i)), (λ ((v, o, h), i). (crash-op-iff (q .vop) .0 v, i)))
+    frame letGoStep = let-go-frame

@@ -1,4 +1,4 @@
--- NoOp's disk operations: none, or an answer that the cache doesn't await. Assumes nothing.
+-- NoOp's disk operations, as upstream has them: none, any read answer, or a write answer that the cache doesn't await. Assumes nothing.
 use Prim.Native.Nat.{ℕ}
 use mathlib.Core.Bool.{_&&_, _||_, and-false, Bool, false, false≢true, or-false, true}
 use mathlib.Core.Logic.{_↔_}
@@ -11,7 +11,8 @@ use Rattle.blockcache.proofs.OpKinds.{on-ready-iff}
 use Rattle.blockcache.proofs.Waiting.{writes-has}
 use Rattle.blockcache.specs.Abstract.{cacheVars}
 use Rattle.blockcache.specs.Form.{isReady}
-use Rattle.blockcache.specs.Ops.{dopId, dopKind, nodeReadResp, nodeWriteResp, noDop, tableReadResp, tableWriteResp}
+use Rattle.blockcache.specs.Ops.{dopId, dopKind, isIdleD, nodeWriteResp, tableWriteResp}
+use Rattle.blockcache.specs.Rows.{awaitsTable}
 use Rattle.blockcache.specs.Upstream.{AwaitsNodeWrite, AwaitsTableWrite, IdleOp, In}
 use Rattle.blockcache.specs.declared.CacheState.{CacheState}
 use Rattle.blockdisk.specs.Upstream.{opOf}
@@ -29,10 +30,10 @@ both-fail-iff a b h = (
   (λ k. split (a && b) (λ t. absurd (k (and-left a b t, h .0 (and-right a b t)))) (λ t. t)),
 )
 
-pub awaits-table-iff : (c : CacheState) (id : ℕ) → ((isReady c && (c .awaited .waiting && eqb (c .awaited .id) id)) ≡ false) ↔ (AwaitsTableWrite (cacheVars c) id → ⊥)
+pub awaits-table-iff : (c : CacheState) (id : ℕ) → ((isReady c && awaitsTable (c .awaited) id) ≡ false) ↔ (AwaitsTableWrite (cacheVars c) id → ⊥)
 awaits-table-iff c id =
     let on = on-ready-iff c (λ x. x .outstandingIndirectionTableWrite ≡ some id) in
-    let k = both-fail-iff (isReady c) (c .awaited .waiting && eqb (c .awaited .id) id) (awaits-iff (c .awaited) id) in
+    let k = both-fail-iff (isReady c) (awaitsTable (c .awaited) id) (awaits-iff (c .awaited) id) in
     ((λ e x. k .0 e (on .0 x)), (λ h. k .1 (λ y. h (on .1 y))))
 
 pub awaits-node-iff : (c : CacheState) (id : ℕ) → ((isReady c && hasOf (c .outstanding .writes) id) ≡ false) ↔ (AwaitsNodeWrite (cacheVars c) id → ⊥)
@@ -44,14 +45,11 @@ awaits-node-iff c id =
 
 -- NoOp's disk operations
 module _ (c : CacheState) (n : Node) (t : Table) where
-  abbrev idleKind : DiskOp → Bool
-  idleKind op = eqb (dopKind op) noDop || eqb (dopKind op) tableReadResp || eqb (dopKind op) nodeReadResp || eqb (dopKind op) tableWriteResp || eqb (dopKind op) nodeWriteResp
-
   abbrev awaitedOp : DiskOp → Bool
   awaitedOp op =
-      isReady c && ((eqb (dopKind op) tableWriteResp && (c .awaited .waiting && eqb (c .awaited .id) (dopId op))) || (eqb (dopKind op) nodeWriteResp && hasOf (c .outstanding .writes) (dopId op)))
+      isReady c && ((eqb (dopKind op) tableWriteResp && awaitsTable (c .awaited) (dopId op)) || (eqb (dopKind op) nodeWriteResp && hasOf (c .outstanding .writes) (dopId op)))
 
-  pub idle-op : (op : DiskOp) → idleKind op ≡ true → awaitedOp op ≡ false → IdleOp (cacheVars c) (opOf op n t)
+  pub idle-op : (op : DiskOp) → isIdleD op ≡ true → awaitedOp op ≡ false → IdleOp (cacheVars c) (opOf op n t)
   idle-op (ReqReadIndirectionTableOp id l) k e = absurd (false≢true k)
   idle-op (ReqReadNodeOp id l) k e = absurd (false≢true k)
   idle-op (ReqWriteIndirectionTableOp id l) k e = absurd (false≢true k)
@@ -62,7 +60,7 @@ module _ (c : CacheState) (n : Node) (t : Table) where
   idle-op (RespWriteNodeOp id) k e = awaits-node-iff c id .0 e
   idle-op NoDiskOp k e = tt
 
-  pub idle-kind : (op : DiskOp) → IdleOp (cacheVars c) (opOf op n t) → (idleKind op ≡ true) × (awaitedOp op ≡ false)
+  pub idle-kind : (op : DiskOp) → IdleOp (cacheVars c) (opOf op n t) → (isIdleD op ≡ true) × (awaitedOp op ≡ false)
   idle-kind (ReqReadIndirectionTableOp id l) u = absurd u
   idle-kind (ReqReadNodeOp id l) u = absurd u
   idle-kind (ReqWriteIndirectionTableOp id l) u = absurd u

@@ -1,4 +1,4 @@
--- Steps 6, 7, 9, 12 and 13 keep upstream's Inv. Assumes nothing.
+-- Steps 6, 7, 9, 12, 13 and 19 keep upstream's Inv. Assumes nothing.
 use Prim.Native.Nat.{ℕ}
 use mathlib.Core.Bool.{true}
 use mathlib.Core.Logic.{inl, inr, ⊎-elim}
@@ -9,9 +9,9 @@ use Rattle.base.proofs.Tests.{never}
 use Rattle.base.specs.Maps.{Map, del, empty, put}
 use Rattle.blockcache.proofs.InvLaws.{ready-ext}
 use Rattle.blockcache.specs.Form.{idle}
-use Rattle.blockcache.specs.Upstream.{AllLocationsForDifferentRefsDontOverlap, CleanUp, PageInIndirectionTableResp, PageInNodeReq, PageInNodeResp, Ready, WFCompleteIndirectionTable}
+use Rattle.blockcache.specs.Upstream.{AllLocationsForDifferentRefsDontOverlap, CleanUp, OutstandingWrite, PageInIndirectionTableResp, PageInNodeReq, PageInNodeResp, Ready, WFCompleteIndirectionTable}
 use Rattle.blockcache.specs.Upstream.{setCache, setLocs, setReads, setTables}
-use Rattle.blockcache.specs.UpstreamInv.{CacheConsistentWithSuccessors, InvFrozen, InvReady, OutstandingReadRefsUnique}
+use Rattle.blockcache.specs.UpstreamInv.{CacheConsistentWithSuccessors, InvFrozen, InvOutstanding, InvReady, OutstandingReadRefsUnique}
 use Rattle.disklayout.specs.Device.{deviceOf}
 use Rattle.disklayout.specs.Layout.{ValidIndirectionTableLocation}
 use Rattle.disklayout.specs.declared.Location.{Location}
@@ -41,6 +41,15 @@ page-in-kept d s s' id loc ref v u =
         (λ x. ⊎-elim (λ y. x .0 ∙ sym (y .0)) (λ y. absurd (u .not-read j (y .1 ∙ ap some (sym (x .1))))) (put-some (s .outstandingBlockReads) id ref j k))
         (λ x. ⊎-elim (λ y. absurd (u .not-read i (x .1 ∙ ap some (sym (y .1))))) (λ y. v .outstanding .reads-unique i j r (x .1) (y .1)) (put-some (s .outstandingBlockReads) id ref j k))
         (put-some (s .outstandingBlockReads) id ref i e)
+
+-- a read less, answered or let go
+read-less : (d : ℕ) (writes : Map OutstandingWrite) (reading : Map ℕ) (id : ℕ) → InvOutstanding d writes reading → InvOutstanding d writes (del reading id)
+read-less d writes reading id o =
+    record {
+      reads-unique = λ i j r e k. o .reads-unique i j r (del-some reading id i e .1) (del-some reading id j k .1);
+      writes-valid = o .writes-valid;
+      writes-apart = o .writes-apart;
+    }
 
 -- PageInNodeResp
 
@@ -77,13 +86,21 @@ module _ (d : ℕ) (s s' : Ready) (id : ℕ) (node : Option Node) (v : InvReady 
               overlapping = i .overlapping;
               distinct = i .distinct;
             };
-        outstanding = record {
-          reads-unique = λ i j r e k. v .outstanding .reads-unique i j r (del-some (s .outstandingBlockReads) id i e .1) (del-some (s .outstandingBlockReads) id j k .1);
-          writes-valid = v .outstanding .writes-valid;
-          writes-apart = v .outstanding .writes-apart;
-        };
+        outstanding = read-less d (s .outstandingBlockWrites) (s .outstandingBlockReads) id (v .outstanding);
         places = v .places;
       }
+
+-- LetGo
+
+pub let-go-kept : (d : ℕ) (s : Ready) (id : ℕ) → InvReady d s → InvReady d (setReads s (del (s .outstandingBlockReads) id))
+let-go-kept d s id v =
+    record {
+      persistent = v .persistent;
+      ephemeral = v .ephemeral;
+      frozen = v .frozen;
+      outstanding = read-less d (s .outstandingBlockWrites) (s .outstandingBlockReads) id (v .outstanding);
+      places = v .places;
+    }
 
 -- PageInIndirectionTableResp: one table, nothing cached, nothing outstanding
 

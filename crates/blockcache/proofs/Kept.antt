@@ -3,7 +3,7 @@ use Prim.Native.Nat.{ℕ}
 use mathlib.Core.Bool.{true}
 use mathlib.Core.Path.{_≡_, subst, sym}
 use Rattle.base.specs.Refusals.{answer}
-use Rattle.blockcache.proofs.Demand2.{cache-allowed}
+use Rattle.blockcache.proofs.Demand2.{store-allowed}
 use Rattle.blockcache.proofs.EveryStep.{next-form, next-inv}
 use Rattle.blockcache.proofs.Forms.{cache-form-iff}
 use Rattle.blockcache.proofs.Frames.{gate-iff}
@@ -27,7 +27,7 @@ cache-form-kept d c n q e =
 -- an accepted call keeps it
 pub inv-kept : (d : ℕ) (c : CacheState) (n : ℕ) (q : Call) → Inv d (cacheVars c) → answer (cacheRows d c n q) ≡ 0 → Inv d (cacheVars (cacheNext c n q))
 inv-kept d c n q i e =
-    let a = cache-allowed d c n q e in
+    let a = store-allowed d c n q e in
     next-inv d (cacheVars c) (cacheVars (cacheNext c n q)) (callOp q) (q .vop) (q .reference) (q .node) (a .0) (a .2) i
 
 -- Init

@@ -15,10 +15,13 @@ pub mod InvLaws
 pub mod InvReads
 pub mod InvWrites
 pub mod Kept
+pub mod LetGo
+pub mod LetGoStep
 pub mod Numbers
 pub mod OpKinds
 pub mod OtherSteps
 pub mod Outcomes
+pub mod ReadAnswers
 pub mod ReadSteps
 pub mod Waiting
 pub mod WriteSteps

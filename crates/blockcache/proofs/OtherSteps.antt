@@ -1,14 +1,18 @@
--- Steps 12 to 14 and 18: accepted exactly where upstream allows them. Assumes nothing.
+-- Steps 12 to 14 and 18: accepted exactly where upstream allows them, but for NoOp's narrowing. Assumes nothing.
 use Prim.Native.Nat.{ℕ}
-use mathlib.Core.Path.{refl}
+use mathlib.Core.Bool.{false}
+use mathlib.Core.Path.{_≡_, refl}
 use Rattle.base.proofs.Flagged.{flagged-is-iff, flagged-none-iff}
+use Rattle.base.proofs.Refusals.{Clear}
 use Rattle.base.proofs.Tests.{not-iff, or-iff}
 use Rattle.blockcache.proofs.Forms.{WellFormed}
 use Rattle.blockcache.proofs.Frames.{Complete, Exact, Sound}
 use Rattle.blockcache.proofs.IdleOps.{idle-kind, idle-op}
 use Rattle.blockcache.proofs.OpKinds.{on-ready-iff}
 use Rattle.blockcache.specs.Abstract.{readyVars}
+use Rattle.blockcache.specs.Narrowings.{stepNarrowed}
 use Rattle.blockcache.specs.Next.{stepNext}
+use Rattle.blockcache.specs.Rows.{ownRows}
 use Rattle.blockcache.specs.Steps.{cleanUpStep, crashStep, freezeStep, noOpStep}
 use Rattle.blockcache.specs.Upstream.{CleanUp, Freeze}
 use Rattle.blockcache.specs.declared.CacheState.{CacheState}
@@ -68,11 +72,15 @@ module _ (d : ℕ) (c : CacheState) (q : Call) (w : WellFormed d c q) where
   no-op-sound : Sound d c q noOpStep
   no-op-sound taken k = record { op = idle-op c (q .node) (q .table) (q .dop) (taken .1) (k .0); next = refl }
 
+  -- what it takes is no awaited read's answer
+  no-op-free : Clear (ownRows d c q noOpStep) → stepNarrowed c q noOpStep ≡ false
+  no-op-free k = k .1 .0
+
   no-op-complete : Complete d c q noOpStep
-  no-op-complete s' ns p = (idle-kind c (q .node) (q .table) (q .dop) (p .op) .1, tt)
+  no-op-complete s' ns p = (idle-kind c (q .node) (q .table) (q .dop) (p .op) .1, (ns, tt))
 
   pub no-op-exact : Exact d c q noOpStep
-  no-op-exact = record { sound = no-op-sound; complete = no-op-complete; free = λ k. refl }
+  no-op-exact = record { sound = no-op-sound; complete = no-op-complete; free = no-op-free }
 
   -- Crash, the cache's half
 

@@ -1,14 +1,18 @@
--- Document 01's narrowings of the cache: what is refused although upstream would allow it.
+-- The narrowings of the cache, document 01's and, for NoOp, document 02's: what is refused although upstream would allow it.
 use Prim.Native.Nat.{ℕ}
-use mathlib.Core.Bool.{Bool, _&&_, _||_, cond, false}
+use mathlib.Core.Bool.{Bool, _||_, cond, false}
 use mathlib.Core.Option.{Option, none, some}
 use lib.Dec.{eqb, leb}
 use Rattle.blockcache.specs.Ops.{dopId, dopLoc}
+use Rattle.blockcache.specs.Rows.{awaitsRead}
 use Rattle.blockcache.specs.Step.{outsideLimits}
-use Rattle.blockcache.specs.Steps.{Step, numberOf, pageInNodeReqStep, stepOf, writeBackNodeReqStep}
+use Rattle.blockcache.specs.Steps.{Step, noOpStep, numberOf, pageInNodeReqStep, stepOf, writeBackNodeReqStep}
 use Rattle.blockcache.specs.declared.CacheState.{CacheState}
 use Rattle.blockcache.specs.declared.Call.{Call}
 use Rattle.queue.specs.Queue.{hasOf}
+
+abbrev isStep : Step → Step → Bool
+isStep k step = eqb (numberOf step) (numberOf k)
 
 module _ (c : CacheState) (q : Call) where
   -- WriteBackNodeReq: an id already outstanding, a node of length 0, 16 writes outstanding
@@ -19,9 +23,17 @@ module _ (c : CacheState) (q : Call) where
   abbrev pub readNarrowed : Bool
   readNarrowed = hasOf (c .outstanding .reads) (dopId (q .dop)) || leb 16 (c .outstanding .reads .count)
 
+  -- NoOp: it brings the answer of a read that the cache awaits (22)
+  abbrev pub idleNarrowed : Bool
+  idleNarrowed = awaitsRead c (q .dop)
+
   -- no other step has one, beside 1
   abbrev pub stepNarrowed : Step → Bool
-  stepNarrowed step = cond (eqb (numberOf step) (numberOf writeBackNodeReqStep)) writeNarrowed (eqb (numberOf step) (numberOf pageInNodeReqStep) && readNarrowed)
+  stepNarrowed step =
+      cond (isStep writeBackNodeReqStep step) writeNarrowed
+      (cond (isStep pageInNodeReqStep step) readNarrowed
+      (cond (isStep noOpStep step) idleNarrowed
+      false))
 
   abbrev pub narrowedOf : Option Step → Bool
   narrowedOf none = false

@@ -2,8 +2,8 @@
 use Prim.Native.Nat.{ℕ}
 use mathlib.Core.Bool.{_&&_, cond, false, not, true}
 use Rattle.blockcache.specs.Form.{emptyCache, loadingAt, notWaiting}
-use Rattle.blockcache.specs.Ops.{dopId, dopLoc, vopLoc}
-use Rattle.blockcache.specs.Steps.{Step, allocStep, cleanUpStep, crashStep, dirtyStep, evictStep, freezeStep, noOpStep, pageInIndirectionTableReqStep, pageInIndirectionTableRespStep}
+use Rattle.blockcache.specs.Ops.{dopId, dopLoc, isD, nodeReadResp, vopLoc}
+use Rattle.blockcache.specs.Steps.{Step, allocStep, cleanUpStep, crashStep, dirtyStep, evictStep, freezeStep, letGoStep, noOpStep, pageInIndirectionTableReqStep, pageInIndirectionTableRespStep}
 use Rattle.blockcache.specs.Steps.{pageInNodeReqStep, pageInNodeRespStep, readStep, receiveLocStep, unallocStep, writeBackIndirectionTableReqStep, writeBackIndirectionTableRespStep}
 use Rattle.blockcache.specs.Steps.{writeBackNodeReqStep, writeBackNodeRespStep}
 use Rattle.blockcache.specs.declared.Awaited.{Awaited}
@@ -124,3 +124,5 @@ module _ (c : CacheState) (q : Call) where
   stepNext allocStep = nodeSet
   stepNext readStep = c
   stepNext crashStep = emptyCache
+  -- the wait for the answered read, and nothing else
+  stepNext letGoStep = cond (isD nodeReadResp (q .dop)) (withReads c (removeOf (c .outstanding .reads) id)) (withAwaited c notWaiting)

@@ -4,7 +4,7 @@ use mathlib.Core.Bool.{Bool, true}
 use mathlib.Core.Logic.{_⊎_}
 use mathlib.Core.Option.{Option}
 use mathlib.Core.Path.{_≡_}
-use Rattle.blockcache.specs.Steps.{Step, allocStep, cleanUpStep, crashStep, dirtyStep, evictStep, freezeStep, noOpStep, pageInIndirectionTableReqStep, pageInIndirectionTableRespStep}
+use Rattle.blockcache.specs.Steps.{Step, allocStep, cleanUpStep, crashStep, dirtyStep, evictStep, freezeStep, letGoStep, noOpStep, pageInIndirectionTableReqStep, pageInIndirectionTableRespStep}
 use Rattle.blockcache.specs.Steps.{pageInNodeReqStep, pageInNodeRespStep, readStep, receiveLocStep, unallocStep, writeBackIndirectionTableReqStep, writeBackIndirectionTableRespStep}
 use Rattle.blockcache.specs.Steps.{writeBackNodeReqStep, writeBackNodeRespStep}
 use Rattle.blockcache.specs.Upstream.{Alloc, CleanUp, Dirty, Evict, Freeze, Init, NoOp, PageInIndirectionTableReq, PageInIndirectionTableResp, PageInNodeReq, PageInNodeResp, ReadStep}
@@ -95,3 +95,5 @@ module _ (d : ℕ) (s s' : Variables) (dop : Dop) (vop : VersionOp) (ref : ℕ) 
   NextStep allocStep = TransactionOp dop vop × OnBoth s s' (λ x y. Alloc x y ref n)
   NextStep readStep = (s' ≡ s) × OnReady s (λ x. (node : Node) × ReadStep x ref node)
   NextStep crashStep = Crashed s' vop
+  -- upstream has no such step: LetGo.antt says what it does
+  NextStep letGoStep = ⊥

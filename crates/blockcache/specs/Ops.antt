@@ -1,6 +1,7 @@
 -- A version operation and a disk operation as numbers: its kind, by name, and what it carries, zeros where it carries none.
 use Prim.Native.Nat.{ℕ}
-use mathlib.Core.Bool.{Bool, false}
+use mathlib.Core.Bool.{Bool, _||_, false}
+use lib.Dec.{eqb}
 use Rattle.disklayout.specs.Calls.{zeroLoc}
 use Rattle.blockcache.specs.declared.VersionOp.{VersionOp}
 use Rattle.blockcache.specs.declared.VersionOp.the-variants.{AdvanceOp, CleanUpOp, CrashOp, FreezeOp, JournalInternalOp, PopSyncOp, PushSyncOp, SendFrozenLocOp, SendPersistentLocOp}
@@ -153,3 +154,14 @@ dopBrought (RespReadNodeOp id b) = b
 dopBrought (RespWriteIndirectionTableOp id) = Nothing
 dopBrought (RespWriteNodeOp id) = Nothing
 dopBrought NoDiskOp = Nothing
+
+-- V is of this kind, D is of this kind
+abbrev pub isV : ℕ → VersionOp → Bool
+isV k v = eqb (vopKind v) k
+
+abbrev pub isD : ℕ → DiskOp → Bool
+isD k o = eqb (dopKind o) k
+
+-- no D, or an answer: what NoOp takes
+abbrev pub isIdleD : DiskOp → Bool
+isIdleD o = isD noDop o || isD tableReadResp o || isD nodeReadResp o || isD tableWriteResp o || isD nodeWriteResp o

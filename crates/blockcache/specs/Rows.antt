@@ -1,16 +1,17 @@
--- The refusals of each step, a row for each condition of document 01, in its order. "Allocated" means in the ephemeral graph.
+-- The refusals of each step, a row for each condition of documents 01 and 02, by its number. "Allocated" means in the ephemeral graph.
 use Prim.Native.Nat.{ℕ}
 use mathlib.Core.Bool.{Bool, _&&_, _||_, not, true}
 use mathlib.Core.List.{List, [], _∷_}
 use lib.Dec.{eqb, leb}
 use Rattle.base.specs.Refusals.{Row, _when_}
 use Rattle.blockcache.specs.Form.{isReady, loadingPhase, readyPhase, unreadyPhase}
-use Rattle.blockcache.specs.Ops.{advance, cleanUp, crash, dopBrought, dopId, dopKind, dopLoc, freeze, internal, journalInternal, noDop, nodeReadReq, nodeReadResp, nodeWriteReq}
-use Rattle.blockcache.specs.Ops.{nodeWriteResp, popSync, pushSync, sendFrozenLoc, sendPersistentLoc, tableReadReq, tableReadResp, tableWriteReq, tableWriteResp, vopKind, vopLoc, vopNoOp}
+use Rattle.blockcache.specs.Ops.{advance, cleanUp, crash, dopBrought, dopId, dopLoc, freeze, internal, isD, isIdleD, isV, journalInternal, noDop, nodeReadReq, nodeReadResp, nodeWriteReq}
+use Rattle.blockcache.specs.Ops.{nodeWriteResp, popSync, pushSync, sendFrozenLoc, sendPersistentLoc, tableReadReq, tableReadResp, tableWriteReq, tableWriteResp, vopLoc, vopNoOp}
 use Rattle.blockcache.specs.Scan.{hasPredecessor, heldIn, needsCached, nodeRejected, reads, tableRejected, writesTo}
-use Rattle.blockcache.specs.Steps.{Step, allocStep, cleanUpStep, crashStep, dirtyStep, evictStep, freezeStep, noOpStep, pageInIndirectionTableReqStep, pageInIndirectionTableRespStep}
+use Rattle.blockcache.specs.Steps.{Step, allocStep, cleanUpStep, crashStep, dirtyStep, evictStep, freezeStep, letGoStep, noOpStep, pageInIndirectionTableReqStep, pageInIndirectionTableRespStep}
 use Rattle.blockcache.specs.Steps.{pageInNodeReqStep, pageInNodeRespStep, readStep, receiveLocStep, unallocStep, writeBackIndirectionTableReqStep, writeBackIndirectionTableRespStep}
 use Rattle.blockcache.specs.Steps.{writeBackNodeReqStep, writeBackNodeRespStep}
+use Rattle.blockcache.specs.declared.Awaited.{Awaited}
 use Rattle.blockcache.specs.declared.CacheState.{CacheState}
 use Rattle.blockcache.specs.declared.Call.{Call}
 use Rattle.blockcache.specs.declared.Phase.{Phase}
@@ -28,12 +29,21 @@ use Rattle.sectortype.specs.Same.{sameNode, sameTable}
 use Rattle.sectortype.specs.declared.Entry.{Entry}
 use Rattle.sectortype.specs.declared.Slot.{Slot}
 
--- V is of this kind, D is of this kind
-abbrev pub isV : ℕ → VersionOp → Bool
-isV k v = eqb (vopKind v) k
+-- THE ANSWER OF A READ
 
-abbrev pub isD : ℕ → DiskOp → Bool
-isD k o = eqb (dopKind o) k
+-- it comes in its phase: a node's in Ready, a table's in Loading
+unfoldable pub answerPhase : Phase → DiskOp → Bool
+answerPhase p o = (isD nodeReadResp o && readyPhase p) || (isD tableReadResp o && loadingPhase p)
+
+-- the awaited table request has this id; in Loading it is a read, in Ready a write
+abbrev pub awaitsTable : Awaited → ℕ → Bool
+awaitsTable a id = a .waiting && eqb (a .id) id
+
+-- it comes in its phase, and the cache awaits its id
+unfoldable pub awaitsRead : CacheState → DiskOp → Bool
+awaitsRead c o =
+    answerPhase (c .phase) o
+    && ((isD nodeReadResp o && hasOf (c .outstanding .reads) (dopId o)) || (isD tableReadResp o && awaitsTable (c .awaited) (dopId o)))
 
 -- V, D AND THE PHASE
 
@@ -62,13 +72,12 @@ module _ (p : Phase) (v : VersionOp) (o : DiskOp) where
   takes freezeStep = taking (isV freeze v) (isD noDop o) (readyPhase p)
   takes cleanUpStep = taking (isV cleanUp v) (isD noDop o) (readyPhase p)
   takes noOpStep =
-      taking (isV internal v || isV journalInternal v || isV pushSync v || isV popSync v)
-      (isD noDop o || isD tableReadResp o || isD nodeReadResp o || isD tableWriteResp o || isD nodeWriteResp o)
-      true
+      taking (isV internal v || isV journalInternal v || isV pushSync v || isV popSync v) (isIdleD o) true
   takes dirtyStep = taking (isV advance v) (isD noDop o) (readyPhase p)
   takes allocStep = taking (isV advance v) (isD noDop o) (readyPhase p)
   takes readStep = taking true true (readyPhase p)
   takes crashStep = taking (isV crash v) true true
+  takes letGoStep = taking (isV internal v) (isD nodeReadResp o || isD tableReadResp o) (answerPhase p o)
 
 -- 2, 3 and 4 come before a step's own conditions
 abbrev pub gate : Takes → List Row → List Row
@@ -105,9 +114,8 @@ module _ (d : ℕ) (c : CacheState) (q : Call) where
   abbrev reading : Requests
   reading = c .outstanding .reads
 
-  -- the awaited table request has the id of D
   abbrev awaits : Bool
-  awaits = c .awaited .waiting && eqb (c .awaited .id) id
+  awaits = awaitsTable (c .awaited) id
 
   -- the reference of the awaited read that a node read answer is for
   abbrev pub readRef : ℕ
@@ -179,6 +187,7 @@ module _ (d : ℕ) (c : CacheState) (q : Call) where
       []
   ownRows noOpStep =
       (5 when (isReady c && ((isD tableWriteResp (q .dop) && awaits) || (isD nodeWriteResp (q .dop) && hasOf writes id)))) ∷
+      (22 when awaitsRead c (q .dop)) ∷  -- let go takes it
       []
   ownRows dirtyStep =
       (8 when (not (slot .present) || not (entry .allocated))) ∷
@@ -193,6 +202,9 @@ module _ (d : ℕ) (c : CacheState) (q : Call) where
       (8 when (not (entry .allocated) || not (slot .present))) ∷
       []
   ownRows crashStep = []
+  ownRows letGoStep =
+      (5 when not (awaitsRead c (q .dop))) ∷
+      []
 
   abbrev pub stepRows : Step → List Row
   stepRows step = gate (takes (c .phase) (q .vop) (q .dop) step) (ownRows step)

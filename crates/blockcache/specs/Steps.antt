@@ -1,5 +1,5 @@
--- The steps: a constructor for each of document 01's, under upstream's names, and the one function from a number to its step. The reference
--- and the node that upstream's constructors carry are those of the call.
+-- The steps: a constructor for each of document 01's, under upstream's names, and of document 02's, and the one function from a number to its
+-- step. The reference and the node that upstream's constructors carry are those of the call.
 use Prim.Native.Nat.{suc, zero, ℕ}
 use mathlib.Core.Bool.{Bool}
 use mathlib.Core.List.{List, [], _∷_}
@@ -28,6 +28,8 @@ pub data Step : Type 0 where
   -- not among upstream's: ReadStep takes no V and no D, and a crash is BlockSystem's step, of which this is the cache's half
   readStep : Step
   crashStep : Step
+  -- document 02's, Q-2: the end of a wait for a read
+  letGoStep : Step
 
 -- by their numbers, from 1
 unfoldable pub steps : List Step
@@ -50,6 +52,7 @@ steps =
     allocStep ∷
     readStep ∷
     crashStep ∷
+    letGoStep ∷
     []
 
 -- the step of a number; none: refused with 1
@@ -77,6 +80,7 @@ numberOf dirtyStep = 15
 numberOf allocStep = 16
 numberOf readStep = 17
 numberOf crashStep = 18
+numberOf letGoStep = 19
 
 -- the three that a joined call asks for by themselves: a start, a read, a crash
 abbrev pub isStart : ℕ → Bool
@@ -87,3 +91,7 @@ isRead n = eqb n (numberOf readStep)
 
 abbrev pub isCrash : ℕ → Bool
 isCrash n = eqb n (numberOf crashStep)
+
+-- document 02's steps, which upstream doesn't have: demand 2's first sentence leaves them out
+abbrev pub isNew : ℕ → Bool
+isNew n = eqb n (numberOf letGoStep)

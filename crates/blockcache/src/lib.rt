@@ -1,5 +1,5 @@
-// Upstream's BlockCache as definitions: phases, three tables, what is outstanding and the cached nodes; what each of steps 1 to 18
-// answers and leaves, upstream's predicates, and the theorem of demand 2. No code: `cache` has the step.
+// Upstream's BlockCache as definitions: phases, three tables, what is outstanding and the cached nodes; what each of steps 1 to 19
+// answers and leaves, upstream's predicates and that of step 19, and the theorem of demand 2. No code: `cache` has the step.
 use blockdisk::DiskOp;
 use disklayout::Location;
 use queue::Requests;
@@ -72,7 +72,7 @@ pub struct Call {
     pub table: Table,
 }
 
-// What a step of the cache returns: document 01's number, the node of a read (zeros with every other answer), and the cache,
+// What a step of the cache returns: the number that documents 01 and 02 give, the node of a read (zeros with every other answer), and the cache,
 // unchanged where the number is not 0.
 pub struct CacheOutcome {
     pub answer: u64,

@@ -1,4 +1,4 @@
--- Each joined call is answered as document 01 fixes: the lowest number whose condition holds, in cache, disk or start; 0 where none does. Assumes nothing.
+-- Each joined call is answered as documents 01 and 02 fix: the lowest number whose condition holds, in cache, disk or start; 0 where none does. Assumes nothing.
 use Prim.Native.Nat.{_<_, _≤_, ℕ}
 use mathlib.Core.Bool.{Bool, _||_, false, true}
 use mathlib.Core.List.{List}

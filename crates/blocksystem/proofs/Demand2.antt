@@ -1,6 +1,6 @@
--- Demand 2 for the joined call: it is accepted exactly where upstream's BlockSystem allows some next state and no narrowing of document 01 refuses it,
--- and then the cache and disk handed back are a state that upstream allows. For any device, step number, call, offered records, cache and disk.
--- Assumes nothing.
+-- Demand 2 for the joined call: it is accepted exactly where upstream's BlockSystem allows some next state and no narrowing refuses it, and then the
+-- cache and disk handed back are a state that upstream allows. For any device, call, offered records, cache, disk and step number but those of
+-- document 02's steps, which upstream doesn't have. Assumes nothing.
 use Prim.Native.Nat.{ℕ}
 use mathlib.Core.Bool.{false, true}
 use mathlib.Core.Logic.{_↔_, Iff·rfl}
@@ -16,7 +16,7 @@ use Rattle.blockcache.specs.Abstract.{cacheVars, callOp}
 use Rattle.blockcache.specs.NextStep.{NextStep}
 use Rattle.blockcache.specs.Ops.{vopLoc}
 use Rattle.blockcache.specs.Step.{cacheNext}
-use Rattle.blockcache.specs.Steps.{crashStep, isCrash, isRead, isStart, readStep, receiveLocStep, Step, stepOf, steps}
+use Rattle.blockcache.specs.Steps.{crashStep, isCrash, isNew, isRead, isStart, readStep, receiveLocStep, Step, stepOf, steps}
 use Rattle.blockcache.specs.Upstream.{unready, Variables as MVariables}
 use Rattle.blockcache.specs.declared.CacheState.{CacheState}
 use Rattle.blockcache.specs.declared.Call.{Call}
@@ -74,7 +74,7 @@ start-iff d n q s = (
 -- A STEP OF THE MACHINE
 
 module _ (d n : ℕ) (q : Call) (o : Records) (c : CacheState) (s : DiskState) where
-  module _ (ne : isCrash n ≡ false) where
+  module _ (ne : isCrash n ≡ false) (old : isNew n ≡ false) where
     abbrev after : Variables
     after = record { machine = cacheVars (cacheNext c n q); disk = diskVars d (nextDisk d s (diskCall n q .op) (q .node) (q .table)) }
 
@@ -82,7 +82,7 @@ module _ (d n : ℕ) (q : Call) (o : Records) (c : CacheState) (s : DiskState) w
     machine-to e =
         let z = joined-zero d n q o c s .0 e in
         let a : answer (diskRows d s (diskCall n q)) ≡ 0 = sym (disk-answer d n q o s ne) ∙ z .1 in
-        let x = cache-allowed d c n q (z .0) in
+        let x = cache-allowed d c n q old (z .0) in
         let m = next-joined d (cacheVars c) (after .machine) q n (x .0) (x .1) .0 (x .2) in (
           x .0,
           x .1,
@@ -103,7 +103,7 @@ module _ (d n : ℕ) (q : Call) (o : Records) (c : CacheState) (s : DiskState) w
         let m = x .2 in
         let a = disk-accepted d s (diskCall n q) .1 (h .disk ne, (s' .disk, m .disk)) in
         joined-zero d n q o c s .1 (
-          cache-accepted d c n q .1 (h .cache, (x .0, x .1, (s' .machine, next-joined d (cacheVars c) (s' .machine) q n (x .0) (x .1) .1 (m .machine)))),
+          cache-accepted d c n q old .1 (h .cache, (x .0, x .1, (s' .machine, next-joined d (cacheVars c) (s' .machine) q n (x .0) (x .1) .1 (m .machine)))),
           disk-answer d n q o s ne ∙ a,
           start-iff d n q s .1
               (λ t. let u = sends d (cacheVars c) (s' .machine) q n (x .0) (x .1) t (m .machine) in
@@ -121,20 +121,20 @@ module _ (d : ℕ) (q : Call) (o : Records) (c : CacheState) (s : DiskState) whe
   crash-to e =
       let z = joined-zero d 18 q o c s .0 e in
       let a : answer (crashRows d s o) ≡ 0 = sym (crash-answer d 18 q o s refl) ∙ z .1 in
-      (a, record { op = crash-op (cacheVars (cacheNext c 18 q)) (cache-allowed d c 18 q (z .0)); machine = refl; disk = crash-accepted d s o .0 a .1 })
+      (a, record { op = crash-op (cacheVars (cacheNext c 18 q)) (cache-allowed d c 18 q refl (z .0)); machine = refl; disk = crash-accepted d s o .0 a .1 })
 
   crash-from : NoNarrowing d 18 q o c s → (m : MVariables) → Crash (systemVars d c s) (record { machine = m; disk = diskVars d (crashed s o) }) (q .vop) → joinedAnswer d 18 q o c s ≡ 0
   unfolding stepOf steps
   crash-from h m x =
       joined-zero d 18 q o c s .1 (
-        cache-accepted d c 18 q .1 (h .cache, (crashStep, refl, (m, (x .op, x .machine)))),
+        cache-accepted d c 18 q refl .1 (h .cache, (crashStep, refl, (m, (x .op, x .machine)))),
         crash-answer d 18 q o s refl ∙ crash-accepted d s o .1 (h .crash refl, x .disk),
         start-iff d 18 q s .1 (λ t. clash t refl),
       )
 
 -- THE THEOREMS
 
-module _ (d n : ℕ) (q : Call) (o : Records) (c : CacheState) (s : DiskState) where
+module _ (d n : ℕ) (q : Call) (o : Records) (c : CacheState) (s : DiskState) (old : isNew n ≡ false) where
   pub joined-accepted : (joinedAnswer d n q o c s ≡ 0) ↔ (NoNarrowing d n q o c s × SystemAllows d n q o c s)
   joined-accepted = (to, (λ h. from (h .0) (h .1)))
     where
@@ -142,12 +142,12 @@ module _ (d n : ℕ) (q : Call) (o : Records) (c : CacheState) (s : DiskState) w
       to e =
           let z = joined-zero d n q o c s .0 e in (
             record {
-              cache = cache-accepted d c n q .0 (z .0) .0;
+              cache = cache-accepted d c n q old .0 (z .0) .0;
               disk = λ ne. disk-accepted d s (diskCall n q) .0 (sym (disk-answer d n q o s ne) ∙ z .1) .0;
               crash = λ t. crash-accepted d s o .0 (sym (crash-answer d n q o s t) ∙ z .1) .0;
             },
             record {
-              machine = λ ne. (after d n q o c s ne, machine-to d n q o c s ne e);
+              machine = λ ne. (after d n q o c s ne old, machine-to d n q o c s ne old e);
               crash = λ t. let h : n ≡ 18 = eqb-true n 18 t in (unready, crash-to d q o c s (rw h at e) .1);
             },
           )
@@ -158,7 +158,7 @@ module _ (d n : ℕ) (q : Call) (o : Records) (c : CacheState) (s : DiskState) w
           (λ t. let k : n ≡ 18 = eqb-true n 18 t in
           let x = a .crash t in
           rw k (crash-from d q o c s (rw k at h) (x .0) (x .1)))
-          (λ t. let x = a .machine t in machine-from d n q o c s t h (x .0) (x .1))
+          (λ t. let x = a .machine t in machine-from d n q o c s t old h (x .0) (x .1))
 
   pub joined-allowed : joinedAnswer d n q o c s ≡ 0 → SystemMoves d n q o c s
   joined-allowed e =
@@ -167,7 +167,7 @@ module _ (d n : ℕ) (q : Call) (o : Records) (c : CacheState) (s : DiskState) w
       record {
         machine = λ ne.
             let y : joined d n q o c s .disk ≡ nextDisk d s (diskCall n q .op) (q .node) (q .table) = joined-disk d n q o c s e ∙ disk-next d n q o s ne (sym (disk-answer d n q o s ne) ∙ z .1) in
-            rw (cs, y) (machine-to d n q o c s ne e);
+            rw (cs, y) (machine-to d n q o c s ne old e);
         crash = λ t.
             let y : joined d n q o c s .disk ≡ crashed s o = joined-disk d n q o c s e ∙ crash-next d n q o s t (sym (crash-answer d n q o s t) ∙ z .1) in
             let h : n ≡ 18 = eqb-true n 18 t in

@@ -1,5 +1,5 @@
--- DEMAND 3: along every list of joined calls, crashes between any two included, from a newly formatted device, each call is answered as document 01
--- fixes, and afterwards no reference is lost, added or altered at a named place. Assumes nothing.
+-- DEMAND 3: along every list of joined calls, crashes between any two included, from a newly formatted device, each call is answered as
+-- documents 01 and 02 fix, and afterwards no reference is lost, added or altered at a named place. Assumes nothing.
 use Prim.Native.Nat.{ℕ}
 use mathlib.Core.Bool.{true}
 use mathlib.Core.List.{List, [], _∷_}
@@ -21,7 +21,7 @@ run-keeps d [] s v n = v
 run-keeps d (k ∷ ks) s v n =
     run-keeps d ks (moved d s k) (call-keeps d s k v (and-left (startNamed d s k) (startsNamed d (moved d s k) ks) n)) (and-right (startNamed d s k) (startsNamed d (moved d s k) ks) n)
 
--- each call is answered as 01 fixes, whatever the state
+-- each call is answered as documents 01 and 02 fix, whatever the state
 pub all-answered : (d : ℕ) (calls : List JoinedCall) (s : State) → Answered d s calls
 all-answered d [] s = tt
 all-answered d (k ∷ ks) s = (answered-as d s k, all-answered d ks (moved d s k))

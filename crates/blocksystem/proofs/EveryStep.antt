@@ -12,10 +12,11 @@ use Rattle.base.proofs.Tests.{and-both, and-iff, clash, split}
 use Rattle.base.specs.Maps.{put}
 use Rattle.blockcache.proofs.Numbers.{step-of-number}
 use Rattle.blockcache.specs.Abstract.{callOp}
+use Rattle.blockcache.specs.LetGo.{AwaitsRead, StoreStep}
 use Rattle.blockcache.specs.Next.{cachedSlot}
 use Rattle.blockcache.specs.NextStep.{IdleVop, NextStep}
 use Rattle.blockcache.specs.Ops.{vopKind, vopLoc}
-use Rattle.blockcache.specs.Steps.{allocStep, cleanUpStep, crashStep, dirtyStep, evictStep, freezeStep, isCrash, isStart, noOpStep, numberOf, pageInIndirectionTableReqStep}
+use Rattle.blockcache.specs.Steps.{allocStep, cleanUpStep, crashStep, dirtyStep, evictStep, freezeStep, isCrash, isStart, letGoStep, noOpStep, numberOf, pageInIndirectionTableReqStep}
 use Rattle.blockcache.specs.Steps.{pageInIndirectionTableRespStep, pageInNodeReqStep, pageInNodeRespStep, readStep, receiveLocStep, Step, stepOf, unallocStep}
 use Rattle.blockcache.specs.Steps.{writeBackIndirectionTableReqStep, writeBackIndirectionTableRespStep, writeBackNodeReqStep, writeBackNodeRespStep}
 use Rattle.blockcache.specs.Upstream.{Variables}
@@ -28,7 +29,7 @@ use Rattle.blockdisk.proofs.Moves.{nextVars}
 use Rattle.blockdisk.specs.Upstream.{Dop, dopOf, Next, Variables as DVariables}
 use Rattle.blocksystem.proofs.Invariant.{PictureMaps, pictureMaps, PicturesForm, Whole}
 use Rattle.blocksystem.proofs.KeepQueues.{Started}
-use Rattle.blocksystem.proofs.KeepSteps.{alloc-kept, clean-up-kept, dirty-kept, evict-kept, freeze-kept, no-op-kept, page-in-node-req-kept, page-in-node-resp-kept}
+use Rattle.blocksystem.proofs.KeepSteps.{alloc-kept, clean-up-kept, dirty-kept, evict-kept, freeze-kept, let-go-kept, no-op-kept, page-in-node-req-kept, page-in-node-resp-kept}
 use Rattle.blocksystem.proofs.KeepSteps.{page-in-table-req-kept, page-in-table-resp-kept, read-kept, receive-loc-kept, unalloc-kept, write-back-node-req-kept}
 use Rattle.blocksystem.proofs.KeepSteps.{write-back-node-resp-kept, write-back-table-req-kept, write-back-table-resp-kept}
 use Rattle.blocksystem.specs.Allowed.{joinedOp, joinedVop}
@@ -76,9 +77,11 @@ module _ (d : ℕ) (q : Call) (s s' : Variables) (v v' : DVariables) (t : Pictur
     (named : t .first .present ≡ true) (i : Inv d s') (bound : q .reference < 64) (formed : nodeForm (q .node) ≡ true) where
   -- an accepted step other than a crash
   pub record Moves (step : Step) : Type 0 where
-    pub cache : NextStep d s s' (callOp q) (q .vop) (q .reference) (q .node) step
+    pub cache : StoreStep d s s' (callOp q) (q .vop) (q .reference) (q .node) step
     pub disk : Next v v' (dopOf (diskCall (numberOf step) q))
     pub move : v' ≡ nextVars v (dopOf (diskCall (numberOf step) q))
+    -- NoOp takes no read answer that the cache awaits
+    pub unawaited : eqb (numberOf step) (numberOf noOpStep) ≡ true → AwaitsRead s (callOp q) → ⊥
     -- an accepted start is given a place then named
     pub start : isStart (numberOf step) ≡ true → (names (t .first) (vopLoc (q .vop)) || names (t .second) (vopLoc (q .vop))) ≡ true
 
@@ -145,7 +148,7 @@ module _ (d : ℕ) (q : Call) (s s' : Variables) (v v' : DVariables) (t : Pictur
         named = h .0;
         whole = rw (h .1) (k .2);
       }
-  step-kept noOpStep e m = same (no-op-kept d s s' v v' (callOp q) (q .vop) (q .reference) (q .node) maps w i (m .disk) (m .move) (m .cache))
+  step-kept noOpStep e m = same (no-op-kept d s s' v v' (callOp q) (q .vop) (q .reference) (q .node) maps w i (m .disk) (m .move) (m .unawaited refl) (m .cache))
   step-kept dirtyStep e m =
       record {
         form = with-working-form (withSlot (t .working) (q .reference) (cachedSlot (q .node))) set-form;
@@ -160,6 +163,7 @@ module _ (d : ℕ) (q : Call) (s s' : Variables) (v v' : DVariables) (t : Pictur
       }
   step-kept readStep e m = same (read-kept d s s' v v' (callOp q) (q .vop) (q .reference) (q .node) maps w (m .move) (m .cache))
   step-kept crashStep e m = clash refl e
+  step-kept letGoStep e m = same (let-go-kept d s s' v v' (callOp q) (q .vop) (q .reference) (q .node) maps w i (m .disk) (m .move) (m .cache))
 
 -- THE NUMBERS OF THE STEPS THAT CHANGE NAMES OR PICTURES: every other number leaves them as they are
 
@@ -183,6 +187,7 @@ module _ (n : ℕ) (q : Call) (t : Pictures) (not4 : n ≡ 4 → ⊥) (not5 : n 
   of-step allocStep e = absurd (not16 e)
   of-step readStep e = refl
   of-step crashStep e = refl
+  of-step letGoStep e = refl
 
   of-number : (o : Option Step) → stepOf n ≡ o → picturesOf q t o ≡ t
   of-number none e = refl
@@ -232,3 +237,4 @@ module _ (d : ℕ) (s s' : Variables) (q : Call) where
   sent-by n l allocStep e x v = differ (joinedVop n q) (AdvanceOp (x .0 .0 .0)) (SendPersistentLocOp l) (x .0 .0 .1) v refl
   sent-by n l readStep e x v = differ StatesInternalOp StatesInternalOp (SendPersistentLocOp l) refl (read-vop n e v) refl
   sent-by n l crashStep e x v = differ (joinedVop n q) CrashOp (SendPersistentLocOp l) (x .0) v refl
+  sent-by n l letGoStep e x v = absurd x

@@ -137,6 +137,10 @@ pub record NodeWritesOk (queue : Map Location) (writes : Map OutstandingWrite) (
 abbrev pub NodeReadsAwaited : Map Location → Map ℕ → Map Location → Type 0
 NodeReadsAwaited queue reading locs = (id : ℕ) (k : Location) → queue id ≡ some k → (ref : ℕ) × (reading id ≡ some ref) × (locs ref ≡ some k)
 
+-- a read that the cache awaits is queued: no wait is for ever
+abbrev pub ReadsQueued : Map ℕ → Map Location → Type 0
+ReadsQueued reading queue = (id : ℕ) → In id reading → isSome (queue id) ≡ true
+
 -- a reference that is being read is allocated and not cached
 abbrev pub ReadsUncached : Map ℕ → Map Succs → Map Node → Type 0
 ReadsUncached reading graph cache = (id ref : ℕ) → reading id ≡ some ref → In ref graph × (cache ref ≡ none)
@@ -144,6 +148,7 @@ ReadsUncached reading graph cache = (id ref : ℕ) → reading id ≡ some ref �
 -- the node reads; t is the ephemeral table
 pub record NodeReadsOk (queue : Map Location) (reading : Map ℕ) (t : IndirectionTable) (cache : Map Node) : Type 0 where
   pub awaited : NodeReadsAwaited queue reading (t .locs)
+  pub queued : ReadsQueued reading queue
   pub uncached : ReadsUncached reading (t .graph) cache
 
 -- a table and its picture
@@ -180,8 +185,9 @@ pub record LoadingOk (at : Location) (read : Option ℕ) (v : DVariables) (t : P
   pub place : t .place ≡ at
   pub no-second : t .second ≡ none
   pub working : t .working ≡ t .picture
-  -- a queued table read is the awaited one, at that place; the other queues are empty
+  -- a queued table read is the awaited one, at that place, and an awaited one is queued; the other queues are empty
   pub table-reads : (id : ℕ) (k : Location) → v .reqReadIndirectionTables id ≡ some k → (read ≡ some id) × (k ≡ at)
+  pub queued : (id : ℕ) → read ≡ some id → isSome (v .reqReadIndirectionTables id) ≡ true
   pub no-node-reads : NoneQueued (v .reqReadNodes)
   pub no-table-writes : NoneQueued (v .reqWriteIndirectionTables)
   pub no-node-writes : NoneQueued (v .reqWriteNodes)

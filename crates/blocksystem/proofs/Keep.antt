@@ -7,14 +7,15 @@ use mathlib.Core.Path.{_∙_, _≡_, refl, subst, sym}
 use borrow.Author.Tests.{eqb-true}
 use Rattle.base.proofs.Tests.{split}
 use Rattle.base.specs.Refusals.{answer}
-use Rattle.blockcache.proofs.Demand2.{cache-allowed}
+use Rattle.blockcache.proofs.Demand2.{store-allowed}
 use Rattle.blockcache.proofs.Kept.{cache-form-kept, inv-kept}
+use Rattle.blockcache.proofs.LetGo.{no-op-unawaited}
 use Rattle.blockcache.proofs.Numbers.{call-accepted-iff, step-of-number}
 use Rattle.blockcache.specs.Abstract.{cacheVars, callOp}
-use Rattle.blockcache.specs.NextStep.{NextStep}
+use Rattle.blockcache.specs.LetGo.{StoreStep}
 use Rattle.blockcache.specs.Ops.{vopLoc}
-use Rattle.blockcache.specs.Step.{cacheNext}
-use Rattle.blockcache.specs.Steps.{isCrash, isStart, stepOf, steps}
+use Rattle.blockcache.specs.Step.{cacheNext, cacheRows}
+use Rattle.blockcache.specs.Steps.{isCrash, isStart, numberOf, stepOf, steps}
 use Rattle.blockcache.specs.declared.Call.{Call}
 use Rattle.blockdisk.proofs.Crashing.{crash-form-kept}
 use Rattle.blockdisk.proofs.Demand2.{disk-allowed}
@@ -71,7 +72,7 @@ module _ (d : ℕ) (q : Call) (o : Records) (s : State) (v : Invariant d s) wher
       let x = call-accepted-iff d (s .cache) n q .0 (z .0) in
       let is = step-of-number n (x .step) (x .is) in
       let next = nextDisk d (s .disk) (c .op) (q .node) (q .table) in
-      let to = cache-allowed d (s .cache) n q (z .0) in
+      let to = store-allowed d (s .cache) n q (z .0) in
       let same : some (x .step) ≡ some (to .0) = sym (x .is) ∙ to .1 in
       let one : to .0 ≡ x .step = cc in
       let s' = cacheVars (cacheNext (s .cache) n q) in
@@ -79,9 +80,12 @@ module _ (d : ℕ) (q : Call) (o : Records) (s : State) (v : Invariant d s) wher
       let r = step-kept d q (cacheVars (s .cache)) s' (diskVars d (s .disk)) (diskVars d next) (s .pictures) (v .whole) (v .pictures-form) (v .first-named) inv (x .form .call .reference)
       (x .form .call .node) (x .step) (subst (λ m. isCrash m ≡ false) is ne)
       (record {
-        cache = subst (λ y. NextStep d (cacheVars (s .cache)) s' (callOp q) (q .vop) (q .reference) (q .node) y) one (to .2);
+        cache = subst (λ y. StoreStep d (cacheVars (s .cache)) s' (callOp q) (q .vop) (q .reference) (q .node) y) one (to .2);
         disk = subst (λ m. Next (diskVars d (s .disk)) (diskVars d next) (dopOf (diskCall m q))) is (disk-allowed d (s .disk) c a);
         move = subst (λ m. diskVars d next ≡ nextVars (diskVars d (s .disk)) (dopOf (diskCall m q))) is (disk-moves d (s .disk) c a);
+        unawaited = λ t.
+            let k : n ≡ 14 = is ∙ eqb-true (numberOf (x .step)) 14 t in
+            no-op-unawaited d (s .cache) q (subst (λ m. answer (cacheRows d (s .cache) m q) ≡ 0) k (z .0));
         start = subst (λ m. Named m) is named;
       }) in
       record {

@@ -16,7 +16,7 @@ use Rattle.sectortype.specs.Abstract.{IndirectionTable}
 use Rattle.sectortype.specs.declared.Node.{Node}
 use Rattle.sectortype.specs.declared.Succs.{Succs}
 use Rattle.blocksystem.proofs.Invariant.{FrozenOk, PictureMaps, Whole}
-use Rattle.blocksystem.proofs.Laws.{same-del, same-put}
+use Rattle.blocksystem.proofs.Laws.{answered-awaited, answered-queued, same-del, same-put}
 
 -- the same pictures but for the working one
 abbrev pub workingMaps : PictureMaps → Map Node → PictureMaps
@@ -55,10 +55,8 @@ keep-page-in d x y v v' t id n w i u a =
         frozen-place = p .frozen-place;
         writes = p .writes;
         reads = record {
-          awaited = λ j k q.
-              let e = del-some (v .reqReadNodes) id j q in
-              let h = p .reads .awaited j k (e .1) in
-              (h .0, del-other (x .outstandingBlockReads) id j (e .0) ∙ h .1, h .2);
+          awaited = answered-awaited (v .reqReadNodes) (x .outstandingBlockReads) id (x .ephemeralIndirectionTable .locs) (p .reads .awaited);
+          queued = answered-queued (v .reqReadNodes) (x .outstandingBlockReads) id (p .reads .queued);
           uncached = λ j r q.
               let e = del-some (x .outstandingBlockReads) id j q in
               let h = p .reads .uncached j r (e .1) in
@@ -102,7 +100,7 @@ keep-evict d x y v t ref w i u =
         persistent = p .persistent;
         frozen-place = p .frozen-place;
         writes = p .writes;
-        reads = record { awaited = p .reads .awaited; uncached = λ j r q. let h = p .reads .uncached j r q in (h .0, none-del (x .cache) ref r (h .1)) };
+        reads = record { awaited = p .reads .awaited; queued = p .reads .queued; uncached = λ j r q. let h = p .reads .uncached j r q in (h .0, none-del (x .cache) ref r (h .1)) };
         working = record { pictured = p .working .pictured; cached = λ r m g q. p .working .cached r m g (del-some (x .cache) ref r q .1) };
         frozen = λ f q. frozen-cache (p .frozen f q) ref (unneeded-located f ref (u .frozen-located f q)) (λ k ne. del-other (x .cache) ref k ne);
       };
@@ -130,6 +128,7 @@ keep-unalloc d x y v t ref w i u =
           awaited = λ j k q.
               let h = p .reads .awaited j k q in
               (h .0, h .1, del-other (x .ephemeralIndirectionTable .locs) ref (h .0) (u .not-read j (h .0) (h .1)) ∙ h .2);
+          queued = p .reads .queued;
           uncached = λ j r q.
               let h = p .reads .uncached j r q in
               (in-del (x .ephemeralIndirectionTable .graph) ref r (u .not-read j r q) (h .0), none-del (x .cache) ref r (h .1));
@@ -175,6 +174,7 @@ module _ (d : ℕ) (x y : Ready) (v : DVariables) (t : PictureMaps) (ref : ℕ) 
           writes = p .writes;
           reads = record {
             awaited = λ j k q. let h = p .reads .awaited j k q in (h .0, h .1, del-other (table .locs) ref (h .0) (unread j (h .0) (h .1)) ∙ h .2);
+            queued = p .reads .queued;
             uncached = λ j r q.
                 let h = p .reads .uncached j r q in
                 (in-put (table .graph) ref list r (h .0), put-other (x .cache) ref n r (unread j r q) ∙ h .1);

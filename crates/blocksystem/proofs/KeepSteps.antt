@@ -1,9 +1,11 @@
--- Each of the cache's steps, joined with the disk's exact move, keeps the invariant: one law for each of upstream's steps. Assumes nothing.
+-- Each of the cache's steps, joined with the disk's exact move, keeps the invariant: one law for each of upstream's steps, and one for let go. Assumes nothing.
 use Prim.Native.Nat.{ℕ}
+use mathlib.Core.Logic.{⊎-elim}
 use mathlib.Core.Option.{some}
 use mathlib.Core.Path.{_∙_, _≡_, sym}
 use Rattle.base.proofs.Tests.{clash}
 use Rattle.base.specs.Maps.{Map, del, put}
+use Rattle.blockcache.specs.LetGo.{AwaitsRead, LetGo, LetNodeGo}
 use Rattle.blockcache.specs.NextStep.{NextStep, OnBoth}
 use Rattle.blockcache.specs.Steps.{Step, allocStep, cleanUpStep, dirtyStep, evictStep, freezeStep, noOpStep, pageInIndirectionTableReqStep, pageInIndirectionTableRespStep, pageInNodeReqStep}
 use Rattle.blockcache.specs.Steps.{pageInNodeRespStep, readStep, receiveLocStep, unallocStep, writeBackIndirectionTableReqStep, writeBackIndirectionTableRespStep, writeBackNodeReqStep}
@@ -21,7 +23,7 @@ use Rattle.disklayout.specs.declared.Location.{Location}
 use Rattle.sectortype.specs.declared.Node.{Node}
 use Rattle.blocksystem.proofs.Invariant.{PictureMaps, Whole}
 use Rattle.blocksystem.proofs.KeepNodes.{workingMaps, keep-alloc, keep-dirty, keep-evict, keep-page-in, keep-unalloc}
-use Rattle.blocksystem.proofs.KeepQueues.{Started, keep-idle, keep-read-req, keep-receive, keep-table-read, keep-write-resp}
+use Rattle.blocksystem.proofs.KeepQueues.{Started, keep-idle, keep-let-node-go, keep-let-table-go, keep-read-req, keep-receive, keep-table-read, keep-write-resp}
 use Rattle.blocksystem.proofs.KeepTables.{cleanedMaps, frozeMaps, frozen-named, keep-clean-up, keep-freeze, keep-table-page-in, keep-table-resp, keep-table-write, namedMaps}
 use Rattle.blocksystem.proofs.KeepWrite.{keep-write-req}
 
@@ -161,10 +163,17 @@ module _ (d : ℕ) (s s' : Variables) (v v' : DVariables) (dop : Dop) (vop : Ver
       let k = rw ex at w in
       (u .loc, frozen-named d x v t (u .loc) k (u .no-table-write) (u .frozen-loc), rw (ey, move, b) (keep-clean-up d x y v t blank k (rw ey at i) u)))
 
-  pub no-op-kept : Taken noOpStep → Whole d s' v' t
-  no-op-kept g =
+  pub no-op-kept : (AwaitsRead s dop → ⊥) → Taken noOpStep → Whole d s' v' t
+  no-op-kept free g =
       let u = g .1 in
-      rw (u .next, move) (keep-idle d s v t w dop (u .op))
+      rw (u .next, move) (keep-idle d s v t w dop (u .op) free)
+
+  pub let-go-kept : LetGo s s' dop vop → Whole d s' v' t
+  let-go-kept g =
+      ⊎-elim
+      (λ (id, m, b, h). on-both s s' (λ x y. LetNodeGo x y id) h (λ x y ex ey u. rw (ey, move, b) (keep-let-node-go d x y v t id m (rw ex at w) (rw ey at i) u)))
+      (λ (id, f, b, (at, read, ex, u)). rw (move, b) (keep-let-table-go d at read s' v t id f (rw ex at w) i u))
+      (g .answer)
 
   pub dirty-kept : Taken dirtyStep → Whole d s' v' (workingMaps t (put (t .working) ref n))
   dirty-kept g =

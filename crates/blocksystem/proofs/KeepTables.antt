@@ -1,5 +1,6 @@
 -- The steps that change tables and their places keep the invariant: 12 Freeze, 13 CleanUp, 3 and 4 the frozen table's write and its answer, 9 the table's page-in. Assumes nothing.
 use Prim.Native.Nat.{ℕ}
+use mathlib.Core.Bool.{false≢true}
 use mathlib.Core.Logic.{⊎-elim}
 use mathlib.Core.Option.{Option, none, some}
 use mathlib.Core.Path.{_∙_, _≡_, ap, refl, sym}
@@ -218,7 +219,7 @@ keep-table-page-in d at read y v v' t id brought w i u a =
         };
         frozen-place = record { place-is = p .no-second; stored = λ l f q. never q; writes = λ j k q. absurd (p .no-table-writes j k q) };
         writes = record { awaited = λ j k q. absurd (p .no-node-writes j k q); persistent-apart = λ j z q. never q; frozen-apart = λ l f q. never q };
-        reads = record { awaited = λ j k q. absurd (p .no-node-reads j k q); uncached = λ j r q. never q };
+        reads = record { awaited = λ j k q. absurd (p .no-node-reads j k q); queued = λ j q. absurd (false≢true q); uncached = λ j r q. never q };
         working = record {
           pictured = rw (p .working)
               (record {

@@ -110,6 +110,7 @@ module _ (d : ℕ) (x y : Ready) (v : DVariables) (t : PictureMaps) (id ref : �
                 let h = p .reads .awaited j k q in
                 let e = x .ephemeralIndirectionTable in
                 (h .0, h .1, assign-kept e ref loc (h .0) (in-of (e .locs) (h .0) (h .2)) ∙ h .2);
+            queued = p .reads .queued;
             uncached = rw (assign-graph (x .ephemeralIndirectionTable) ref loc) (p .reads .uncached);
           };
           working = record {

@@ -5,7 +5,7 @@ use mathlib.Core.Logic.{⊎-elim}
 use mathlib.Core.Option.{Option, none, some}
 use mathlib.Core.Path.{_∙_, _≡_, ap, refl, sym}
 use lib.Dec.{eqb}
-use Rattle.base.proofs.Maps.{del-some, put-some, some-of}
+use Rattle.base.proofs.Maps.{del-in, del-other, del-some, in-del, put-some, some-of}
 use Rattle.base.proofs.Tests.{none-iff, split}
 use Rattle.base.specs.Maps.{Map, del, isSome, put}
 use Rattle.blockcache.specs.Upstream.{NoAddr}
@@ -15,7 +15,7 @@ use Rattle.disklayout.specs.declared.Location.{Location}
 use Rattle.sectortype.specs.Abstract.{IndirectionTable}
 use Rattle.sectortype.specs.declared.Node.{Node}
 use Rattle.blocksystem.specs.Upstream.{unlessWriting}
-use Rattle.blocksystem.proofs.Invariant.{Kept, Located, NoneQueued, NoneAt, SameKeys, StoredPictured}
+use Rattle.blocksystem.proofs.Invariant.{Kept, Located, NodeReadsAwaited, NoneAt, NoneQueued, ReadsQueued, SameKeys, StoredPictured}
 
 -- TWO MAPS OF THE SAME KEYS
 
@@ -31,9 +31,26 @@ module _ {A B : Type 0} (a : Map A) (b : Map B) (same : SameKeys a b) (k : ℕ) 
   pub same-none : b k ≡ none → a k ≡ none
   same-none e = none-iff (a k) .0 (same k ∙ ap isSome e)
 
+-- a key of one map that is one of another, after both get a key
+pub in-put-both : {A B : Type 0} (a : Map A) (b : Map B) (k : ℕ) (v : A) (w : B) (j : ℕ) → (isSome (a j) ≡ true → isSome (b j) ≡ true) → isSome (put a k v j) ≡ true → isSome (put b k w j) ≡ true
+unfolding put
+in-put-both a b k v w j h i = split (eqb j k) (λ e. rw e) (λ e. rw e (h (rw e at i)))
+
 pub frozen-none : (w : Option ℕ) → unlessWriting w none ≡ none
 frozen-none none = refl
 frozen-none (some id) = refl
+
+-- A READ ANSWERED: neither queued nor awaited any longer
+
+module _ (queue : Map Location) (reading : Map ℕ) (id : ℕ) where
+  pub answered-awaited : (locs : Map Location) → NodeReadsAwaited queue reading locs → NodeReadsAwaited (del queue id) (del reading id) locs
+  answered-awaited locs h j k q =
+      let e = del-some queue id j q in
+      let w = h j k (e .1) in
+      (w .0, del-other reading id j (e .0) ∙ w .1, w .2)
+
+  pub answered-queued : ReadsQueued reading queue → ReadsQueued (del reading id) (del queue id)
+  answered-queued h j i = let e = del-in reading id j i in in-del queue id j (e .0) (h j (e .1))
 
 -- QUEUES WITH FEWER REQUESTS
 

@@ -16,5 +16,10 @@ pub mod Demand3
 pub mod EveryStep
 pub mod Starting
 pub mod Demand2
+pub mod LetGo
 pub mod FormattedInit
 pub mod Restart
+pub mod WaitLaws
+pub mod NodeWait
+pub mod TableWait
+pub mod Waits

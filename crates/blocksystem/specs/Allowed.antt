@@ -1,8 +1,10 @@
--- What demand 2 says of a joined call: which of document 01's narrowings may refuse it, and what upstream's BlockSystem allows.
+-- What demand 2 says of a joined call: which narrowings may refuse it, and what upstream's BlockSystem allows.
 use Prim.Native.Nat.{ℕ}
 use mathlib.Core.Bool.{cond, false, true}
 use mathlib.Core.Option.{some}
 use mathlib.Core.Path.{_≡_}
+use Rattle.blockcache.specs.Abstract.{cacheVars, callOp}
+use Rattle.blockcache.specs.LetGo.{LetGo}
 use Rattle.blockcache.specs.Narrowings.{narrowed}
 use Rattle.blockcache.specs.Steps.{Step as MStep, isCrash, isRead, stepOf}
 use Rattle.blockcache.specs.Upstream.{Variables as MVariables}
@@ -12,7 +14,7 @@ use Rattle.blockcache.specs.declared.VersionOp.{VersionOp}
 use Rattle.blockcache.specs.declared.VersionOp.the-variants.{StatesInternalOp}
 use Rattle.blockdisk.specs.Crash.{crashed}
 use Rattle.blockdisk.specs.Narrowings.{crashNarrowed, diskNarrowed}
-use Rattle.blockdisk.specs.Upstream.{Dop, diskVars, dopOf}
+use Rattle.blockdisk.specs.Upstream.{Dop, Next as DNext, diskVars, dopOf}
 use Rattle.blockdisk.specs.declared.DiskState.{DiskState}
 use Rattle.blockdisk.specs.declared.Records.{Records}
 use Rattle.blocksystem.specs.Joined.{diskCall, joined}
@@ -48,3 +50,8 @@ module _ (d n : ℕ) (q : Call) (o : Records) (c : CacheState) (s : DiskState) w
   pub record SystemMoves : Type 0 where
     pub machine : isCrash n ≡ false → MachineTo handedBack
     pub crash : isCrash n ≡ true → Crash (systemVars d c s) handedBack (q .vop)
+
+-- document 02's step 19, which upstream doesn't have: the cache lets go of the read, and upstream's disk answers it
+pub record SystemLetsGo (d : ℕ) (q : Call) (c : CacheState) (s : DiskState) (s' : Variables) : Type 0 where
+  pub machine : LetGo (cacheVars c) (s' .machine) (callOp q) (q .vop)
+  pub disk : DNext (diskVars d s) (s' .disk) (callOp q)

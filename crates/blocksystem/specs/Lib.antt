@@ -7,3 +7,4 @@ pub mod Names
 pub mod Run
 pub mod Start
 pub mod Upstream
+pub mod Waits

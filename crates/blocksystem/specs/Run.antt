@@ -63,7 +63,7 @@ module _ (d : ℕ) where
   unfoldable pub conditions : State → ℕ → Call → Records → ℕ → Bool
   conditions s n q o k = holds k (cacheRows d (s .cache) n q) || holds k (diskSide s n q o) || holds k (startRows d n q (s .disk))
 
-  -- it is answered as document 01 fixes
+  -- it is answered as documents 01 and 02 fix
   pub record StepAnswered (s : State) (n : ℕ) (q : Call) (o : Records) : Type 0 where
     -- 0 exactly where no condition of any number holds
     pub accepted : (asked s n q o .answer ≡ 0) ↔ ((k : ℕ) → conditions s n q o k ≡ false)

@@ -6,7 +6,7 @@ use disklayout::Location;
 use sectortype::Node;
 use sectortype::Nodes;
 
-// What a joined call returns: document 01's number, the node of a read (zeros with every other answer), and cache and disk,
+// What a joined call returns: the number that documents 01 and 02 give, the node of a read (zeros with every other answer), and cache and disk,
 // unchanged where the number is not 0.
 pub struct Outcome {
     pub answer: u64,

@@ -1,8 +1,10 @@
-// What every step asks and hands back: the phase, the number of the first condition that holds, the outcome.
+// What the steps ask and hand back: the phase, the awaited table request, the number of the first condition that holds, the outcome.
 ghost use mathlib.Core.Bool.{cond};
 ghost use mathlib.Core.Path.{_≡_};
 ghost use Rattle.blockcache.specs.Form.{loadingPhase, readyPhase, unreadyPhase};
+ghost use Rattle.blockcache.specs.Rows.{awaitsTable};
 ghost use Rattle.blockcache.specs.Step.{answered};
+use blockcache::Awaited;
 use blockcache::CacheOutcome;
 use blockcache::CacheState;
 use blockcache::Phase;
@@ -35,6 +37,13 @@ pub(crate) fn is_unready(phase: Phase) -> bool
         Phase::Loading => false,
         Phase::Ready => false,
     }
+}
+
+// Whether the awaited table request has this id: in Loading a read, in Ready a write.
+pub(crate) fn awaits_table(a: Awaited, id: u64) -> bool
+    ensures { λ b. ⌜ b ≡ awaitsTable a id ⌝ }
+{
+    a.waiting & (a.id == id)
 }
 
 // The number where the condition holds, else what the later conditions give. A step with many conditions asks them all and puts them in

@@ -14,6 +14,7 @@ use crate::answers::is_ready;
 use crate::answers::is_unready;
 use crate::form::cache_form;
 use crate::form::call_form;
+use crate::letgo::answer_phase;
 use crate::ops::ADVANCE;
 use crate::ops::CLEAN_UP;
 use crate::ops::CRASH;
@@ -34,6 +35,7 @@ use crate::ops::TABLE_READ_RESP;
 use crate::ops::TABLE_WRITE_REQ;
 use crate::ops::TABLE_WRITE_RESP;
 use crate::ops::dop_kind;
+use crate::ops::idle_disk;
 use crate::ops::vop_kind;
 use crate::ops::vop_no_op;
 use blockcache::CacheOutcome;
@@ -73,11 +75,9 @@ fn gate(number: u64, phase: Phase, version: VersionOp, disk: DiskOp) -> u64
         | (v == JOURNAL_INTERNAL)
         | (v == PUSH_SYNC)
         | (v == POP_SYNC);
-    let no_op_disk = (d == NO_DOP)
-        | (d == TABLE_READ_RESP)
-        | (d == NODE_READ_RESP)
-        | (d == TABLE_WRITE_RESP)
-        | (d == NODE_WRITE_RESP);
+    let no_op_disk = idle_disk(disk);
+    let read_resp = (d == NODE_READ_RESP) | (d == TABLE_READ_RESP);
+    let read_phase = answer_phase(phase, disk);
     match number {
         1 => gate_answer(v == INTERNAL, d == NODE_WRITE_REQ, ready),
         2 => gate_answer(v == INTERNAL, d == NODE_WRITE_RESP, ready),
@@ -97,6 +97,7 @@ fn gate(number: u64, phase: Phase, version: VersionOp, disk: DiskOp) -> u64
         16 => gate_answer(v == ADVANCE, d == NO_DOP, ready),
         17 => gate_answer(true, true, ready),
         18 => gate_answer(v == CRASH, true, true),
+        19 => gate_answer(v == INTERNAL, read_resp, read_phase),
         _ => 1,
     }
 }
@@ -147,6 +148,7 @@ impl Cache {
             16 => self.alloc(q),
             17 => self.read_step(q),
             18 => self.crash(q),
+            19 => self.let_go(q),
             _ => answered(self.state, 1),
         }
     }

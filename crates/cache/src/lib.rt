@@ -1,7 +1,8 @@
-// The cache: the step is proved to answer and to leave what `blockcache` defines. One function for each question of document 01.
+// The cache: the step is proved to answer and to leave what `blockcache` defines. One function for each question of documents 01 and 02.
 mod answers;
 mod entry;
 mod form;
+mod letgo;
 mod load;
 mod ops;
 mod page;

@@ -4,6 +4,7 @@ ghost use Rattle.blockcache.specs.Step.{pastGate};
 ghost use Rattle.blockcache.specs.Steps.{crashStep, pageInIndirectionTableReqStep, pageInIndirectionTableRespStep, receiveLocStep};
 use crate::Cache;
 use crate::answers::answered;
+use crate::answers::awaits_table;
 use crate::form::empty_cache;
 use crate::form::loading;
 use crate::ops::dop_brought;
@@ -52,7 +53,7 @@ impl Cache {
         let id = dop_id(d);
         let b = dop_brought(d);
         let a = c.awaited;
-        let awaits = a.waiting & (a.id == id);
+        let awaits = awaits_table(a, id);
         if !awaits {
             return answered(c, 5);
         }

@@ -1,6 +1,6 @@
 // What the steps ask of a version operation and of a disk operation: its kind, by name, and what it carries.
 ghost use mathlib.Core.Path.{_≡_};
-ghost use Rattle.blockcache.specs.Ops.{vopKind, vopLoc, vopNoOp, dopKind, dopId, dopLoc, dopBrought};
+ghost use Rattle.blockcache.specs.Ops.{vopKind, vopLoc, vopNoOp, dopKind, dopId, dopLoc, dopBrought, isIdleD};
 use blockcache::VersionOp;
 use blockdisk::Brought;
 use blockdisk::DiskOp;
@@ -165,4 +165,16 @@ pub(crate) fn dop_brought(op: DiskOp) -> Brought
         DiskOp::RespWriteNodeOp(_) => Brought::Nothing,
         DiskOp::NoDiskOp => Brought::Nothing,
     }
+}
+
+// What NoOp takes: no disk operation, or an answer.
+pub(crate) fn idle_disk(op: DiskOp) -> bool
+    ensures { λ b. ⌜ b ≡ isIdleD op ⌝ }
+{
+    let d = dop_kind(op);
+    (d == NO_DOP)
+        | (d == TABLE_READ_RESP)
+        | (d == NODE_READ_RESP)
+        | (d == TABLE_WRITE_RESP)
+        | (d == NODE_WRITE_RESP)
 }

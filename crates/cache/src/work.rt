@@ -8,8 +8,10 @@ ghost use Rattle.blockcache.specs.Step.{answered, pastGate};
 ghost use Rattle.blockcache.specs.Steps.{allocStep, cleanUpStep, dirtyStep, evictStep, freezeStep, noOpStep, readStep, unallocStep};
 use crate::Cache;
 use crate::answers::answered;
+use crate::answers::awaits_table;
 use crate::answers::first_of;
 use crate::answers::is_ready;
+use crate::letgo::awaits_read;
 use crate::ops::NODE_WRITE_RESP;
 use crate::ops::TABLE_WRITE_RESP;
 use crate::ops::dop_id;
@@ -158,7 +160,7 @@ impl Cache {
         answered(c, 0)
     }
 
-    // NoOp, in any phase: a write answer that the cache awaits is not for it.
+    // NoOp, in any phase: an answer that the cache awaits is not for it.
     pub(crate) fn no_op(self, q: Call) -> CacheOutcome
         ensures { λ o. ⌜ o ≡ pastGate (self .device) (self .state) q noOpStep ⌝ }
     {
@@ -172,10 +174,15 @@ impl Cache {
         let o = c.outstanding;
         let w = o.writes;
         let known = queue::has(w, id);
-        let table = (k == TABLE_WRITE_RESP) & (a.waiting & (a.id == id));
+        let waiting = awaits_table(a, id);
+        let table = (k == TABLE_WRITE_RESP) & waiting;
         let awaited = ready & (table | ((k == NODE_WRITE_RESP) & known));
         if awaited {
             return answered(c, 5);
+        }
+        let read = awaits_read(c, d);
+        if read {
+            return answered(c, 22);
         }
         answered(c, 0)
     }

@@ -8,6 +8,7 @@ ghost use Rattle.blockcache.specs.Step.{pastGate};
 ghost use Rattle.blockcache.specs.Steps.{writeBackIndirectionTableReqStep, writeBackIndirectionTableRespStep, writeBackNodeReqStep, writeBackNodeRespStep};
 use crate::Cache;
 use crate::answers::answered;
+use crate::answers::awaits_table;
 use crate::answers::first_of;
 use crate::ops::dop_id;
 use crate::ops::dop_loc;
@@ -186,7 +187,7 @@ impl Cache {
         let ps = c.places;
         let f = ps.frozen;
         let same = layout::same_loc(f, vloc);
-        let awaits = a.waiting & (a.id == id);
+        let awaits = awaits_table(a, id);
         if !awaits {
             return answered(c, 5);
         }

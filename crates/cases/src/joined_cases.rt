@@ -1,5 +1,5 @@
 // The joined call: the lowest number of cache and disk, and where either refuses neither moves. After each case stands how many of
-// the two have changed: none after a refusal, or after step 14.
+// the two have changed: none after a refusal, or after step 14 without an answer.
 use crate::changed::changed;
 use blockcache::Awaited;
 use blockcache::CacheState;
@@ -52,13 +52,13 @@ fn both(name: &[u8], number: u64, q: Call, offered: Records, c: CacheState, s: D
     pair(b"changed_by", name, n);
 }
 
-fn joined(name: &[u8], number: u64, q: Call, c: CacheState, s: DiskState) {
+pub(crate) fn joined(name: &[u8], number: u64, q: Call, c: CacheState, s: DiskState) {
     let offered = disk::empty_records();
     both(name, number, q, offered, c, s);
 }
 
 // A disk that stores nothing and has nothing outstanding.
-fn empty() -> DiskState {
+pub(crate) fn empty() -> DiskState {
     let none = disk::empty_records();
     storing(none)
 }
@@ -139,7 +139,7 @@ fn step_2() {
 }
 
 // n requests at table area 2.
-fn table_requests(n: u64) -> Requests {
+pub(crate) fn table_requests(n: u64) -> Requests {
     let loc = at(AREA2, 4096);
     queue_of(n, loc)
 }
@@ -168,7 +168,7 @@ fn step_3() {
 }
 
 // A table write to area 2 under id 1 is awaited.
-fn awaiting_table() -> CacheState {
+pub(crate) fn awaiting_table() -> CacheState {
     let c = ready();
     let t = two_entries();
     let mut next = with_frozen(c, true, t);
@@ -185,23 +185,28 @@ fn awaiting_table() -> CacheState {
     next
 }
 
-fn step_4() {
-    let c = awaiting_table();
-    let p = table_requests(1);
-    let s = queued(3, p);
-    let none = empty();
+// Its answer, as step 4 takes it.
+pub(crate) fn table_written() -> Call {
     let loc = at(AREA2, 4096);
     let node = sector::zero_node();
     let table = sector::empty_table();
     let vop = VersionOp::SendFrozenLocOp(loc);
     let dop = DiskOp::RespWriteIndirectionTableOp(1);
-    let q = Call {
+    Call {
         reference: 0,
         vop,
         dop,
         node,
         table,
-    };
+    }
+}
+
+fn step_4() {
+    let c = awaiting_table();
+    let p = table_requests(1);
+    let s = queued(3, p);
+    let none = empty();
+    let q = table_written();
     joined(b"step_4_accepted", 4, q, c, s);
     joined(b"step_4_with_15_of_the_disk_alone", 4, q, c, none);
 }
@@ -241,25 +246,39 @@ fn step_6() {
     joined(b"step_6_with_18_of_the_disk_alone", 6, x, c, full);
 }
 
+// The cache awaits, under id 1, the node of this reference as well.
+pub(crate) fn awaiting_node(c: CacheState, reference: u8) -> CacheState {
+    let nowhere = sector::zero_loc();
+    let reads = one(1, reference, nowhere);
+    with_reads(c, reads)
+}
+
+// A disk that stores nothing, with a node read of block 1 queued under id 1.
+pub(crate) fn node_read() -> DiskState {
+    let loc = at(BLOCK1, 4096);
+    let p = queue_of(1, loc);
+    queued(2, p)
+}
+
+pub(crate) fn node_answer(b: Brought) -> Call {
+    let node = leaf(9);
+    let dop = DiskOp::RespReadNodeOp(1, b);
+    internal(0, dop, node)
+}
+
 // Step 7 under id 1: the disk stores nothing at the place asked for.
 fn step_7() {
     let c = ready();
-    let nowhere = sector::zero_loc();
-    let loc = at(BLOCK1, 4096);
-    let r = one(1, 1, nowhere);
-    let p = queue_of(1, loc);
-    let awaiting = with_reads(c, r);
-    let s = queued(2, p);
+    let awaiting = awaiting_node(c, 1);
+    let s = node_read();
     let none = empty();
-    let node = leaf(9);
-    let dop = DiskOp::RespReadNodeOp(1, Brought::Something);
-    let q = internal(0, dop, node);
+    let q = node_answer(Brought::Something);
     joined(b"step_7_with_17_of_the_disk_alone", 7, q, awaiting, s);
     joined(b"step_7_with_15_of_the_disk_alone", 7, q, awaiting, none);
 }
 
 // A cache that is loading this place.
-fn loading(loc: Location) -> CacheState {
+pub(crate) fn loading(loc: Location) -> CacheState {
     let unready = cache::empty_cache();
     let phase = Phase::Loading;
     let mut c = in_phase(unready, phase);
@@ -315,7 +334,7 @@ fn crash() {
     both(b"crash_with_19_of_the_disk_alone", 18, q, none, c, s);
 }
 
-// 1 of one of the two alone, and step numbers outside 1 to 18.
+// 1 of one of the two alone, and step numbers outside 1 to 19; step 19 without an answer gives 3.
 fn forms() {
     let c = ready();
     let none = empty();
@@ -331,6 +350,7 @@ fn forms() {
     joined(b"step_14_with_1_of_the_cache_alone", 14, q, wrong, none);
     joined(b"step_0", 0, q, c, none);
     joined(b"step_19", 19, q, c, none);
+    joined(b"step_21", 21, q, c, none);
 }
 
 pub(crate) fn run() {

@@ -1,13 +1,14 @@
 // What no list of joined calls leads to, on states made by hand. Prints a line for each: `case=NAME answer=N` for a call of cache and
-// disk, where every N is document 01's, and `case=NAME lost=X added=Y altered=Z` for the counts of demand 3, which are 0 after every
-// list. Then nodes are compared, carried ones among them: `case=NAME equal=1` where the two are equal, else `equal=0`. (`forms` has the
-// written forms that are broken.)
+// disk, where every N is document 01's or 02's, and `case=NAME lost=X added=Y altered=Z` for the counts of demand 3, which are 0 after every
+// list. Then nodes are compared, carried ones among them: `case=NAME equal=1` where the two are equal, else `equal=0`; and reads are
+// answered that cache and disk have, or only one of the two. (`forms` has the written forms that are broken.)
 mod audit_cases;
 mod cache_cases;
 mod changed;
 mod crash_cases;
 mod disk_cases;
 mod joined_cases;
+mod letgo_cases;
 mod node_cases;
 
 fn main() {
@@ -17,4 +18,5 @@ fn main() {
     joined_cases::run();
     audit_cases::run();
     node_cases::run();
+    letgo_cases::run();
 }

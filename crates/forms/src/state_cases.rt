@@ -274,7 +274,7 @@ fn queue_places(name: &[u8], kind: u64, addr: u64) {
     queue_place(name, b"with_a_reference", kind, 1, good);
 }
 
-// A device above 2, a step outside 1 to 18, a reference above 63.
+// A device above 2, a step outside 1 to 19, a reference above 63. Step 19 without an answer gives 3.
 fn devices(name: &[u8], device: u64) {
     let c = ready();
     let q = no_op_call();
@@ -298,6 +298,7 @@ fn numbers() {
     let a = cache_answer(c, 0, q);
     let b = cache_answer(c, 19, q);
     let d = cache_answer(c, 18446744073709551615, q);
+    let g = cache_answer(c, 21, q);
     let dop = DiskOp::NoDiskOp;
     let node = sector::zero_node();
     let last = internal(63, dop, node);
@@ -306,6 +307,7 @@ fn numbers() {
     let f = cache_answer(c, 14, above);
     line(b"cache_step_0", a);
     line(b"cache_step_19", b);
+    line(b"cache_step_21", g);
     line(b"cache_step_18446744073709551615", d);
     line(b"cache_call_with_reference_63", e);
     line(b"cache_call_with_reference_64", f);

@@ -4,6 +4,7 @@ use mathlib.Core.Bool.{Bool, _&&_, false, true}
 use mathlib.Core.Logic.{_↔_}
 use mathlib.Core.Option.{none, some}
 use mathlib.Core.Path.{_≡_, refl}
+use native.Mathlib.Omega.{arith}
 use borrow.Author.Tests.{lt-leb, ltb-true}
 use lib.Dec.{eqb, ltb}
 use lib.ListN.{length}
@@ -89,3 +90,12 @@ module _ (q : Requests) (form : requestsForm q ≡ true) where
   unfolding requestsForm requestsMap removeOf hasOf findOf
   remove-map id there =
       simp (lt-leb _ _ (found-below id there)) (map-removed idOf zeroRequest 16 anyRequest blank (q .count) (q .at) id there refl form)
+
+  -- a queue of which a request is taken out has room
+  pub remove-room : (id : ℕ) → hasOf q id ≡ true → removeOf q id .count < 16
+  unfolding removeOf
+  remove-room id there =
+      let b = found-below id there in
+      let u = found-used q id b in
+      let m = form-count in
+      simp (lt-leb _ _ b) (omega arith)

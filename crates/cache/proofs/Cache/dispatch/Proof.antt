@@ -59,6 +59,9 @@ read-step-requires c κs = search needs
 crash-requires : tie.Need-crash-requires
 crash-requires c κs = search needs
 
+let-go-requires : tie.Need-let-go-requires
+let-go-requires c κs = search needs
+
 answered-requires : tie.Need-answered-requires
 answered-requires c κs = search needs
 
@@ -135,8 +138,12 @@ unfolding stepOf steps
 returns-18 c = simp (c .before .match .keys18) (c .crash .ensures)
 
 returns-19 : tie.Need-returns-19
+unfolding stepOf steps
+returns-19 c = simp (c .before .match .keys19) (c .let-go .ensures)
+
+returns-20 : tie.Need-returns-20
 unfolding steps
-returns-19 c = simp (no-step _ (c .before .match .rest)) (c .answered .ensures)
+returns-20 c = simp (no-step _ (c .before .match .rest)) (c .answered .ensures)
 
 pub dispatch-spec : {M : Type 1} → statement M
 dispatch-spec =
@@ -160,6 +167,7 @@ dispatch-spec =
     alloc-requires
     read-step-requires
     crash-requires
+    let-go-requires
     answered-requires
     returns
     returns-2
@@ -179,4 +187,5 @@ dispatch-spec =
     returns-16
     returns-17
     returns-18
-    returns-19)
+    returns-19
+    returns-20)

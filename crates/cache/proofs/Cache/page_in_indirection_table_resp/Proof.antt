@@ -11,6 +11,9 @@ dop-id-requires c κs = search needs
 dop-brought-requires : tie.Need-dop-brought-requires
 dop-brought-requires c κs = search needs
 
+awaits-table-requires : tie.Need-awaits-table-requires
+awaits-table-requires c κs = search needs
+
 answered-requires : tie.Need-answered-requires
 answered-requires c κs = search needs
 
@@ -18,9 +21,10 @@ returns : tie.Need-returns
 unfolding pastGate answer
 returns c =
     let c1 = c .before in
-    let c2 = c1 .before .before .before .before in
+    let ca = c1 .before in
+    let c2 = ca .before .before in
     let c3 = c2 .before in
-    let not-awaited = rw (c3 .dop-id .ensures) at (c1 .if1 .taken) in
+    let not-awaited = rw (ca .awaits-table .ensures, c3 .dop-id .ensures) at (c1 .if1 .taken) in
     simp (not-awaited, c .answered .ensures, c2 .dop-brought .ensures, c3 .dop-id .ensures)
 
 table-rejected-requires : tie.Need-table-rejected-requires
@@ -35,10 +39,11 @@ returns-2 c =
     let c1 = c .before in
     let c2 = c1 .before in
     let c3 = c2 .before .before in
-    let c4 = c3 .before .before .before .before in
+    let ca = c3 .before in
+    let c4 = ca .before .before in
     let c5 = c4 .before in
     let rejected = rw (c2 .table-rejected .ensures, c4 .dop-brought .ensures) at (c1 .if2 .taken) in
-    let awaited = rw (c5 .dop-id .ensures) at (c3 .if1 .left) in
+    let awaited = rw (ca .awaits-table .ensures, c5 .dop-id .ensures) at (c3 .if1 .left) in
     simp (rejected, awaited, c .answered2 .ensures, c2 .table-rejected .ensures, c4 .dop-brought .ensures, c5 .dop-id .ensures)
 
 empty-table-requires : tie.Need-empty-table-requires
@@ -54,10 +59,11 @@ returns-3 c =
     let c2 = c1 .before in
     let c3 = c2 .before in
     let c4 = c3 .before .before in
-    let c5 = c4 .before .before .before .before in
+    let ca = c4 .before in
+    let c5 = ca .before .before in
     let c6 = c5 .before in
     let fits = rw (c3 .table-rejected .ensures, c5 .dop-brought .ensures) at (c2 .if2 .left) in
-    let awaited = rw (c6 .dop-id .ensures) at (c4 .if1 .left) in
+    let awaited = rw (ca .awaits-table .ensures, c6 .dop-id .ensures) at (c4 .if1 .left) in
     simp (fits, awaited, c .answered3 .ensures, c1 .empty-table .ensures, c3 .table-rejected .ensures, c5 .dop-brought .ensures, c6 .dop-id .ensures)
 
 pub page-in-indirection-table-resp-spec : {M : Type 1} → statement M
@@ -66,6 +72,7 @@ page-in-indirection-table-resp-spec =
     (tie.spec
     dop-id-requires
     dop-brought-requires
+    awaits-table-requires
     answered-requires
     returns
     table-rejected-requires

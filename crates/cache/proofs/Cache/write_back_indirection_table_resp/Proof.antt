@@ -14,6 +14,9 @@ vop-loc-requires c κs = search needs
 same-loc-requires : tie.Need-same-loc-requires
 same-loc-requires c κs = search needs
 
+awaits-table-requires : tie.Need-awaits-table-requires
+awaits-table-requires c κs = search needs
+
 answered-requires : tie.Need-answered-requires
 answered-requires c κs = search needs
 
@@ -21,10 +24,11 @@ returns : tie.Need-returns
 unfolding pastGate answer
 returns c =
     let c1 = c .before in
-    let c2 = c1 .before .before .before in
+    let ca = c1 .before in
+    let c2 = ca .before in
     let c3 = c2 .before .before .before .before in
     let c4 = c3 .before in
-    let not-awaited = rw (c4 .dop-id .ensures) at (c1 .if1 .taken) in
+    let not-awaited = rw (ca .awaits-table .ensures, c4 .dop-id .ensures) at (c1 .if1 .taken) in
     simp (not-awaited, c .answered .ensures, c2 .same-loc .ensures, c3 .vop-loc .ensures, c4 .dop-id .ensures)
 
 answered-requires-2 : tie.Need-answered-requires-2
@@ -35,11 +39,12 @@ unfolding pastGate answer
 returns-2 c =
     let c1 = c .before in
     let c2 = c1 .before .before in
-    let c3 = c2 .before .before .before in
+    let ca = c2 .before in
+    let c3 = ca .before in
     let c4 = c3 .before .before .before .before in
     let c5 = c4 .before in
     let elsewhere = rw (c3 .same-loc .ensures, c4 .vop-loc .ensures) at (c1 .if2 .taken) in
-    let awaited = rw (c5 .dop-id .ensures) at (c2 .if1 .left) in
+    let awaited = rw (ca .awaits-table .ensures, c5 .dop-id .ensures) at (c2 .if1 .left) in
     simp (elsewhere, awaited, c .answered2 .ensures, c3 .same-loc .ensures, c4 .vop-loc .ensures, c5 .dop-id .ensures)
 
 answered-requires-3 : tie.Need-answered-requires-3
@@ -50,11 +55,12 @@ unfolding pastGate answer
 returns-3 c =
     let c1 = c .before in
     let c2 = c1 .before .before in
-    let c3 = c2 .before .before .before in
+    let ca = c2 .before in
+    let c3 = ca .before in
     let c4 = c3 .before .before .before .before in
     let c5 = c4 .before in
     let there = rw (c3 .same-loc .ensures, c4 .vop-loc .ensures) at (c1 .if2 .left) in
-    let awaited = rw (c5 .dop-id .ensures) at (c2 .if1 .left) in
+    let awaited = rw (ca .awaits-table .ensures, c5 .dop-id .ensures) at (c2 .if1 .left) in
     simp (there, awaited, c .answered3 .ensures, c3 .same-loc .ensures, c4 .vop-loc .ensures, c5 .dop-id .ensures)
 
 pub write-back-indirection-table-resp-spec : {M : Type 1} → statement M
@@ -64,6 +70,7 @@ write-back-indirection-table-resp-spec =
     dop-id-requires
     vop-loc-requires
     same-loc-requires
+    awaits-table-requires
     answered-requires
     returns
     answered-requires-2

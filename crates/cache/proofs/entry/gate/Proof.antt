@@ -24,6 +24,12 @@ is-loading-requires c κs = search needs
 is-unready-requires : tie.Need-is-unready-requires
 is-unready-requires c κs = search needs
 
+idle-disk-requires : tie.Need-idle-disk-requires
+idle-disk-requires c κs = search needs
+
+answer-phase-requires : tie.Need-answer-phase-requires
+answer-phase-requires c κs = search needs
+
 gate-answer-requires : tie.Need-gate-answer-requires
 gate-answer-requires c κs = search needs
 
@@ -78,14 +84,17 @@ gate-answer-requires-17 c κs = search needs
 gate-answer-requires-18 : tie.Need-gate-answer-requires-18
 gate-answer-requires-18 c κs = search needs
 
+gate-answer-requires-19 : tie.Need-gate-answer-requires-19
+gate-answer-requires-19 c κs = search needs
+
 returns : tie.Need-returns
 unfolding gated stepOf steps
 returns c = simp (
   c .before .match .keys1,
   c .gate-answer .ensures,
-  c .before .before .before .before .is-ready .ensures,
-  c .before .before .before .before .before .before .dop-kind .ensures,
-  c .before .before .before .before .before .before .before .vop-kind .ensures,
+  c .before .before .before .before .before .before .is-ready .ensures,
+  c .before .before .before .before .before .before .before .before .dop-kind .ensures,
+  c .before .before .before .before .before .before .before .before .before .vop-kind .ensures,
 )
 
 returns-2 : tie.Need-returns-2
@@ -93,9 +102,9 @@ unfolding gated stepOf steps
 returns-2 c = simp (
   c .before .match .keys2,
   c .gate-answer2 .ensures,
-  c .before .before .before .before .is-ready .ensures,
-  c .before .before .before .before .before .before .dop-kind .ensures,
-  c .before .before .before .before .before .before .before .vop-kind .ensures,
+  c .before .before .before .before .before .before .is-ready .ensures,
+  c .before .before .before .before .before .before .before .before .dop-kind .ensures,
+  c .before .before .before .before .before .before .before .before .before .vop-kind .ensures,
 )
 
 returns-3 : tie.Need-returns-3
@@ -103,9 +112,9 @@ unfolding gated stepOf steps
 returns-3 c = simp (
   c .before .match .keys3,
   c .gate-answer3 .ensures,
-  c .before .before .before .before .is-ready .ensures,
-  c .before .before .before .before .before .before .dop-kind .ensures,
-  c .before .before .before .before .before .before .before .vop-kind .ensures,
+  c .before .before .before .before .before .before .is-ready .ensures,
+  c .before .before .before .before .before .before .before .before .dop-kind .ensures,
+  c .before .before .before .before .before .before .before .before .before .vop-kind .ensures,
 )
 
 returns-4 : tie.Need-returns-4
@@ -113,9 +122,9 @@ unfolding gated stepOf steps
 returns-4 c = simp (
   c .before .match .keys4,
   c .gate-answer4 .ensures,
-  c .before .before .before .before .is-ready .ensures,
-  c .before .before .before .before .before .before .dop-kind .ensures,
-  c .before .before .before .before .before .before .before .vop-kind .ensures,
+  c .before .before .before .before .before .before .is-ready .ensures,
+  c .before .before .before .before .before .before .before .before .dop-kind .ensures,
+  c .before .before .before .before .before .before .before .before .before .vop-kind .ensures,
 )
 
 returns-5 : tie.Need-returns-5
@@ -123,9 +132,9 @@ unfolding gated stepOf steps
 returns-5 c = simp (
   c .before .match .keys5,
   c .gate-answer5 .ensures,
-  c .before .before .before .before .is-ready .ensures,
-  c .before .before .before .before .before .vop-no-op .ensures,
-  c .before .before .before .before .before .before .dop-kind .ensures,
+  c .before .before .before .before .before .before .is-ready .ensures,
+  c .before .before .before .before .before .before .before .vop-no-op .ensures,
+  c .before .before .before .before .before .before .before .before .dop-kind .ensures,
 )
 
 returns-6 : tie.Need-returns-6
@@ -133,9 +142,9 @@ unfolding gated stepOf steps
 returns-6 c = simp (
   c .before .match .keys6,
   c .gate-answer6 .ensures,
-  c .before .before .before .before .is-ready .ensures,
-  c .before .before .before .before .before .before .dop-kind .ensures,
-  c .before .before .before .before .before .before .before .vop-kind .ensures,
+  c .before .before .before .before .before .before .is-ready .ensures,
+  c .before .before .before .before .before .before .before .before .dop-kind .ensures,
+  c .before .before .before .before .before .before .before .before .before .vop-kind .ensures,
 )
 
 returns-7 : tie.Need-returns-7
@@ -143,9 +152,9 @@ unfolding gated stepOf steps
 returns-7 c = simp (
   c .before .match .keys7,
   c .gate-answer7 .ensures,
-  c .before .before .before .before .is-ready .ensures,
-  c .before .before .before .before .before .before .dop-kind .ensures,
-  c .before .before .before .before .before .before .before .vop-kind .ensures,
+  c .before .before .before .before .before .before .is-ready .ensures,
+  c .before .before .before .before .before .before .before .before .dop-kind .ensures,
+  c .before .before .before .before .before .before .before .before .before .vop-kind .ensures,
 )
 
 returns-8 : tie.Need-returns-8
@@ -153,9 +162,9 @@ unfolding gated stepOf steps
 returns-8 c = simp (
   c .before .match .keys8,
   c .gate-answer8 .ensures,
-  c .before .before .before .is-loading .ensures,
-  c .before .before .before .before .before .before .dop-kind .ensures,
-  c .before .before .before .before .before .before .before .vop-kind .ensures,
+  c .before .before .before .before .before .is-loading .ensures,
+  c .before .before .before .before .before .before .before .before .dop-kind .ensures,
+  c .before .before .before .before .before .before .before .before .before .vop-kind .ensures,
 )
 
 returns-9 : tie.Need-returns-9
@@ -163,9 +172,9 @@ unfolding gated stepOf steps
 returns-9 c = simp (
   c .before .match .keys9,
   c .gate-answer9 .ensures,
-  c .before .before .before .is-loading .ensures,
-  c .before .before .before .before .before .before .dop-kind .ensures,
-  c .before .before .before .before .before .before .before .vop-kind .ensures,
+  c .before .before .before .before .before .is-loading .ensures,
+  c .before .before .before .before .before .before .before .before .dop-kind .ensures,
+  c .before .before .before .before .before .before .before .before .before .vop-kind .ensures,
 )
 
 returns-10 : tie.Need-returns-10
@@ -173,9 +182,9 @@ unfolding gated stepOf steps
 returns-10 c = simp (
   c .before .match .keys10,
   c .gate-answer10 .ensures,
-  c .before .before .is-unready .ensures,
-  c .before .before .before .before .before .before .dop-kind .ensures,
-  c .before .before .before .before .before .before .before .vop-kind .ensures,
+  c .before .before .before .before .is-unready .ensures,
+  c .before .before .before .before .before .before .before .before .dop-kind .ensures,
+  c .before .before .before .before .before .before .before .before .before .vop-kind .ensures,
 )
 
 returns-11 : tie.Need-returns-11
@@ -183,9 +192,9 @@ unfolding gated stepOf steps
 returns-11 c = simp (
   c .before .match .keys11,
   c .gate-answer11 .ensures,
-  c .before .before .before .before .is-ready .ensures,
-  c .before .before .before .before .before .before .dop-kind .ensures,
-  c .before .before .before .before .before .before .before .vop-kind .ensures,
+  c .before .before .before .before .before .before .is-ready .ensures,
+  c .before .before .before .before .before .before .before .before .dop-kind .ensures,
+  c .before .before .before .before .before .before .before .before .before .vop-kind .ensures,
 )
 
 returns-12 : tie.Need-returns-12
@@ -193,9 +202,9 @@ unfolding gated stepOf steps
 returns-12 c = simp (
   c .before .match .keys12,
   c .gate-answer12 .ensures,
-  c .before .before .before .before .is-ready .ensures,
-  c .before .before .before .before .before .before .dop-kind .ensures,
-  c .before .before .before .before .before .before .before .vop-kind .ensures,
+  c .before .before .before .before .before .before .is-ready .ensures,
+  c .before .before .before .before .before .before .before .before .dop-kind .ensures,
+  c .before .before .before .before .before .before .before .before .before .vop-kind .ensures,
 )
 
 returns-13 : tie.Need-returns-13
@@ -203,9 +212,9 @@ unfolding gated stepOf steps
 returns-13 c = simp (
   c .before .match .keys13,
   c .gate-answer13 .ensures,
-  c .before .before .before .before .is-ready .ensures,
-  c .before .before .before .before .before .before .dop-kind .ensures,
-  c .before .before .before .before .before .before .before .vop-kind .ensures,
+  c .before .before .before .before .before .before .is-ready .ensures,
+  c .before .before .before .before .before .before .before .before .dop-kind .ensures,
+  c .before .before .before .before .before .before .before .before .before .vop-kind .ensures,
 )
 
 returns-14 : tie.Need-returns-14
@@ -213,8 +222,8 @@ unfolding gated stepOf steps
 returns-14 c = simp (
   c .before .match .keys14,
   c .gate-answer14 .ensures,
-  c .before .before .before .before .before .before .dop-kind .ensures,
-  c .before .before .before .before .before .before .before .vop-kind .ensures,
+  c .before .before .before .idle-disk .ensures,
+  c .before .before .before .before .before .before .before .before .before .vop-kind .ensures,
 )
 
 returns-15 : tie.Need-returns-15
@@ -222,9 +231,9 @@ unfolding gated stepOf steps
 returns-15 c = simp (
   c .before .match .keys15,
   c .gate-answer15 .ensures,
-  c .before .before .before .before .is-ready .ensures,
-  c .before .before .before .before .before .before .dop-kind .ensures,
-  c .before .before .before .before .before .before .before .vop-kind .ensures,
+  c .before .before .before .before .before .before .is-ready .ensures,
+  c .before .before .before .before .before .before .before .before .dop-kind .ensures,
+  c .before .before .before .before .before .before .before .before .before .vop-kind .ensures,
 )
 
 returns-16 : tie.Need-returns-16
@@ -232,9 +241,9 @@ unfolding gated stepOf steps
 returns-16 c = simp (
   c .before .match .keys16,
   c .gate-answer16 .ensures,
-  c .before .before .before .before .is-ready .ensures,
-  c .before .before .before .before .before .before .dop-kind .ensures,
-  c .before .before .before .before .before .before .before .vop-kind .ensures,
+  c .before .before .before .before .before .before .is-ready .ensures,
+  c .before .before .before .before .before .before .before .before .dop-kind .ensures,
+  c .before .before .before .before .before .before .before .before .before .vop-kind .ensures,
 )
 
 returns-17 : tie.Need-returns-17
@@ -242,7 +251,7 @@ unfolding gated stepOf steps
 returns-17 c = simp (
   c .before .match .keys17,
   c .gate-answer17 .ensures,
-  c .before .before .before .before .is-ready .ensures,
+  c .before .before .before .before .before .before .is-ready .ensures,
 )
 
 returns-18 : tie.Need-returns-18
@@ -250,12 +259,22 @@ unfolding gated stepOf steps
 returns-18 c = simp (
   c .before .match .keys18,
   c .gate-answer18 .ensures,
-  c .before .before .before .before .before .before .before .vop-kind .ensures,
+  c .before .before .before .before .before .before .before .before .before .vop-kind .ensures,
 )
 
 returns-19 : tie.Need-returns-19
+unfolding gated stepOf steps
+returns-19 c = simp (
+  c .before .match .keys19,
+  c .gate-answer19 .ensures,
+  c .before .before .answer-phase .ensures,
+  c .before .before .before .before .before .before .before .before .dop-kind .ensures,
+  c .before .before .before .before .before .before .before .before .before .vop-kind .ensures,
+)
+
+returns-20 : tie.Need-returns-20
 unfolding gated steps
-returns-19 c = simp (no-step _ (c .match .rest))
+returns-20 c = simp (no-step _ (c .match .rest))
 
 pub gate-spec : {M : Type 1} → statement M
 gate-spec =
@@ -267,6 +286,8 @@ gate-spec =
     is-ready-requires
     is-loading-requires
     is-unready-requires
+    idle-disk-requires
+    answer-phase-requires
     gate-answer-requires
     gate-answer-requires-2
     gate-answer-requires-3
@@ -285,6 +306,7 @@ gate-spec =
     gate-answer-requires-16
     gate-answer-requires-17
     gate-answer-requires-18
+    gate-answer-requires-19
     returns
     returns-2
     returns-3
@@ -303,4 +325,5 @@ gate-spec =
     returns-16
     returns-17
     returns-18
-    returns-19)
+    returns-19
+    returns-20)
