@@ -9,8 +9,8 @@ use Rattle.base.proofs.Tests.{never}
 use Rattle.base.specs.Maps.{Map, del, empty, put}
 use Rattle.blockcache.proofs.InvLaws.{ready-ext}
 use Rattle.blockcache.specs.Form.{idle}
-use Rattle.blockcache.specs.Upstream.{AllLocationsForDifferentRefsDontOverlap, CleanUp, OutstandingWrite, PageInIndirectionTableResp, PageInNodeReq, PageInNodeResp, Ready, WFCompleteIndirectionTable}
-use Rattle.blockcache.specs.Upstream.{setCache, setLocs, setReads, setTables}
+use Rattle.blockcache.specs.Upstream.{AllLocationsForDifferentRefsDontOverlap, CleanUp, OutstandingWrite, PageInIndirectionTableResp, PageInNodeReq, PageInNodeResp}
+use Rattle.blockcache.specs.Upstream.{Ready, WFCompleteIndirectionTable, setCache, setLocs, setReads, setTables}
 use Rattle.blockcache.specs.UpstreamInv.{CacheConsistentWithSuccessors, InvFrozen, InvOutstanding, InvReady, OutstandingReadRefsUnique}
 use Rattle.disklayout.specs.Device.{deviceOf}
 use Rattle.disklayout.specs.Layout.{ValidIndirectionTableLocation}

@@ -1,18 +1,18 @@
 -- Step 19 over any device, cache and call, in demand 2's manner; and what NoOp leaves to it. Assumes nothing.
 use Prim.Native.Nat.{_<_, ℕ}
-use mathlib.Core.Bool.{and-false, false, or-false, true}
+use mathlib.Core.Bool.{_||_, and-false, false, or-false, true}
 use mathlib.Core.Logic.{_↔_, inl, inr, ⊎-elim}
 use mathlib.Core.Option.{none, some}
 use mathlib.Core.Path.{_∙_, _≡_, refl, subst, sym}
 use native.Mathlib.Omega.{arith}
 use borrow.Author.Tests.{eqb-true}
 use Rattle.base.proofs.Refusals.{answer-holds, answer-lowest}
-use Rattle.base.proofs.Tests.{clash, not-iff, or-iff, split}
+use Rattle.base.proofs.Tests.{clash, not-iff, or-iff, or-inl, or-inr, split}
 use Rattle.base.specs.Maps.{del}
 use Rattle.base.specs.Refusals.{answer, holds}
 use Rattle.blockcache.proofs.Bridge.{awaits-iff}
 use Rattle.blockcache.proofs.Demand2.{store-accepted, store-allowed}
-use Rattle.blockcache.proofs.ReadAnswers.{awaits-read-is}
+use Rattle.blockcache.proofs.ReadAnswers.{answer-phase-iff, awaits-read-is}
 use Rattle.blockcache.proofs.Numbers.{number-decides, rows-ascending}
 use Rattle.blockcache.proofs.OpKinds.{idle-vop-iff, on-loading-iff, on-ready-iff, resp-read-node-iff, resp-read-table-iff}
 use Rattle.blockcache.proofs.Waiting.{reads-has}
@@ -21,8 +21,8 @@ use Rattle.blockcache.specs.Form.{isReady}
 use Rattle.blockcache.specs.LetGo.{AwaitsNodeRead, AwaitsRead, AwaitsTableRead, LetGo}
 use Rattle.blockcache.specs.Narrowings.{narrowed}
 use Rattle.blockcache.specs.NextStep.{IdleVop}
-use Rattle.blockcache.specs.Ops.{dopId, dopKind, nodeReadResp, tableReadResp}
-use Rattle.blockcache.specs.Rows.{awaitsRead, takes}
+use Rattle.blockcache.specs.Ops.{dopId, dopKind, internal, isD, isV, nodeReadResp, tableReadResp}
+use Rattle.blockcache.specs.Rows.{answerPhase, awaitsRead, takes}
 use Rattle.blockcache.specs.Step.{cacheNext, cacheRows, outsideLimits}
 use Rattle.blockcache.specs.Steps.{letGoStep, noOpStep, stepOf, steps}
 use Rattle.blockcache.specs.Upstream.{In, Variables, loadingIndirectionTable, ready, setReads}
@@ -99,6 +99,28 @@ module _ (d : ℕ) (c : CacheState) (q : Call) where
               w,
         )),
       )
+
+  -- what it is refused with, where 1 doesn't apply: V first, then D in every phase, then the phase of a read answer, then the wait
+  module _ (m : outsideLimits d c 19 q ≡ false) where
+    pub let-go-2 : isV internal (q .vop) ≡ false → answer (cacheRows d c 19 q) ≡ 2
+    unfolding stepOf steps answer
+    let-go-2 v = rw (m, v)
+
+    module _ (v : q .vop ≡ StatesInternalOp) where
+      pub let-go-3 : isD nodeReadResp (q .dop) ≡ false → isD tableReadResp (q .dop) ≡ false → answer (cacheRows d c 19 q) ≡ 3
+      unfolding stepOf steps answer
+      let-go-3 n t = rw (m, v, n, t)
+
+      pub let-go-4 : (isD nodeReadResp (q .dop) || isD tableReadResp (q .dop)) ≡ true → answerPhase (c .phase) (q .dop) ≡ false → answer (cacheRows d c 19 q) ≡ 4
+      unfolding stepOf steps answer
+      let-go-4 r p = rw (m, v, r, p)
+
+      pub let-go-5 : answerPhase (c .phase) (q .dop) ≡ true → awaitsRead c (q .dop) ≡ false → answer (cacheRows d c 19 q) ≡ 5
+      unfolding stepOf steps answer
+      let-go-5 p w =
+          let r : (isD nodeReadResp (q .dop) || isD tableReadResp (q .dop)) ≡ true =
+          ⊎-elim (λ x. or-inl (isD tableReadResp (q .dop)) (x .0)) (λ x. or-inr (isD nodeReadResp (q .dop)) (x .0)) (answer-phase-iff (c .phase) (q .dop) .0 p) in
+          rw (m, v, r, p, w)
 
   -- a condition of a lower number doesn't hold where the answer is 22
   lower : (k : ℕ) → k < 22 → answer (cacheRows d c 14 q) ≡ 22 → holds k (cacheRows d c 14 q) ≡ false

@@ -1,7 +1,8 @@
 -- The answer of a read: the phase in which it comes, and when the cache awaits it, said as facts. Assumes nothing.
-use mathlib.Core.Bool.{Bool, _&&_, _||_, false, true}
+use Prim.Native.Nat.{ℕ}
+use mathlib.Core.Bool.{Bool, _&&_, _||_, false, false≢true, true}
 use mathlib.Core.Logic.{_↔_, _⊎_, inl, inr, ⊎-elim}
-use mathlib.Core.Path.{_≡_}
+use mathlib.Core.Path.{_≡_, refl}
 use native.Mathlib.Omega.{arith}
 use borrow.Author.Tests.{eqb-true, ne-eqb}
 use Rattle.base.proofs.Tests.{and-both, and-iff, clash, or-cases, or-inl, or-inr}
@@ -10,7 +11,9 @@ use Rattle.blockcache.specs.Ops.{dopId, dopKind, isD, nodeReadResp, tabl
 use Rattle.blockcache.specs.Rows.{answerPhase, awaitsRead, awaitsTable}
 use Rattle.blockcache.specs.declared.CacheState.{CacheState}
 use Rattle.blockcache.specs.declared.Phase.{Phase}
+use Rattle.blockdisk.specs.declared.Brought.{Brought}
 use Rattle.blockdisk.specs.declared.DiskOp.{DiskOp}
+use Rattle.blockdisk.specs.declared.DiskOp.the-variants.{RespReadIndirectionTableOp, RespReadNodeOp}
 use Rattle.queue.specs.Queue.{hasOf}
 
 -- an answer is of one kind
@@ -63,3 +66,15 @@ awaits-read-is c o = (to, from)
         (λ x. and-both (answer-phase-iff (c .phase) o .1 (inl (x .0, x .1))) (or-inl load (and-both (x .0) (x .2))))
         (λ x. and-both (answer-phase-iff (c .phase) o .1 (inr (x .0, x .1))) (or-inr read (and-both (x .0) (x .2))))
         u
+
+-- an answer of each kind, under its id
+pub node-awaited-iff : (c : CacheState) (id : ℕ) (b : Brought) → (awaitsRead c (RespReadNodeOp id b) ≡ true) ↔ ((isReady c ≡ true) × (hasOf (c .outstanding .reads) id ≡ true))
+node-awaited-iff c id b =
+    let is = awaits-read-is c (RespReadNodeOp id b) in
+    ((λ e. ⊎-elim (λ x. (x .1, x .2)) (λ x. absurd (false≢true (x .0))) (is .0 e)), (λ h. is .1 (inl (refl, h .0, h .1))))
+
+pub table-awaited-iff : (c : CacheState) (id : ℕ) (b : Brought) →
+    (awaitsRead c (RespReadIndirectionTableOp id b) ≡ true) ↔ ((loadingPhase (c .phase) ≡ true) × (awaitsTable (c .awaited) id ≡ true))
+table-awaited-iff c id b =
+    let is = awaits-read-is c (RespReadIndirectionTableOp id b) in
+    ((λ e. ⊎-elim (λ x. absurd (false≢true (x .0))) (λ x. (x .1, x .2)) (is .0 e)), (λ h. is .1 (inr (refl, h .0, h .1))))

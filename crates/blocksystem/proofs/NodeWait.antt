@@ -1,30 +1,29 @@
 -- A node's read that the cache awaits, in Ready: it is queued at its reference's location, let go is accepted, and then step 6 again. Assumes nothing.
 use Prim.Native.Nat.{ℕ}
 use mathlib.Core.Bool.{false, true}
-use mathlib.Core.Logic.{inl}
-use mathlib.Core.Option.{none, some}
+use mathlib.Core.Option.{some}
 use mathlib.Core.Path.{_∙_, _≡_, ap, refl, sym}
 use borrow.Author.Tests.{lt-leb}
 use lib.Dec.{leb}
 use Rattle.base.proofs.Maps.{del-some}
 use Rattle.base.proofs.Refusals.{Clear}
 use Rattle.base.proofs.Tests.{and-both, clash, or-iff, split}
-use Rattle.base.specs.Maps.{del, put}
+use Rattle.base.specs.Maps.{put}
 use Rattle.base.specs.Refusals.{answer}
 use Rattle.blockcache.proofs.Demand2.{cache-accepted}
 use Rattle.blockcache.proofs.Forms.{cache-form-iff, reads-requests}
-use Rattle.blockcache.proofs.LetGo.{let-go-accepted}
 use Rattle.blockcache.proofs.OpKinds.{ready-is}
-use Rattle.blockcache.proofs.Waiting.{reads-at, reads-has, reads-remove}
-use Rattle.blockcache.specs.Abstract.{cacheVars, callOp, readsMap, readyVars}
+use Rattle.blockcache.proofs.ReadAnswers.{node-awaited-iff}
+use Rattle.blockcache.proofs.Waiting.{reads-at, reads-remove}
+use Rattle.blockcache.specs.Abstract.{callOp, readsMap, readyVars}
 use Rattle.blockcache.specs.Form.{isReady}
-use Rattle.blockcache.specs.LetGo.{LetGo}
 use Rattle.blockcache.specs.Narrowings.{narrowed, readNarrowed}
 use Rattle.blockcache.specs.Next.{withReads}
 use Rattle.blockcache.specs.Ops.{dopId}
+use Rattle.blockcache.specs.Rows.{awaitsRead}
 use Rattle.blockcache.specs.Step.{cacheNext, cacheRows, outsideLimits}
-use Rattle.blockcache.specs.Steps.{letGoStep, pageInNodeReqStep, stepOf, steps}
-use Rattle.blockcache.specs.Upstream.{In, PageInNodeReq, ready, setReads}
+use Rattle.blockcache.specs.Steps.{pageInNodeReqStep, stepOf, steps}
+use Rattle.blockcache.specs.Upstream.{PageInNodeReq, ready, setReads}
 use Rattle.blockcache.specs.declared.CacheState.{CacheState}
 use Rattle.blockcache.specs.declared.Call.{Call}
 use Rattle.blockdisk.proofs.Accepting.{answer-ok-iff, request-iff}
@@ -32,22 +31,22 @@ use Rattle.blockdisk.proofs.Forms.{node-queue-form, queued-node-place}
 use Rattle.blockdisk.proofs.Outstanding.{places-at}
 use Rattle.blockdisk.specs.Form.{nodeAllowed}
 use Rattle.blockdisk.specs.Ops.{diskRows, nodeNotStored, opRows}
-use Rattle.blockdisk.specs.Upstream.{reqReadNode, respReadNode}
+use Rattle.blockdisk.specs.Upstream.{reqReadNode}
 use Rattle.blockdisk.specs.declared.Brought.the-variants.{Nothing}
 use Rattle.blockdisk.specs.declared.DiskOp.the-variants.{ReqReadNodeOp, RespReadNodeOp}
 use Rattle.blockdisk.specs.declared.DiskState.{DiskState}
 use Rattle.blockdisk.specs.declared.Records.{Records}
-use Rattle.queue.proofs.Laws.{remove-room}
+use Rattle.queue.proofs.Laws.{remove-gone, remove-room}
 use Rattle.queue.specs.Queue.{entryOf, hasOf, removeOf}
 use Rattle.queue.specs.declared.Requests.{Requests}
 use Rattle.sectortype.proofs.Maps.{locs-some}
 use Rattle.blocksystem.proofs.Invariant.{Invariant}
-use Rattle.blocksystem.proofs.WaitLaws.{accepted-of, cache-left, disk-form, disk-left, disk-takes, kept, let-go-accepts, read-queued, removed, whole, within}
+use Rattle.blocksystem.proofs.WaitLaws.{accepted-of, cache-left, disk-form, disk-left, disk-takes, kept, let-go-accepts, read-queued, whole, within}
 use Rattle.blocksystem.specs.Joined.{diskCall, joinedAnswer}
 use Rattle.blocksystem.specs.Run.{State, afterStep}
 use Rattle.blocksystem.specs.Waits.{Asks, locRead, refRead}
 
-module _ (d : ℕ) (s : State) (v : Invariant d s) (id : ℕ) (ok : isReady (s .cache) ≡ true) (known : hasOf (s .cache .outstanding .reads) id ≡ true) where
+module _ (d : ℕ) (s : State) (v : Invariant d s) (id : ℕ) (awaits : awaitsRead (s .cache) (RespReadNodeOp id Nothing) ≡ true) where
   abbrev c : CacheState
   c = s .cache
 
@@ -56,6 +55,12 @@ module _ (d : ℕ) (s : State) (v : Invariant d s) (id : ℕ) (ok : isReady (s .
 
   abbrev queue : Requests
   queue = s .disk .queues .nodereads
+
+  ok : isReady c ≡ true
+  ok = node-awaited-iff c id Nothing .0 awaits .0
+
+  known : hasOf reading id ≡ true
+  known = node-awaited-iff c id Nothing .0 awaits .1
 
   queued : hasOf queue id ≡ true
   queued = read-queued d s v ok id known
@@ -72,23 +77,12 @@ module _ (d : ℕ) (s : State) (v : Invariant d s) (id : ℕ) (ok : isReady (s .
   node-place = sym (locs-some (c .tables .ephemeral) (refRead s id) located .1)
 
   module _ (q : Call) (o : Records) (a : Asks q (RespReadNodeOp id Nothing)) where
-    cache-lets-go : answer (cacheRows d c 19 q) ≡ 0
-    unfolding stepOf steps
-    cache-lets-go =
-        let x = readyVars c in
-        let y = setReads x (del (x .outstandingBlockReads) id) in
-        let op : callOp q ≡ respReadNode id none = rw (a .disk) refl in
-        let n : In id (x .outstandingBlockReads) = reads-has reading id ∙ known in
-        let g : LetGo (cacheVars c) (ready y) (callOp q) (q .vop) =
-        record { op = a .internal; answer = inl (id, none, op, (x, ready-is c ok, (y, refl, record { awaited = n; next = refl }))) } in
-        let-go-accepted d c q .1 (within d s v 19 q letGoStep (a .limits) refl, (ready y, g))
-
     disk-lets-go : Clear (opRows d (s .disk) (RespReadNodeOp id Nothing) (q .node) (q .table))
     unfolding nodeNotStored
     disk-lets-go = answer-ok-iff queue id false .1 (record { there = queued; right = refl })
 
     pub let-go-node : joinedAnswer d 19 q o c (s .disk) ≡ 0
-    let-go-node = let-go-accepts d s v q o (RespReadNodeOp id Nothing) a cache-lets-go disk-lets-go
+    let-go-node = let-go-accepts d s v q o (RespReadNodeOp id Nothing) a awaits disk-lets-go
 
     abbrev s1 : State
     s1 = afterStep d s 19 q o
@@ -100,13 +94,13 @@ module _ (d : ℕ) (s : State) (v : Invariant d s) (id : ℕ) (ok : isReady (s .
     unfolding stepOf steps
     cache-after =
         let e : cacheNext c 19 q ≡ c1 = rw (a .disk) refl in
-        cache-left d s v q o (RespReadNodeOp id Nothing) a cache-lets-go disk-lets-go ∙ e
+        cache-left d s v q o (RespReadNodeOp id Nothing) a awaits disk-lets-go ∙ e
 
     queue-after : s1 .disk .queues .nodereads ≡ removeOf queue id
-    queue-after = ap (λ (z : DiskState). z .queues .nodereads) (disk-left d s v q o (RespReadNodeOp id Nothing) a cache-lets-go disk-lets-go)
+    queue-after = ap (λ (z : DiskState). z .queues .nodereads) (disk-left d s v q o (RespReadNodeOp id Nothing) a awaits disk-lets-go)
 
     pub node-freed : hasOf (s1 .disk .queues .nodereads) id ≡ false
-    node-freed = rw queue-after (removed queue id (node-queue-form d queue (disk-form d s v .nodereads)) queued)
+    node-freed = rw queue-after (remove-gone queue (node-queue-form d queue (disk-form d s v .nodereads)) id queued)
 
     module _ (new : ℕ) (fresh : hasOf (s1 .disk .queues .nodereads) new ≡ false) (p : Call) (u : Records) (b : Asks p (ReqReadNodeOp new (locRead s id))) (r : p .reference ≡ refRead s id) where
       -- as upstream says it: allocated, located there, not cached, and no other read of it

@@ -1,24 +1,21 @@
 -- A table's read that the cache awaits, in Loading: it is queued at the place being loaded, let go is accepted, and then step 8 again. Assumes nothing.
 use Prim.Native.Nat.{ℕ}
 use mathlib.Core.Bool.{false, true}
-use mathlib.Core.Logic.{inr}
 use mathlib.Core.Option.{none, some}
 use mathlib.Core.Path.{_∙_, _≡_, ap, refl}
 use Rattle.base.proofs.Refusals.{Clear}
 use Rattle.base.proofs.Tests.{and-both, or-iff}
 use Rattle.base.specs.Refusals.{answer}
-use Rattle.blockcache.proofs.Bridge.{awaits-iff}
 use Rattle.blockcache.proofs.Demand2.{cache-accepted}
-use Rattle.blockcache.proofs.LetGo.{let-go-accepted}
 use Rattle.blockcache.proofs.OpKinds.{loading-is}
-use Rattle.blockcache.specs.Abstract.{awaitedId, cacheVars, callOp}
+use Rattle.blockcache.proofs.ReadAnswers.{table-awaited-iff}
+use Rattle.blockcache.specs.Abstract.{callOp}
 use Rattle.blockcache.specs.Form.{loadingPhase, notWaiting}
-use Rattle.blockcache.specs.LetGo.{LetGo}
 use Rattle.blockcache.specs.Narrowings.{narrowed}
 use Rattle.blockcache.specs.Next.{withAwaited}
-use Rattle.blockcache.specs.Rows.{awaitsTable}
+use Rattle.blockcache.specs.Rows.{awaitsRead}
 use Rattle.blockcache.specs.Step.{cacheNext, cacheRows, outsideLimits}
-use Rattle.blockcache.specs.Steps.{letGoStep, pageInIndirectionTableReqStep, stepOf, steps}
+use Rattle.blockcache.specs.Steps.{pageInIndirectionTableReqStep, stepOf, steps}
 use Rattle.blockcache.specs.Upstream.{loadingIndirectionTable}
 use Rattle.blockcache.specs.declared.CacheState.{CacheState}
 use Rattle.blockcache.specs.declared.Call.{Call}
@@ -27,52 +24,43 @@ use Rattle.blockdisk.proofs.Forms.{queued-table-place, table-queue-form}
 use Rattle.blockdisk.proofs.Outstanding.{places-at}
 use Rattle.blockdisk.specs.Form.{tableAllowed}
 use Rattle.blockdisk.specs.Ops.{diskRows, opRows, tableNotStored}
-use Rattle.blockdisk.specs.Upstream.{reqReadIndirectionTable, respReadIndirectionTable}
+use Rattle.blockdisk.specs.Upstream.{reqReadIndirectionTable}
 use Rattle.blockdisk.specs.declared.Brought.the-variants.{Nothing}
 use Rattle.blockdisk.specs.declared.DiskOp.the-variants.{ReqReadIndirectionTableOp, RespReadIndirectionTableOp}
 use Rattle.blockdisk.specs.declared.DiskState.{DiskState}
 use Rattle.blockdisk.specs.declared.Records.{Records}
-use Rattle.queue.proofs.Laws.{remove-room}
+use Rattle.queue.proofs.Laws.{remove-gone, remove-room}
 use Rattle.queue.specs.Queue.{entryOf, hasOf, removeOf}
 use Rattle.queue.specs.declared.Requests.{Requests}
 use Rattle.blocksystem.proofs.Invariant.{Invariant}
-use Rattle.blocksystem.proofs.WaitLaws.{accepted-of, cache-left, disk-form, disk-left, disk-takes, kept, let-go-accepts, load-queued, removed, whole-loading, within}
+use Rattle.blocksystem.proofs.WaitLaws.{accepted-of, cache-left, disk-form, disk-left, disk-takes, kept, let-go-accepts, load-queued, whole-loading, within}
 use Rattle.blocksystem.specs.Joined.{diskCall, joinedAnswer}
 use Rattle.blocksystem.specs.Run.{State, afterStep}
 use Rattle.blocksystem.specs.Waits.{Asks, placeRead}
 
-module _ (d : ℕ) (s : State) (v : Invariant d s) (id : ℕ) (loading : loadingPhase (s .cache .phase) ≡ true) (waits : awaitsTable (s .cache .awaited) id ≡ true) where
+module _ (d : ℕ) (s : State) (v : Invariant d s) (id : ℕ) (awaits : awaitsRead (s .cache) (RespReadIndirectionTableOp id Nothing) ≡ true) where
   abbrev c : CacheState
   c = s .cache
 
   abbrev queue : Requests
   queue = s .disk .queues .tablereads
 
-  awaited : awaitedId (c .awaited) ≡ some id
-  awaited = awaits-iff (c .awaited) id .0 waits
+  loading : loadingPhase (c .phase) ≡ true
+  loading = table-awaited-iff c id Nothing .0 awaits .0
 
   queued : hasOf queue id ≡ true
-  queued = load-queued d s v loading id waits
+  queued = load-queued d s v loading id (table-awaited-iff c id Nothing .0 awaits .1)
 
   pub load-place : entryOf queue id .loc ≡ placeRead s
   load-place = whole-loading d s v loading .phase .table-reads id (entryOf queue id .loc) (places-at queue id queued) .1
 
   module _ (q : Call) (o : Records) (a : Asks q (RespReadIndirectionTableOp id Nothing)) where
-    cache-lets-go : answer (cacheRows d c 19 q) ≡ 0
-    unfolding stepOf steps
-    cache-lets-go =
-        let l = placeRead s in
-        let op : callOp q ≡ respReadIndirectionTable id none = rw (a .disk) refl in
-        let g : LetGo (cacheVars c) (loadingIndirectionTable l none) (callOp q) (q .vop) =
-        record { op = a .internal; answer = inr (id, none, op, (l, awaitedId (c .awaited), loading-is c loading, record { awaited = awaited; next = refl })) } in
-        let-go-accepted d c q .1 (within d s v 19 q letGoStep (a .limits) refl, (loadingIndirectionTable l none, g))
-
     disk-lets-go : Clear (opRows d (s .disk) (RespReadIndirectionTableOp id Nothing) (q .node) (q .table))
     unfolding tableNotStored
     disk-lets-go = answer-ok-iff queue id false .1 (record { there = queued; right = refl })
 
     pub let-go-table : joinedAnswer d 19 q o c (s .disk) ≡ 0
-    let-go-table = let-go-accepts d s v q o (RespReadIndirectionTableOp id Nothing) a cache-lets-go disk-lets-go
+    let-go-table = let-go-accepts d s v q o (RespReadIndirectionTableOp id Nothing) a awaits disk-lets-go
 
     abbrev s1 : State
     s1 = afterStep d s 19 q o
@@ -84,13 +72,13 @@ module _ (d : ℕ) (s : State) (v : Invariant d s) (id : ℕ) (loading : loading
     unfolding stepOf steps
     cache-after =
         let e : cacheNext c 19 q ≡ c1 = rw (a .disk) refl in
-        cache-left d s v q o (RespReadIndirectionTableOp id Nothing) a cache-lets-go disk-lets-go ∙ e
+        cache-left d s v q o (RespReadIndirectionTableOp id Nothing) a awaits disk-lets-go ∙ e
 
     queue-after : s1 .disk .queues .tablereads ≡ removeOf queue id
-    queue-after = ap (λ (z : DiskState). z .queues .tablereads) (disk-left d s v q o (RespReadIndirectionTableOp id Nothing) a cache-lets-go disk-lets-go)
+    queue-after = ap (λ (z : DiskState). z .queues .tablereads) (disk-left d s v q o (RespReadIndirectionTableOp id Nothing) a awaits disk-lets-go)
 
     pub table-freed : hasOf (s1 .disk .queues .tablereads) id ≡ false
-    table-freed = rw queue-after (removed queue id (table-queue-form d queue (disk-form d s v .tablereads)) queued)
+    table-freed = rw queue-after (remove-gone queue (table-queue-form d queue (disk-form d s v .tablereads)) id queued)
 
     module _ (new : ℕ) (fresh : hasOf (s1 .disk .queues .tablereads) new ≡ false) (p : Call) (u : Records) (b : Asks p (ReqReadIndirectionTableOp new (placeRead s))) where
       cache-pages-in : answer (cacheRows d (s1 .cache) 8 p) ≡ 0

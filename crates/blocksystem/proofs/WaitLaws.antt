@@ -1,40 +1,39 @@
 -- What the invariant says of awaited reads and of a call within the limits: laws of NodeWait, TableWait and Waits. Assumes nothing.
 use Prim.Native.Nat.{ℕ}
-use mathlib.Core.Bool.{_&&_, false, false≢true, true}
-use mathlib.Core.Logic.{_⊎_, inl, inr, ⊎-elim}
+use mathlib.Core.Bool.{_&&_, false, true}
 use mathlib.Core.Option.{some}
-use mathlib.Core.Path.{_∙_, _≡_, ap, refl, sym}
+use mathlib.Core.Path.{_∙_, _≡_, refl, sym}
 use borrow.Author.Tests.{eq-eqb}
 use lib.Dec.{leb}
-use Rattle.base.proofs.Maps.{del-same, in-of}
+use Rattle.base.proofs.Maps.{in-of}
 use Rattle.base.proofs.Refusals.{Clear}
 use Rattle.base.proofs.Tests.{and-both, and-iff, bool-ext, clash}
-use Rattle.base.specs.Maps.{isSome}
 use Rattle.base.specs.Refusals.{answer}
 use Rattle.blockcache.proofs.Bridge.{awaits-iff}
+use Rattle.blockcache.proofs.LetGo.{awaits-read-iff, let-go-awaited}
 use Rattle.blockcache.proofs.Numbers.{limits-iff}
 use Rattle.blockcache.proofs.OpKinds.{loading-is, ready-is}
-use Rattle.blockcache.proofs.ReadAnswers.{awaits-read-is}
+use Rattle.blockcache.proofs.ReadAnswers.{node-awaited-iff, table-awaited-iff}
 use Rattle.blockcache.proofs.Waiting.{reads-has}
 use Rattle.blockcache.specs.Abstract.{awaitedId, readsMap, readyVars, varsIn}
 use Rattle.blockcache.specs.Form.{callForm, isReady, loadingPhase, readyPhase}
 use Rattle.blockcache.specs.Rows.{awaitsRead, awaitsTable}
 use Rattle.blockcache.specs.Step.{cacheNext, cacheRows, outsideLimits}
-use Rattle.blockcache.specs.Steps.{Step, isCrash, isStart, stepOf}
+use Rattle.blockcache.specs.Steps.{Step, isCrash, isStart, letGoStep, stepOf, steps}
 use Rattle.blockcache.specs.Upstream.{loadingIndirectionTable, ready}
 use Rattle.blockcache.specs.declared.Call.{Call}
 use Rattle.blockcache.specs.declared.Phase.{Phase}
 use Rattle.blockcache.specs.declared.Phase.the-variants.{Loading as PhaseLoading, Ready as PhaseReady, Unready as PhaseUnready}
 use Rattle.blockdisk.proofs.Accepting.{disk-accepted-iff}
 use Rattle.blockdisk.proofs.Forms.{DiskForm, disk-form-iff}
-use Rattle.blockdisk.proofs.Outstanding.{places-at, places-has, places-remove}
+use Rattle.blockdisk.proofs.Outstanding.{places-at, places-has}
 use Rattle.blockdisk.specs.Ops.{diskRows, nextDisk, opRows}
 use Rattle.blockdisk.specs.Upstream.{diskVars, places}
 use Rattle.blockdisk.specs.declared.Brought.the-variants.{Nothing}
 use Rattle.blockdisk.specs.declared.DiskOp.{DiskOp}
 use Rattle.blockdisk.specs.declared.DiskOp.the-variants.{RespReadIndirectionTableOp, RespReadNodeOp}
 use Rattle.blockdisk.specs.declared.Records.{Records}
-use Rattle.queue.specs.Queue.{entryOf, hasOf, removeOf, requestsForm}
+use Rattle.queue.specs.Queue.{entryOf, hasOf}
 use Rattle.queue.specs.declared.Requests.{Requests}
 use Rattle.sectortype.specs.Form.{nodeForm, tableForm}
 use Rattle.blocksystem.proofs.Accepting.{disk-answer, disk-next, joined-cache, joined-disk, joined-zero}
@@ -104,11 +103,9 @@ module _ (d : ℕ) (s : State) (v : Invariant d s) where
 
   pub node-reads-exact : (id : ℕ) → hasOf (s .disk .queues .nodereads) id ≡ awaitsRead (s .cache) (RespReadNodeOp id Nothing)
   node-reads-exact id =
-      let op = RespReadNodeOp id Nothing in
-      let is = awaits-read-is (s .cache) op in
-      bool-ext (hasOf (s .disk .queues .nodereads) id) (awaitsRead (s .cache) op)
-      (λ q. let h = read-awaited id q in is .1 (inl (refl, h .0, h .1)))
-      (λ e. ⊎-elim (λ x. read-queued (x .1) id (x .2)) (λ x. absurd (false≢true (x .0))) (is .0 e))
+      let is = node-awaited-iff (s .cache) id Nothing in
+      bool-ext (hasOf (s .disk .queues .nodereads) id) (awaitsRead (s .cache) (RespReadNodeOp id Nothing))
+      (λ q. is .1 (read-awaited id q)) (λ e. let h = is .0 e in read-queued (h .0) id (h .1))
 
   -- A TABLE'S READ, IN LOADING
 
@@ -132,25 +129,24 @@ module _ (d : ℕ) (s : State) (v : Invariant d s) where
 
   pub table-reads-exact : (id : ℕ) → hasOf (s .disk .queues .tablereads) id ≡ awaitsRead (s .cache) (RespReadIndirectionTableOp id Nothing)
   table-reads-exact id =
-      let op = RespReadIndirectionTableOp id Nothing in
-      let is = awaits-read-is (s .cache) op in
-      bool-ext (hasOf (s .disk .queues .tablereads) id) (awaitsRead (s .cache) op)
-      (λ q. let h = load-awaited id q in is .1 (inr (refl, h .0, h .1)))
-      (λ e. ⊎-elim (λ x. absurd (false≢true (x .0))) (λ x. load-queued (x .1) id (x .2)) (is .0 e))
+      let is = table-awaited-iff (s .cache) id Nothing in
+      bool-ext (hasOf (s .disk .queues .tablereads) id) (awaitsRead (s .cache) (RespReadIndirectionTableOp id Nothing))
+      (λ q. is .1 (load-awaited id q)) (λ e. let h = is .0 e in load-queued (h .0) id (h .1))
 
--- the id of a request that is taken out
-pub removed : (q : Requests) (id : ℕ) → requestsForm q ≡ true → hasOf q id ≡ true → hasOf (removeOf q id) id ≡ false
-removed q id form there = sym (places-has (removeOf q id) id) ∙ ap isSome (ap (λ m. m id) (places-remove q id form there) ∙ del-same (places q) id)
-
--- LET GO under an answer that cache and disk take: it is accepted, and what it leaves
+-- LET GO under an answer that the cache awaits and the disk takes: it is accepted, and what it leaves
 
 module _ (d : ℕ) (s : State) (v : Invariant d s) (q : Call) (o : Records) (op : DiskOp) (a : Asks q op)
-    (cache : answer (cacheRows d (s .cache) 19 q) ≡ 0) (disk : Clear (opRows d (s .disk) op (q .node) (q .table))) where
+    (awaits : awaitsRead (s .cache) op ≡ true) (disk : Clear (opRows d (s .disk) op (q .node) (q .table))) where
+  cache-zero : answer (cacheRows d (s .cache) 19 q) ≡ 0
+  unfolding stepOf steps
+  cache-zero =
+      let-go-awaited d (s .cache) q .1 (within d s v 19 q letGoStep (a .limits) refl, a .internal, awaits-read-iff d (s .cache) q .0 (rw (a .disk) awaits))
+
   disk-zero : answer (diskRows d (s .disk) (diskCall 19 q)) ≡ 0
   disk-zero = disk-takes d s v 19 q (a .limits) (rw (a .disk) disk)
 
   pub let-go-accepts : joinedAnswer d 19 q o (s .cache) (s .disk) ≡ 0
-  let-go-accepts = accepted-of d s 19 q o refl refl cache disk-zero
+  let-go-accepts = accepted-of d s 19 q o refl refl cache-zero disk-zero
 
   pub cache-left : afterStep d s 19 q o .cache ≡ cacheNext (s .cache) 19 q
   cache-left = joined-cache d 19 q o (s .cache) (s .disk) let-go-accepts

@@ -1,17 +1,14 @@
 -- NO WAIT IS FOR EVER: after any of demand 3's lists, each read that the cache awaits is queued, let go is accepted under its id, and then its page-in
 -- is accepted again. Assumes nothing.
 use Prim.Native.Nat.{_<_, ℕ}
-use mathlib.Core.Bool.{false≢true, true}
+use mathlib.Core.Bool.{true}
 use mathlib.Core.List.{List}
-use mathlib.Core.Logic.{⊎-elim}
 use mathlib.Core.Path.{_≡_, refl}
 use native.Mathlib.Omega.{arith}
 use borrow.Author.Tests.{le-leb}
 use Rattle.base.proofs.Tests.{and-both}
 use Rattle.blockcache.proofs.Bounds.{read-reference}
-use Rattle.blockcache.proofs.ReadAnswers.{awaits-read-is}
-use Rattle.blockcache.specs.Form.{isReady, loadingPhase}
-use Rattle.blockcache.specs.Rows.{awaitsRead, awaitsTable}
+use Rattle.blockcache.specs.Rows.{awaitsRead}
 use Rattle.blockcache.specs.declared.Call.{Call}
 use Rattle.blockcache.specs.declared.VersionOp.the-variants.{StatesInternalOp}
 use Rattle.blockdisk.specs.declared.Brought.the-variants.{Nothing}
@@ -19,7 +16,6 @@ use Rattle.blockdisk.specs.declared.DiskOp.{DiskOp}
 use Rattle.blockdisk.specs.declared.DiskOp.the-variants.{ReqReadIndirectionTableOp, ReqReadNodeOp, RespReadIndirectionTableOp, RespReadNodeOp}
 use Rattle.blockdisk.specs.declared.Records.{Records}
 use Rattle.disklayout.specs.Device.{made}
-use Rattle.queue.specs.Queue.{hasOf}
 use Rattle.sectortype.proofs.Forms.{empty-table-form, zero-node-form}
 use Rattle.sectortype.specs.Form.{emptyTable, zeroNode}
 use Rattle.sectortype.specs.declared.Contents.{Contents}
@@ -30,34 +26,28 @@ use Rattle.blocksystem.proofs.NodeWait.{let-go-node, node-freed, node-p
 use Rattle.blocksystem.proofs.TableWait.{let-go-table, load-place, page-in-table, table-freed}
 use Rattle.blocksystem.proofs.WaitLaws.{accepts-of, node-reads-exact, table-reads-exact}
 use Rattle.blocksystem.specs.Run.{JoinedCall, State, acceptsStep, after, afterStep, start, startsNamed}
-use Rattle.blocksystem.specs.Waits.{Asks, NoWaitForEver, NodeWaitEnds, TableWaitEnds, locRead, placeRead, refRead}
+use Rattle.blocksystem.specs.Waits.{Asks, NoWaitForEver, locRead, placeRead, refRead}
 
 pub waits-end : (d : ℕ) (s : State) → Invariant d s → NoWaitForEver d s
 waits-end d s v =
     record {
       node-reads = node-reads-exact d s v;
       table-reads = table-reads-exact d s v;
-      node = λ id e. ⊎-elim (λ h. node-wait id (h .1) (h .2)) (λ h. absurd (false≢true (h .0))) (awaits-read-is (s .cache) (RespReadNodeOp id Nothing) .0 e);
-      table = λ id e. ⊎-elim (λ h. absurd (false≢true (h .0))) (λ h. table-wait id (h .1) (h .2)) (awaits-read-is (s .cache) (RespReadIndirectionTableOp id Nothing) .0 e);
+      node = λ id e.
+          record {
+            place = node-place d s v id e;
+            let-go = λ q o a. accepts-of d s 19 q o refl refl (let-go-node d s v id e q o a);
+            freed = node-freed d s v id e;
+            again = λ q o a new fresh p u b r. accepts-of d (afterStep d s 19 q o) 6 p u refl refl (page-in-node d s v id e q o a new fresh p u b r);
+          };
+      table = λ id e.
+          record {
+            place = load-place d s v id e;
+            let-go = λ q o a. accepts-of d s 19 q o refl refl (let-go-table d s v id e q o a);
+            freed = table-freed d s v id e;
+            again = λ q o a new fresh p u b. accepts-of d (afterStep d s 19 q o) 8 p u refl refl (page-in-table d s v id e q o a new fresh p u b);
+          };
     }
-  where
-    node-wait : (id : ℕ) → isReady (s .cache) ≡ true → hasOf (s .cache .outstanding .reads) id ≡ true → NodeWaitEnds d s id
-    node-wait id ok known =
-        record {
-          place = node-place d s v id ok known;
-          let-go = λ q o a. accepts-of d s 19 q o refl refl (let-go-node d s v id ok known q o a);
-          freed = node-freed d s v id ok known;
-          again = λ q o a new fresh p u b r. accepts-of d (afterStep d s 19 q o) 6 p u refl refl (page-in-node d s v id ok known q o a new fresh p u b r);
-        }
-
-    table-wait : (id : ℕ) → loadingPhase (s .cache .phase) ≡ true → awaitsTable (s .cache .awaited) id ≡ true → TableWaitEnds d s id
-    table-wait id loading waits =
-        record {
-          place = load-place d s v id loading waits;
-          let-go = λ q o a. accepts-of d s 19 q o refl refl (let-go-table d s v id loading waits q o a);
-          freed = table-freed d s v id loading waits;
-          again = λ q o a new fresh p u b. accepts-of d (afterStep d s 19 q o) 8 p u refl refl (page-in-table d s v id loading waits q o a new fresh p u b);
-        }
 
 -- after any list from a newly formatted device
 pub no-wait-for-ever : (d : ℕ) → made d ≡ true → (x : Contents) (calls : List JoinedCall) → startsNamed d (start d x) calls ≡ true → NoWaitForEver d (after d (start d x) calls)

@@ -3,12 +3,13 @@ use Prim.Native.Nat.{_<_, _≤_, ℕ}
 use mathlib.Core.Bool.{Bool, _&&_, false, true}
 use mathlib.Core.Logic.{_↔_}
 use mathlib.Core.Option.{none, some}
-use mathlib.Core.Path.{_≡_, refl}
+use mathlib.Core.Path.{_∙_, _≡_, ap, refl, sym}
 use native.Mathlib.Omega.{arith}
 use borrow.Author.Tests.{lt-leb, ltb-true}
 use lib.Dec.{eqb, ltb}
 use lib.ListN.{length}
 use Rattle.base.proofs.Lookup.{count-zero-iff as zero-iff-map, lookup-empty, lookup-insert as map-inserted, lookup-isSome, lookup-place, lookup-remove as map-removed, none-iff-lookup as none-iff-map}
+use Rattle.base.proofs.Maps.{del-same}
 use Rattle.base.proofs.QueueForm.{form-count as count-of-form, form-length as length-of-form, insert-form as form-inserted, remove-form as form-removed}
 use Rattle.base.proofs.Scan.{first-found, first-passes}
 use Rattle.base.proofs.Tests.{and-left}
@@ -99,3 +100,7 @@ module _ (q : Requests) (form : requestsForm q ≡ true) where
       let u = found-used q id b in
       let m = form-count in
       simp (lt-leb _ _ b) (omega arith)
+
+  -- and its id is not in it
+  pub remove-gone : (id : ℕ) → hasOf q id ≡ true → hasOf (removeOf q id) id ≡ false
+  remove-gone id there = sym (has-map (removeOf q id) id) ∙ ap isSome (ap (λ m. m id) (remove-map id there) ∙ del-same (requestsMap q) id)
