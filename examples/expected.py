@@ -4,8 +4,9 @@ import sys
 sys.dont_write_bytecode=True
 from parts.lines import AREA1,EX,OK,P,c,example,l
 from parts.lives import before_format,edges,last_blocks,life
+from parts.screen import screen_rows
 from parts.steps import letgo_rows,rows
-from parts.stories import contents,crash,day,letgo,places,refusals
+from parts.stories import contents,crash,day,letgo,places,refusals,screen
 from parts.words import contents_words,place_words,words
 
 before_format(); edges(); life(); rows(); last_blocks()
@@ -19,6 +20,8 @@ example('contents','Contents of two numbers: cards that differ in high alone, ca
 contents_words()
 letgo_rows()
 example('letgo','A drive that brings nothing: the wait for a card is let go, and the card is read after all; the next morning the same with the table.',letgo)
+example('screen','What a member sees: the screen agrees with the working picture, whatever was changed, dropped or lost; and a start that nothing is promised of.',screen)
+screen_rows()
 c(b'The last line has no line feed.')
 l('audit','place=%s %s'%(AREA1,OK))
 

@@ -198,7 +198,7 @@ def letgo_ready():
     let_go(NODE,7,5); idle(NODE,0,22); let_go(NODE,0,0); let_go(NODE,0,5)
     ask(8,0)
     a('step=7 d=RespReadNodeOp id=8 node=stored',0)
-    l('step=17','answer=0 contents=5 succs=')
+    l('step=17','answer=0 contents=5 succs= picture=same')
 
 # card r, written to block r under id r, and evicted
 def stored_card(r):
@@ -214,7 +214,7 @@ def letgo_beside():
     l('show','phase=Ready allocated=3 cached=1 writes=0 reads=1',dots('*EE'))
     ask(3,2,10,ref=2)
     a('step=7 d=RespReadNodeOp id=2 node=stored',0)
-    l('step=17 ref=2','answer=0 contents=72 succs=')
+    l('step=17 ref=2','answer=0 contents=72 succs= picture=same')
     l('step=17 ref=1','answer=8 contents=0 succs=')
     c(b'A node write and the read of card 1 under one id, 4: the write is awaited still.')
     ask(4,1,ref=1)

@@ -123,7 +123,7 @@ def contents_words():
         a('step=9 d=RespReadIndirectionTableOp id=1 table=stored',0)
         a('step=6 d=ReqReadNodeOp id=7 loc=%d+4096'%block,0)
         a('step=7 d=RespReadNodeOp id=7 node=%s:'%s,0)
-        l('step=17','answer=0 contents=%s succs='%shown)
+        l('step=17','answer=0 contents=%s succs= picture=same'%shown)
     root('5.12','5.12',1,270336,917504)
     root('5.12','5.12',2,1056768,4194304)
     for s,shown in [('0.5','5'),('0.0','0'),(M+'.'+M,M+'.'+M),('1.0','1.0'),('0.'+M,M),(M+'.0',M+'.0')]: root(s,shown)

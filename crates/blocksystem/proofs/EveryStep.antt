@@ -8,7 +8,7 @@ use mathlib.Core.Path.{_∙_, _≡_, ap, refl, subst, sym}
 use borrow.Author.Tests.{eq-eqb, eqb-false}
 use lib.Dec.{eqb}
 use Rattle.base.proofs.Maps.{flagged-some}
-use Rattle.base.proofs.Tests.{and-both, and-iff, clash, split}
+use Rattle.base.proofs.Tests.{and-iff, clash, split}
 use Rattle.base.specs.Maps.{put}
 use Rattle.blockcache.proofs.Numbers.{step-of-number}
 use Rattle.blockcache.specs.Abstract.{callOp}
@@ -34,16 +34,14 @@ use Rattle.blocksystem.proofs.KeepSteps.{page-in-table-req-kept, page-i
 use Rattle.blocksystem.proofs.KeepSteps.{write-back-node-resp-kept, write-back-table-req-kept, write-back-table-resp-kept}
 use Rattle.blocksystem.specs.Allowed.{joinedOp, joinedVop}
 use Rattle.blocksystem.specs.Joined.{diskCall}
-use Rattle.blocksystem.specs.Names.{names, pictureOf, picturesAfter, picturesOf, startedAt, stepPictures}
+use Rattle.blocksystem.specs.Names.{names, picturesAfter, picturesOf, startedAt, stepPictures}
 use Rattle.blocksystem.specs.declared.Pictures.{Pictures}
 use Rattle.disklayout.specs.declared.Location.{Location}
 use Rattle.disklayout.proofs.Facts.{same-loc-iff}
-use Rattle.sectortype.proofs.Forms.{empty-nodes-form, with-slot-form, zero-slot-form}
 use Rattle.sectortype.proofs.Maps.{nodes-del, nodes-put}
 use Rattle.sectortype.specs.Abstract.{nodesMap}
-use Rattle.sectortype.specs.Form.{emptyNodes, nodeForm, nodesForm, withSlot, zeroSlot}
+use Rattle.sectortype.specs.Form.{emptyNodes, withSlot, zeroSlot}
 use Rattle.disklayout.specs.Layout.{sameLoc}
-use Rattle.sectortype.specs.declared.Nodes.{Nodes}
 
 -- A START AT A NAMED PLACE
 
@@ -61,20 +59,15 @@ started t l h =
           inr (rw (e .0) (ap some p), rw (a, b)));
     }
 
-pub picture-form : (t : Pictures) (l : Location) → PicturesForm t → nodesForm (pictureOf t l) ≡ true
-picture-form t l f =
-    split (names (t .first) l) (λ a. rw a (f .first)) (λ a. split (names (t .second) l) (λ b. rw (a, b) (f .second)) (λ b. rw (a, b) empty-nodes-form))
-
 -- THE PICTURES ARE KEPT
 
 -- what is to hold afterwards
 pub record KeptAfter (d : ℕ) (s : Variables) (v : DVariables) (t : Pictures) : Type 0 where
-  pub form : PicturesForm t
   pub named : t .first .present ≡ true
   pub whole : Whole d s v (pictureMaps t)
 
 module _ (d : ℕ) (q : Call) (s s' : Variables) (v v' : DVariables) (t : Pictures) (w : Whole d s v (pictureMaps t)) (f : PicturesForm t)
-    (named : t .first .present ≡ true) (i : Inv d s') (bound : q .reference < 64) (formed : nodeForm (q .node) ≡ true) where
+    (named : t .first .present ≡ true) (i : Inv d s') (bound : q .reference < 64) where
   -- an accepted step other than a crash
   pub record Moves (step : Step) : Type 0 where
     pub cache : StoreStep d s s' (callOp q) (q .vop) (q .reference) (q .node) step
@@ -89,17 +82,10 @@ module _ (d : ℕ) (q : Call) (s s' : Variables) (v v' : DVariables) (t : Pictur
   maps = pictureMaps t
 
   same : Whole d s' v' (pictureMaps t) → KeptAfter d s' v' t
-  same h = record { form = f; named = named; whole = h }
-
-  -- the working picture set
-  with-working-form : (m : Nodes) → nodesForm m ≡ true → PicturesForm (record { first = t .first; second = t .second; working = m; frozen = t .frozen })
-  with-working-form m h = record { first = f .first; second = f .second; working = h; frozen = f .frozen }
+  same h = record { named = named; whole = h }
 
   set-node : nodesMap (withSlot (t .working) (q .reference) (cachedSlot (q .node))) ≡ put (nodesMap (t .working)) (q .reference) (q .node)
   set-node = nodes-put (t .working) (q .reference) (cachedSlot (q .node)) (f .working) bound refl
-
-  set-form : nodesForm (withSlot (t .working) (q .reference) (cachedSlot (q .node))) ≡ true
-  set-form = with-slot-form (t .working) (q .reference) (cachedSlot (q .node)) (f .working) bound (and-both formed refl)
 
   pub step-kept : (step : Step) → isCrash (numberOf step) ≡ false → Moves step → KeptAfter d s' v' (stepPictures q t step)
   step-kept writeBackNodeReqStep e m = same (write-back-node-req-kept d s s' v v' (callOp q) (q .vop) (q .reference) (q .node) maps w i (m .disk) (m .move) (m .cache))
@@ -107,13 +93,11 @@ module _ (d : ℕ) (q : Call) (s s' : Variables) (v v' : DVariables) (t : Pictur
   step-kept writeBackIndirectionTableReqStep e m = same (write-back-table-req-kept d s s' v v' (callOp q) (q .vop) (q .reference) (q .node) maps w i (m .disk) (m .move) (m .cache))
   step-kept writeBackIndirectionTableRespStep e m =
       record {
-        form = record { first = f .first; second = f .frozen; working = f .working; frozen = f .frozen };
         named = named;
         whole = rw (ap vopLoc (m .cache .1)) (write-back-table-resp-kept d s s' v v' (callOp q) (q .vop) (q .reference) (q .node) maps w i (m .disk) (m .move) (m .cache .0) (m .cache .1) (m .cache));
       }
   step-kept unallocStep e m =
       record {
-        form = with-working-form (withSlot (t .working) (q .reference) zeroSlot) (with-slot-form (t .working) (q .reference) zeroSlot (f .working) bound zero-slot-form);
         named = named;
         whole = rw (nodes-del (t .working) (q .reference) zeroSlot (f .working) bound refl)
             (unalloc-kept d s s' v v' (callOp q) (q .vop) (q .reference) (q .node) maps w i (m .disk) (m .move) (m .cache));
@@ -128,7 +112,6 @@ module _ (d : ℕ) (q : Call) (s s' : Variables) (v v' : DVariables) (t : Pictur
       let a = ap vopLoc (m .cache .1 .1) in
       let n = started t (vopLoc (q .vop)) (m .start refl) in
       record {
-        form = record { first = picture-form t (vopLoc (q .vop)) f; second = empty-nodes-form; working = picture-form t (vopLoc (q .vop)) f; frozen = f .frozen };
         named = refl;
         whole = receive-loc-kept d s s' v v' (callOp q) (q .vop) (q .reference) (q .node) maps w i (m .disk) (m .move) l (pictureMaps to)
             (m .cache .1 .1) (subst (Started maps (pictureMaps to)) a n) (m .cache);
@@ -136,7 +119,6 @@ module _ (d : ℕ) (q : Call) (s s' : Variables) (v v' : DVariables) (t : Pictur
   step-kept evictStep e m = same (evict-kept d s s' v v' (callOp q) (q .vop) (q .reference) (q .node) maps w i (m .disk) (m .move) (m .cache))
   step-kept freezeStep e m =
       record {
-        form = record { first = f .first; second = empty-nodes-form; working = f .working; frozen = f .working };
         named = named;
         whole = freeze-kept d s s' v v' (callOp q) (q .vop) (q .reference) (q .node) maps w i (m .disk) (m .move) (nodesMap emptyNodes) (m .cache);
       }
@@ -144,20 +126,17 @@ module _ (d : ℕ) (q : Call) (s s' : Variables) (v v' : DVariables) (t : Pictur
       let k = clean-up-kept d s s' v v' (callOp q) (q .vop) (q .reference) (q .node) maps w i (m .disk) (m .move) (nodesMap emptyNodes) (m .cache) in
       let h = flagged-some (t .second .present) (t .second .place) (k .1) in
       record {
-        form = record { first = f .second; second = empty-nodes-form; working = f .working; frozen = f .frozen };
         named = h .0;
         whole = rw (h .1) (k .2);
       }
   step-kept noOpStep e m = same (no-op-kept d s s' v v' (callOp q) (q .vop) (q .reference) (q .node) maps w i (m .disk) (m .move) (m .unawaited refl) (m .cache))
   step-kept dirtyStep e m =
       record {
-        form = with-working-form (withSlot (t .working) (q .reference) (cachedSlot (q .node))) set-form;
         named = named;
         whole = rw set-node (dirty-kept d s s' v v' (callOp q) (q .vop) (q .reference) (q .node) maps w i (m .disk) (m .move) (m .cache));
       }
   step-kept allocStep e m =
       record {
-        form = with-working-form (withSlot (t .working) (q .reference) (cachedSlot (q .node))) set-form;
         named = named;
         whole = rw set-node (alloc-kept d s s' v v' (callOp q) (q .vop) (q .reference) (q .node) maps w i (m .disk) (m .move) (m .cache));
       }

@@ -35,7 +35,7 @@ use Rattle.sectortype.specs.Abstract.{graphOf, indirectionTable, locsOf, nodesM
 use Rattle.sectortype.specs.Form.{emptyNodes, emptyTable, nodesForm, succAt, tableForm, zeroNode, zeroSuccs}
 use Rattle.sectortype.specs.declared.Contents.{Contents}
 use Rattle.blocksystem.proofs.Accepting.{none-queued}
-use Rattle.blocksystem.proofs.Invariant.{Invariant, KeptOn, ListsAgree}
+use Rattle.blocksystem.proofs.Invariant.{Invariant, KeptOn, ListsAgree, PicturesForm}
 use Rattle.blocksystem.proofs.Laws.{same-put}
 use Rattle.blocksystem.specs.Format.{emptyDisk, formatted, formattedDisk, formattedRecords, rootNode, rootPlace, rootTable, tablePlaceOf}
 use Rattle.blocksystem.specs.Names.{firstPictures, withRoot}
@@ -113,6 +113,10 @@ module _ (d : ℕ) (x : Contents) where
   pub first-frozen : nodesMap (firstPictures d x .frozen) ≡ empty
   unfolding firstPictures
   first-frozen = empty-nodes
+
+  pub first-forms : PicturesForm (firstPictures d x)
+  unfolding firstPictures
+  first-forms = record { first = root-picture-form x; second = empty-nodes-form; working = root-picture-form x; frozen = empty-nodes-form }
 
 -- a valid node place
 node-place-valid : (d : ℕ) (l : Location) → NodePlace (deviceOf d) l ≡ true → ValidNodeLocation (deviceOf d) l ≡ true
@@ -222,7 +226,7 @@ module _ (d : ℕ) (x : Contents) (on : made d ≡ true) where
         made-device = on;
         cache-form = cache-form-iff emptyCache .1 empty-cache-form;
         disk-form = formatted-form;
-        pictures-form = record { first = root-picture-form x; second = empty-nodes-form; working = root-picture-form x; frozen = empty-nodes-form };
+        pictures-form = first-forms d x;
         first-named = refl;
         whole = record {
           inv = tt;

@@ -1,11 +1,12 @@
--- Every joined call, accepted or refused, keeps the invariant, if an accepted start is given a place then named. Assumes nothing.
+-- Every joined call, accepted or refused, keeps the invariant, if an accepted start is given a place then named; so it holds after any list. Assumes nothing.
 use Prim.Native.Nat.{ℕ}
 use mathlib.Core.Bool.{_&&_, _||_, Bool, false, false≢true, not, true}
+use mathlib.Core.List.{List, [], _∷_}
 use mathlib.Core.Logic.{_↔_}
 use mathlib.Core.Option.{some}
 use mathlib.Core.Path.{_∙_, _≡_, refl, subst, sym}
 use borrow.Author.Tests.{eqb-true}
-use Rattle.base.proofs.Tests.{split}
+use Rattle.base.proofs.Tests.{and-left, and-right, split}
 use Rattle.base.specs.Refusals.{answer}
 use Rattle.blockcache.proofs.Demand2.{store-allowed}
 use Rattle.blockcache.proofs.Kept.{cache-form-kept, inv-kept}
@@ -29,9 +30,10 @@ use Rattle.blocksystem.proofs.Accepting.{crash-answer, crash-next, disk
 use Rattle.blocksystem.proofs.EveryStep.{step-kept}
 use Rattle.blocksystem.proofs.Invariant.{Invariant, pictureMaps}
 use Rattle.blocksystem.proofs.KeepQueues.{keep-crash}
+use Rattle.blocksystem.proofs.PictureForms.{number-form}
 use Rattle.blocksystem.specs.Joined.{diskAsked, diskCall, joined, joinedAnswer}
 use Rattle.blocksystem.specs.Names.{names, picturesAfter}
-use Rattle.blocksystem.specs.Run.{acceptsStep, afterStep, JoinedCall, moved, startNamed, State, step, stepNamed}
+use Rattle.blocksystem.specs.Run.{acceptsStep, after, afterStep, JoinedCall, moved, startNamed, startsNamed, State, step, stepNamed}
 
 -- AN ACCEPTED STEP
 
@@ -78,7 +80,7 @@ module _ (d : ℕ) (q : Call) (o : Records) (s : State) (v : Invariant d s) wher
       let s' = cacheVars (cacheNext (s .cache) n q) in
       let inv = inv-kept d (s .cache) n q (v .whole .inv) (z .0) in
       let r = step-kept d q (cacheVars (s .cache)) s' (diskVars d (s .disk)) (diskVars d next) (s .pictures) (v .whole) (v .pictures-form) (v .first-named) inv (x .form .call .reference)
-      (x .form .call .node) (x .step) (subst (λ m. isCrash m ≡ false) is ne)
+      (x .step) (subst (λ m. isCrash m ≡ false) is ne)
       (record {
         cache = subst (λ y. StoreStep d (cacheVars (s .cache)) s' (callOp q) (q .vop) (q .reference) (q .node) y) one (to .2);
         disk = subst (λ m. Next (diskVars d (s .disk)) (diskVars d next) (dopOf (diskCall m q))) is (disk-allowed d (s .disk) c a);
@@ -92,7 +94,7 @@ module _ (d : ℕ) (q : Call) (o : Records) (s : State) (v : Invariant d s) wher
         made-device = v .made-device;
         cache-form = cache-form-kept d (s .cache) n q (z .0);
         disk-form = rw after (disk-form-kept d (s .disk) c a);
-        pictures-form = rw (x .is) (r .form);
+        pictures-form = number-form (s .pictures) (v .pictures-form) q (x .form .call .reference) (x .form .call .node) n;
         first-named = rw (x .is) (r .named);
         whole = rw (after, x .is) (rw (x .is) at (r .whole));
       }
@@ -136,3 +138,11 @@ module _ (d : ℕ) (s : State) (n : ℕ) (q : Call) (o : Records) (v : Invariant
 
 pub call-keeps : (d : ℕ) (s : State) (k : JoinedCall) → Invariant d s → startNamed d s k ≡ true → Invariant d (moved d s k)
 call-keeps d s (step n q o) v named = step-call-keeps d s n q o v named
+
+-- ANY LIST
+
+pub run-keeps : (d : ℕ) (calls : List JoinedCall) (s : State) → Invariant d s → startsNamed d s calls ≡ true → Invariant d (after d s calls)
+unfolding after startsNamed
+run-keeps d [] s v n = v
+run-keeps d (k ∷ ks) s v n =
+    run-keeps d ks (moved d s k) (call-keeps d s k v (and-left (startNamed d s k) (startsNamed d (moved d s k) ks) n)) (and-right (startNamed d s k) (startsNamed d (moved d s k) ks) n)

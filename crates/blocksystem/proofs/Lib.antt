@@ -7,6 +7,9 @@ pub mod KeepNodes
 pub mod KeepWrite
 pub mod KeepSteps
 pub mod Accepting
+pub mod PictureForms
+pub mod ScreenReads
+pub mod ScreenReady
 pub mod Tallies
 pub mod Counting
 pub mod Keep
@@ -19,6 +22,7 @@ pub mod Demand2
 pub mod LetGo
 pub mod FormattedInit
 pub mod Restart
+pub mod Screen
 pub mod WaitLaws
 pub mod NodeWait
 pub mod TableWait

@@ -1,8 +1,7 @@
--- NO WAIT IS FOR EVER: after any of demand 3's lists, each read that the cache awaits is queued, let go is accepted under its id, and then its page-in
+-- NO WAIT IS FOR EVER, from the invariant: each read that the cache awaits is queued, let go is accepted under its id, and then its page-in
 -- is accepted again. Assumes nothing.
 use Prim.Native.Nat.{_<_, ℕ}
 use mathlib.Core.Bool.{true}
-use mathlib.Core.List.{List}
 use mathlib.Core.Path.{_≡_, refl}
 use native.Mathlib.Omega.{arith}
 use borrow.Author.Tests.{le-leb}
@@ -15,17 +14,13 @@ use Rattle.blockdisk.specs.declared.Brought.the-variants.{Nothing}
 use Rattle.blockdisk.specs.declared.DiskOp.{DiskOp}
 use Rattle.blockdisk.specs.declared.DiskOp.the-variants.{ReqReadIndirectionTableOp, ReqReadNodeOp, RespReadIndirectionTableOp, RespReadNodeOp}
 use Rattle.blockdisk.specs.declared.Records.{Records}
-use Rattle.disklayout.specs.Device.{made}
 use Rattle.sectortype.proofs.Forms.{empty-table-form, zero-node-form}
 use Rattle.sectortype.specs.Form.{emptyTable, zeroNode}
-use Rattle.sectortype.specs.declared.Contents.{Contents}
-use Rattle.blocksystem.proofs.Demand3.{run-keeps}
-use Rattle.blocksystem.proofs.Formatted.{formatted-holds}
 use Rattle.blocksystem.proofs.Invariant.{Invariant}
 use Rattle.blocksystem.proofs.NodeWait.{let-go-node, node-freed, node-place, page-in-node}
 use Rattle.blocksystem.proofs.TableWait.{let-go-table, load-place, page-in-table, table-freed}
 use Rattle.blocksystem.proofs.WaitLaws.{accepts-of, node-reads-exact, table-reads-exact}
-use Rattle.blocksystem.specs.Run.{JoinedCall, State, acceptsStep, after, afterStep, start, startsNamed}
+use Rattle.blocksystem.specs.Run.{State, acceptsStep, afterStep}
 use Rattle.blocksystem.specs.Waits.{Asks, NoWaitForEver, locRead, placeRead, refRead}
 
 pub waits-end : (d : ℕ) (s : State) → Invariant d s → NoWaitForEver d s
@@ -48,10 +43,6 @@ waits-end d s v =
             again = λ q o a new fresh p u b. accepts-of d (afterStep d s 19 q o) 8 p u refl refl (page-in-table d s v id e q o a new fresh p u b);
           };
     }
-
--- after any list from a newly formatted device
-pub no-wait-for-ever : (d : ℕ) → made d ≡ true → (x : Contents) (calls : List JoinedCall) → startsNamed d (start d x) calls ≡ true → NoWaitForEver d (after d (start d x) calls)
-no-wait-for-ever d on x calls n = waits-end d (after d (start d x) calls) (run-keeps d calls (start d x) (formatted-holds d x on) n)
 
 -- CALLS OF THIS KIND: with neither node nor table, the page-in under the id that was let go
 

@@ -4,7 +4,9 @@ pub mod Audit
 pub mod Format
 pub mod Joined
 pub mod Names
+pub mod Promise
 pub mod Run
+pub mod Screen
 pub mod Start
 pub mod Upstream
 pub mod Waits

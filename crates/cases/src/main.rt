@@ -1,7 +1,8 @@
 // What no list of joined calls leads to, on states made by hand. Prints a line for each: `case=NAME answer=N` for a call of cache and
 // disk, where every N is document 01's or 02's, and `case=NAME lost=X added=Y altered=Z` for the counts of demand 3, which are 0 after every
-// list. Then nodes are compared, carried ones among them: `case=NAME equal=1` where the two are equal, else `equal=0`; and reads are
-// answered that cache and disk have, or only one of the two. (`forms` has the written forms that are broken.)
+// list. Then nodes are compared, carried ones among them: `case=NAME equal=1` where the two are equal, else `equal=0`; reads are answered
+// that cache and disk have, or only one of the two; and nodes are held against a working picture: `case=NAME picture=same` where it has that
+// node of the reference, else `picture=other`. (`forms` has the written forms that are broken.)
 mod audit_cases;
 mod cache_cases;
 mod changed;
@@ -10,6 +11,7 @@ mod disk_cases;
 mod joined_cases;
 mod letgo_cases;
 mod node_cases;
+mod screen_cases;
 
 fn main() {
     disk_cases::run();
@@ -19,4 +21,5 @@ fn main() {
     audit_cases::run();
     node_cases::run();
     letgo_cases::run();
+    screen_cases::run();
 }

@@ -12,7 +12,7 @@ fn compared(name: &[u8], a: Node, b: Node) {
 }
 
 // A list of two.
-fn list(first: u8, second: u8) -> Succs {
+pub(crate) fn list(first: u8, second: u8) -> Succs {
     let mut s = sector::zero_succs();
     let mut at = s.at;
     at[0] = first;

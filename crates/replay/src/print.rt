@@ -95,14 +95,26 @@ fn contents(c: Contents) {
     io::print_decimal(STDOUT_FILENO, c.low);
 }
 
-// What step 17 answers.
-pub fn read(line: u64, answer: u64, node: Node) {
+// Whether a node that was handed out is the working picture's.
+fn picture(same: bool) {
+    if same {
+        text(b" picture=same");
+    } else {
+        text(b" picture=other");
+    }
+}
+
+// What step 17 answers; an accepted one, whether the node is the working picture's too.
+pub fn read(line: u64, answer: u64, node: Node, same: bool) {
     word(b"line=", line);
     word(b" answer=", answer);
     text(b" contents=");
     contents(node.contents);
     text(b" succs=");
     list(node.succs);
+    if answer == 0 {
+        picture(same);
+    }
     text(b"\n");
 }
 

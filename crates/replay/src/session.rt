@@ -146,14 +146,15 @@ impl Session {
         let store = sequence.store;
         let o = store.step(number, call, offered);
         let answer = o.answer;
+        let before = sequence.pictures;
         if number == READ {
-            print::read(self.tally.lines, answer, o.node);
+            let same = system::is_pictured(before, call.reference, o.node);
+            print::read(self.tally.lines, answer, o.node, same);
         } else {
             print::answer(self.tally.lines, answer);
         }
         let mut next = self.counted(answer);
         if answer == 0 {
-            let before = sequence.pictures;
             let pictures = system::pictures_after(before, number, call);
             let after = moved(store.device, o, pictures);
             next.sequence = after;

@@ -3,6 +3,7 @@ mod formatting;
 mod joined;
 mod pictures;
 mod reading;
+mod screen;
 mod start;
 
 use blockcache::CacheState;
@@ -20,3 +21,4 @@ pub use formatting::format_pictures;
 pub use joined::CRASH;
 pub use joined::READ;
 pub use pictures::pictures_after;
+pub use screen::is_pictured;
