@@ -1,4 +1,4 @@
-# The picture's word on the line of a read (Q-9), where no start at a named place came before: a picture that lacks the reference, through each step that moves one.
+# The picture's word on the line of a read (Q-9): after a start at a named place, and after one at a place that isn't named, through each step that moves a picture.
 from parts.lines import *
 from parts.steps import paged,write
 
@@ -38,18 +38,18 @@ def two_areas():
     l('audit','place=%s %s'%(AREA1,OK))
 
 def not_named():
-    c(b'A start from area 2: the working picture is empty, and each read differs from it, also after it is dropped and read again.')
+    c(b'A start from area 2: the working picture is empty, and each read differs from it, also after the card is dropped from memory and read again.')
     start(AREA2)
     l('audit','place=%s lost=0 added=2 altered=0'%AREA2)
     unread(0)
     page(0,2); read(0,'6','1,0,1','other')
     page(1,1); read(1,'1.8','0,0','other')
     a('step=11 ref=1',0); unread(1); page(1,1); read(1,'1.8','0,0','other')
-    c(b'A Dirty enters its own reference, the same node too; the other stays out. A refused one enters nothing.')
+    c(b'A Dirty puts its own reference into the picture, even with the same node, and not the other; a refused one puts in nothing.')
     a('step=15 ref=1 v=AdvanceOp node=1.8:2',13); read(1,'1.8','0,0','other')
     a('step=15 v=AdvanceOp node=6:1,0,1',0)
     read(0,'6','1,0,1','same'); read(1,'1.8','0,0','other')
-    c(b'Written elsewhere, dropped and read again, it is in the picture still.')
+    c(b'Written elsewhere, dropped from memory and read again, it is in the picture still.')
     write(0,4,4)
     a('step=11',0); unread(0); page(0,4); read(0,'6','1,0,1','same')
 
@@ -71,9 +71,21 @@ def carried_over():
     a('step=16 ref=1 v=AdvanceOp node=8.1:0,0',0); read(1,'8.1','0,0','same')
     c(b'The reference decides, and no other word that is within the limits.')
     l('step=17 ref=1 node=9: table=5: d=ReqWriteNodeOp id=9 loc=9+9 v=CrashOp','answer=0 contents=8.1 succs=0,0 picture=same')
-    c(b'A new device forgets all that.')
-    paged(); read(0,'5','','same')
+
+def zeros():
+    c(b'A root of zeros. The old one, after a start at a place that is not named: an empty picture has no node, not one of zeros.')
+    a('format device=0 contents=0',0)
+    start(AREA1); page(0,0); read(0,'0','','same')
+    a('step=15 v=AdvanceOp node=1:',0); read(0,'1','','same')
+    write(0,1,1)
+    to_area(AREA2)
+    a('step=13 v=CleanUpOp',0)
+    a('step=18 v=CrashOp',0)
+    start(AREA1); page(0,0); read(0,'0','','other')
+    a('step=15 v=AdvanceOp node=0:',0); read(0,'0','','same')
+    c(b'On a new device the working picture holds the root alone.')
+    paged(); read(0,'5','','same'); unread(1)
     c(b'')
 
 def screen_rows():
-    two_areas(); not_named(); carried_over()
+    two_areas(); not_named(); carried_over(); zeros()

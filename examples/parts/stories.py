@@ -237,15 +237,15 @@ def letgo():
     x('Nothing is lost.','audit','place=%s %s'%(AREA1,OK))
 
 # THE SCREEN
-def screen():
-    def paged(what,ref,id,k):
-        xa(what+' is asked for ..','step=6 ref=%d d=ReqReadNodeOp id=%d loc=%s'%(ref,id,block(k)),0)
-        xa('.. and comes.','step=7 d=RespReadNodeOp id=%d node=stored'%id,0)
+def xpaged(what,ref,id,k):
+    xa(what+' is asked for ..','step=6 ref=%d d=ReqReadNodeOp id=%d loc=%s'%(ref,id,block(k)),0)
+    xa('.. and comes.','step=7 d=RespReadNodeOp id=%d node=stored'%id,0)
+def screen_named():
     xa('A new device; its root holds the number 100.','format device=0 contents=100',0)
     xa('The box is switched on.','step=10 v=SendPersistentLocOp vloc='+AREA1,0)
     xtable(AREA1)
-    x('8: nothing is in memory yet. What is not shown is compared with nothing.','step=17','answer=8 contents=0 succs=')
-    paged('The root',0,2,0)
+    x('8: nothing is in memory yet. A refused read shows nothing, so its line says nothing of the picture.','step=17','answer=8 contents=0 succs=')
+    xpaged('The root',0,2,0)
     x('The screen shows what it ought to show, the node of the working picture.','step=17','answer=0 contents=100 succs= picture=same')
     xa('A card comes in, 72, under reference 1.','step=16 ref=1 v=AdvanceOp node=72:',0)
     xa('The root lists it.','step=15 v=AdvanceOp node=101:1',0)
@@ -259,7 +259,7 @@ def screen():
     xa('.. and the other.','step=2 d=RespWriteNodeOp id=4',0)
     xa('The card is dropped from memory ..','step=11 ref=1',0)
     x('.. so that it cannot be shown.','step=17 ref=1','answer=8 contents=0 succs=')
-    paged('It',1,5,1)
+    xpaged('It',1,5,1)
     x('It comes back as it was.','step=17 ref=1','answer=0 contents=5.73 succs= picture=same')
     xa('The working picture is frozen ..','step=12 v=FreezeOp',0)
     xa('.. its table goes to area 2 ..','step=3 d=ReqWriteIndirectionTableOp id=6 loc=%s table=frozen'%AREA2,0)
@@ -270,13 +270,16 @@ def screen():
     xa('The lights go out.','step=18 v=CrashOp',0)
     xa('The next morning.','step=10 v=SendPersistentLocOp vloc='+AREA2,0)
     xtable(AREA2)
-    paged('The card',1,2,1)
+    xpaged('The card',1,2,1)
     x('The start has brought back the picture of its place, from before the last correction; the screen agrees with it.','step=17 ref=1','answer=0 contents=5.73 succs= picture=same')
+def screen_not_named():
     xa('The lights go out again.','step=18 v=CrashOp',0)
     xa('Area 1 has its old table still, though that place is not named any longer. A start there is taken, but nothing is promised of it.','step=10 v=SendPersistentLocOp vloc='+AREA1,0)
-    x('The place has no picture, so that what is stored there is not meant to be there.','audit','place=%s lost=0 added=1 altered=0'%AREA1)
+    x('The picture of that place is empty, so what is stored there counts as added.','audit','place=%s lost=0 added=1 altered=0'%AREA1)
     xtable(AREA1)
-    paged('The root',0,2,0)
-    x('Here is what the promise rules out: an old root on the screen. The working picture has none.','step=17','answer=0 contents=100 succs= picture=other')
+    xpaged('The root',0,2,0)
+    x('An old root on the screen, which cannot be after starts at named places: the working picture has none.','step=17','answer=0 contents=100 succs= picture=other')
     xa('A change of it enters the picture ..','step=15 v=AdvanceOp node=100:',0)
     x('.. which has it from now on.','step=17','answer=0 contents=100 succs= picture=same')
+def screen():
+    screen_named(); screen_not_named()

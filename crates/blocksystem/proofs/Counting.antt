@@ -3,34 +3,46 @@
 use Prim.Native.Nat.{_<_, _≤_, ℕ}
 use mathlib.Core.Bool.{Bool, _&&_, _||_, false, false≢true, not, true}
 use mathlib.Core.Logic.{_↔_}
-use mathlib.Core.Option.{none, some}
+use mathlib.Core.Option.{Option, none, some}
 use mathlib.Core.Path.{_∙_, _≡_, ap, refl, sym}
 use Rattle.base.proofs.Scan.{count-le, count-zero-iff}
-use Rattle.base.proofs.Tests.{and-iff, clash, none-iff, split}
+use Rattle.base.proofs.Tests.{clash, never, none-iff, split}
 use Rattle.base.specs.Maps.{isSome}
 use Rattle.base.specs.Scan.{countBelow}
 use Rattle.blockdisk.proofs.Reading.{node-read-iff, table-read-iff, upstream-some}
 use Rattle.blockdisk.specs.Records.{readTable}
-use Rattle.blockdisk.specs.Upstream.{diskVars, nodesStored, tablesStored}
+use Rattle.blockdisk.specs.Upstream.{Imap, diskVars, nodesStored, tablesStored}
 use Rattle.blockdisk.specs.declared.DiskState.{DiskState}
 use Rattle.blockdisk.specs.declared.NodeRecord.{NodeRecord}
 use Rattle.blockdisk.specs.declared.Records.{Records}
 use Rattle.blockdisk.specs.declared.TableRecord.{TableRecord}
 use Rattle.disklayout.specs.declared.Location.{Location}
 use Rattle.sectortype.proofs.Equal.{same-node-iff}
-use Rattle.sectortype.proofs.Maps.{in-locs, in-nodes, locs-at, locs-some, nodes-form-at, nodes-some}
+use Rattle.sectortype.proofs.Maps.{in-locs, in-nodes, locs-at, nodes-form-at, nodes-some}
 use Rattle.sectortype.specs.Abstract.{IndirectionTable, locsOf, nodesMap}
 use Rattle.sectortype.specs.Form.{entryAt, nodesForm, slotAt}
 use Rattle.sectortype.specs.Same.{sameNode}
-use Rattle.sectortype.specs.declared.Entry.{Entry}
 use Rattle.sectortype.specs.declared.Node.{Node}
 use Rattle.sectortype.specs.declared.Slot.{Slot}
 use Rattle.sectortype.specs.declared.Table.{Table}
 use Rattle.blocksystem.proofs.Invariant.{KeptOn}
-use Rattle.blocksystem.specs.Audit.{agrees, counted, isAdded, isAltered, isLost, noneCounted, onDisk}
+use Rattle.blocksystem.specs.Audit.{agrees, atEntry, counted, isAdded, isAltered, isLost, noneCounted, onDisk}
+use Rattle.blocksystem.specs.Upstream.{at}
 use Rattle.blocksystem.specs.declared.Named.{Named}
 
 -- READING
+
+-- what is read by an entry of a table is what upstream's disk has at the reference's location
+pub entry-read-iff : (d : ℕ) (r : Records) (t : Table) (k : ℕ) (n : Node) →
+    ((atEntry d r (entryAt t k) .present ≡ true) × (atEntry d r (entryAt t k) .node ≡ n)) ↔ (at (nodesStored d r) (locsOf t k) ≡ some n)
+entry-read-iff d r t k n =
+    split (entryAt t k .located)
+    (λ e. let h = node-read-iff d r (entryAt t k .loc) n in rw (e, locs-at t k e) ((λ x. h .1 x), (λ x. h .0 x)))
+    (λ e. rw (e, none-iff (locsOf t k) .0 (in-locs t k ∙ e)) ((λ x. absurd (false≢true (x .0))), (λ x. never x)))
+
+at-some : (nodes : Imap Node) (o : Option Location) {n : Node} → at nodes o ≡ some n → (l : Location) × (o ≡ some l)
+at-some nodes none e = never e
+at-some nodes (some l) e = (l, refl)
 
 -- the table stored at exactly the place l locates the reference k, and the node n is stored at exactly that location
 pub record StoredThrough (d : ℕ) (r : Records) (l : Location) (k : ℕ) (n : Node) : Type 0 where
@@ -44,26 +56,17 @@ module _ (d : ℕ) (r : Records) (l : Location) (k : ℕ) (n : Node) where
   abbrev read-table : TableRecord
   read-table = readTable d r l
 
-  abbrev entry : Entry
-  entry = entryAt (readTable d r l .table) k
-
   -- reading takes that node, and nothing else
   pub read-iff : ((onDisk d r l k .present ≡ true) × (onDisk d r l k .node ≡ n)) ↔ StoredThrough d r l k n
   read-iff = (
-    (λ h. split (read-table .present && entry .located)
-        (λ t. let a = and-iff (read-table .present) (entry .located) .0 t in
-        record {
-          table = read-table .table;
-          at-place = table-read-iff d r l (read-table .table) .1 (a .0, refl);
-          loc = entry .loc;
-          located = locs-at (read-table .table) k (a .1);
-          at-loc = node-read-iff d r (entry .loc) n .1 (rw t at h);
-        })
+    (λ h. split (read-table .present)
+        (λ t. let e = entry-read-iff d r (read-table .table) k n .0 (rw t at h) in
+        let m = at-some (nodesStored d r) (locsOf (read-table .table) k) e in
+        record { table = read-table .table; at-place = table-read-iff d r l (read-table .table) .1 (t, refl); loc = m .0; located = m .1; at-loc = rw (m .1) at e })
         (λ t. absurd (false≢true (rw t at (h .0))))),
     (λ s.
         let a = table-read-iff d r l (s .table) .0 (s .at-place) in
-        let b = locs-some (s .table) k (s .located) in
-        rw (a .0, a .1, b .0, b .1) (node-read-iff d r (s .loc) n .0 (s .at-loc))),
+        rw (a .0, a .1) (entry-read-iff d r (s .table) k n .1 (rw (s .located) (s .at-loc)))),
   )
 
 -- COUNTING

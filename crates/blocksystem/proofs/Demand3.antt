@@ -12,6 +12,7 @@ use Rattle.blocksystem.proofs.Counting.{none-counted}
 use Rattle.blocksystem.proofs.Formatted.{formatted-holds}
 use Rattle.blocksystem.proofs.Invariant.{Invariant}
 use Rattle.blocksystem.proofs.Keep.{run-keeps}
+use Rattle.blocksystem.proofs.Restart.{named-whole}
 use Rattle.blocksystem.proofs.Screen.{none-differ, ready-shown}
 use Rattle.blocksystem.proofs.Waits.{waits-end}
 use Rattle.blocksystem.specs.Promise.{Promised}
@@ -33,6 +34,7 @@ nothing-lost d on x calls n =
       answered = all-answered d calls s;
       kept = holds-nothing-lost d (after d s calls) v;
       named = v .first-named;
+      whole = named-whole d (after d s calls) v;
       reads = none-differ d calls s at-first n;
       shown = ready-shown d (after d s calls) v;
       waits = waits-end d (after d s calls) v;

@@ -1,4 +1,5 @@
--- The theory of the joined store: demand 2 for the joined call, and demand 3.
+-- The theory of the joined store: demand 2 for the joined call, and demand 3 with all else that is promised of a list.
+pub mod After
 pub mod Invariant
 pub mod Laws
 pub mod KeepQueues
@@ -15,7 +16,6 @@ pub mod Counting
 pub mod Keep
 pub mod Answering
 pub mod Formatted
-pub mod Demand3
 pub mod EveryStep
 pub mod Starting
 pub mod Demand2
@@ -27,3 +27,4 @@ pub mod WaitLaws
 pub mod NodeWait
 pub mod TableWait
 pub mod Waits
+pub mod Demand3

@@ -20,7 +20,7 @@ use Rattle.sectortype.specs.declared.Nodes.{Nodes}
 use Rattle.blocksystem.proofs.Accepting.{joined-zero}
 use Rattle.blocksystem.proofs.Invariant.{PicturesForm}
 use Rattle.blocksystem.specs.Joined.{joined, joinedAnswer}
-use Rattle.blocksystem.specs.Names.{names, pictureOf, picturesAfter, picturesOf, stepPictures, withWorking}
+use Rattle.blocksystem.specs.Names.{names, nodePictured, pictureOf, picturesAfter, picturesOf, stepPictures, withWorking}
 use Rattle.blocksystem.specs.Run.{JoinedCall, State, acceptsStep, afterStep, moved, step}
 use Rattle.blocksystem.specs.declared.Pictures.{Pictures}
 
@@ -34,7 +34,7 @@ module _ (t : Pictures) (f : PicturesForm t) where
   with-working-form m h = record { first = f .first; second = f .second; working = h; frozen = f .frozen }
 
   module _ (q : Call) (bound : q .reference < 64) (formed : nodeForm (q .node) ≡ true) where
-    set-form : PicturesForm (withWorking t (withSlot (t .working) (q .reference) (cachedSlot (q .node))))
+    set-form : PicturesForm (nodePictured q t)
     set-form =
         with-working-form (withSlot (t .working) (q .reference) (cachedSlot (q .node)))
         (with-slot-form (t .working) (q .reference) (cachedSlot (q .node)) (f .working) bound (and-both formed refl))
@@ -72,7 +72,7 @@ module _ (t : Pictures) (f : PicturesForm t) where
 
 -- A CALL, whatever the state: an accepted one is within the limits
 
-pub step-call-form : (d : ℕ) (s : State) (n : ℕ) (q : Call) (o : Records) → PicturesForm (s .pictures) → PicturesForm (afterStep d s n q o .pictures)
+step-call-form : (d : ℕ) (s : State) (n : ℕ) (q : Call) (o : Records) → PicturesForm (s .pictures) → PicturesForm (afterStep d s n q o .pictures)
 unfolding joined
 step-call-form d s n q o f =
     split (acceptsStep d s n q o)

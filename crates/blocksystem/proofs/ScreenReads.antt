@@ -7,7 +7,7 @@ use mathlib.Core.Logic.{_↔_}
 use mathlib.Core.Option.{some}
 use mathlib.Core.Path.{_∙_, _≡_, ap, refl, subst, sym}
 use native.Mathlib.Omega.{arith}
-use borrow.Author.Tests.{eqb-true}
+use borrow.Author.Tests.{eq-eqb, eqb-true}
 use lib.ListN.{List·getD-eq-default, length}
 use Rattle.base.proofs.Tests.{and-iff, clash, split}
 use Rattle.base.specs.Scan.{bit}
@@ -97,41 +97,41 @@ module _ (d : ℕ) (s : State) (q : Call) (o : Records) where
 abbrev pub EveryReadPictured : ℕ → State → List JoinedCall → Type 0
 EveryReadPictured d s calls =
     (front back : List JoinedCall) (q : Call) (o : Records) → calls ≡ front ++ (step 17 q o ∷ back) →
-    acceptsStep d (after d s front) 17 q o ≡ true → HandsOutPictured d (after d s front) q o
+    asked d (after d s front) 17 q o .answer ≡ 0 → HandsOutPictured d (after d s front) q o
 
 pub sum-zero : (b : Bool) (n : ℕ) → (bit b + n ≡ 0) ↔ ((b ≡ false) × (n ≡ 0))
 sum-zero true n = ((λ e. absurd (let h = e in omega arith)), (λ h. clash refl (h .0)))
 sum-zero false n = ((λ e. (refl, let h = e in omega arith)), (λ h. let z = h .1 in omega arith))
 
 at-cut : (d : ℕ) (front back : List JoinedCall) (q : Call) (o : Records) (s : State) → PicturesForm (s .pictures) → readsDiffering d s (front ++ (step 17 q o ∷ back)) ≡ 0 →
-    acceptsStep d (after d s front) 17 q o ≡ true → HandsOutPictured d (after d s front) q o
+    asked d (after d s front) 17 q o .answer ≡ 0 → HandsOutPictured d (after d s front) q o
 unfolding after readsDiffering
 at-cut d [] back q o s f z t =
-    same-iff d s q o f t .0 (sum-zero (stepDiffers d s 17 q o) (readsDiffering d (moved d s (step 17 q o)) back) .0 z .0)
+    same-iff d s q o f (eq-eqb _ _ t) .0 (sum-zero (stepDiffers d s 17 q o) (readsDiffering d (moved d s (step 17 q o)) back) .0 z .0)
 at-cut d (k ∷ ks) back q o s f z t =
     at-cut d ks back q o (moved d s k) (call-form d s k f) (sum-zero (differs d s k) (readsDiffering d (moved d s k) (ks ++ (step 17 q o ∷ back))) .0 z .1) t
 
 -- a call is not counted, if it is no read or hands out the picture's node where it is accepted
 pub not-counted : (d : ℕ) (s : State) (k : JoinedCall) → PicturesForm (s .pictures) →
-    ((q : Call) (o : Records) → k ≡ step 17 q o → acceptsStep d s 17 q o ≡ true → HandsOutPictured d s q o) → differs d s k ≡ false
+    ((q : Call) (o : Records) → k ≡ step 17 q o → asked d s 17 q o .answer ≡ 0 → HandsOutPictured d s q o) → differs d s k ≡ false
 not-counted d s (step n q o) f h =
     split (isRead n)
     (λ r. let e : n ≡ 17 = eqb-true n 17 r in
-    rw e (split (acceptsStep d s 17 q o) (λ t. same-iff d s q o f t .1 (h q o (ap (λ m. step m q o) e) t)) (λ t. rw t)))
+    rw e (split (acceptsStep d s 17 q o) (λ t. same-iff d s q o f t .1 (h q o (ap (λ m. step m q o) e) (eqb-true _ _ t))) (λ t. rw t)))
     (λ r. split (acceptsStep d s n q o) (λ t. rw (t, r)) (λ t. rw t))
 
-none-counted : (d : ℕ) (calls : List JoinedCall) (s : State) → PicturesForm (s .pictures) → EveryReadPictured d s calls → readsDiffering d s calls ≡ 0
+all-same : (d : ℕ) (calls : List JoinedCall) (s : State) → PicturesForm (s .pictures) → EveryReadPictured d s calls → readsDiffering d s calls ≡ 0
 unfolding after readsDiffering
-none-counted d [] s f h = refl
-none-counted d (k ∷ ks) s f h =
+all-same d [] s f h = refl
+all-same d (k ∷ ks) s f h =
     sum-zero (differs d s k) (readsDiffering d (moved d s k) ks) .1 (
       not-counted d s k f (λ q o e. h [] ks q o (ap (λ j. j ∷ ks) e)),
-      none-counted d ks (moved d s k) (call-form d s k f) (λ front back q o e. h (k ∷ front) back q o (ap (λ l. k ∷ l) e)),
+      all-same d ks (moved d s k) (call-form d s k f) (λ front back q o e. h (k ∷ front) back q o (ap (λ l. k ∷ l) e)),
     )
 
 -- what it is for the count to be 0, from any state whose pictures are in their form ..
 pub reads-iff : (d : ℕ) (s : State) (calls : List JoinedCall) → PicturesForm (s .pictures) → (readsDiffering d s calls ≡ 0) ↔ EveryReadPictured d s calls
-reads-iff d s calls f = ((λ z front back q o e. at-cut d front back q o s f (subst (λ l. readsDiffering d s l ≡ 0) e z)), (λ h. none-counted d calls s f h))
+reads-iff d s calls f = ((λ z front back q o e. at-cut d front back q o s f (subst (λ l. readsDiffering d s l ≡ 0) e z)), (λ h. all-same d calls s f h))
 
 -- .. so from a newly formatted device, along any list, whatever place its starts are given
 pub run-reads-iff : (d : ℕ) (x : Contents) (calls : List JoinedCall) → (readsDiffering d (start d x) calls ≡ 0) ↔ EveryReadPictured d (start d x) calls

@@ -1,10 +1,10 @@
 -- What is said of the cache in Ready, in upstream's variables: of each reference of the ephemeral graph. Assumes nothing.
 use Prim.Native.Nat.{ℕ}
-use mathlib.Core.Bool.{false≢true, true}
+use mathlib.Core.Bool.{true}
 use mathlib.Core.Logic.{_↔_, _⊎_, inl, inr, ⊎-elim}
 use mathlib.Core.Option.{Option, some}
 use mathlib.Core.Path.{_∙_, _≡_, ap, refl, subst, sym}
-use Rattle.base.proofs.Tests.{and-both, and-iff, never, none-iff, or-cases, or-inl, or-inr, some-iff, split}
+use Rattle.base.proofs.Tests.{and-both, and-iff, or-cases, or-inl, or-inr, some-iff}
 use Rattle.base.specs.Maps.{Map, isSome}
 use Rattle.blockcache.proofs.Forms.{cache-form-iff}
 use Rattle.blockcache.proofs.OpKinds.{on-ready-iff, ready-is}
@@ -12,14 +12,15 @@ use Rattle.blockcache.specs.Abstract.{cacheVars, readyVars}
 use Rattle.blockcache.specs.Form.{cacheForm}
 use Rattle.blockcache.specs.Upstream.{In, Ready, ready}
 use Rattle.blockdisk.proofs.Forms.{disk-form-iff}
-use Rattle.blockdisk.proofs.Reading.{node-read-iff, stored-node-form}
+use Rattle.blockdisk.proofs.Reading.{stored-node-form}
 use Rattle.blockdisk.specs.Form.{diskForm}
 use Rattle.blockdisk.specs.Upstream.{Imap, diskVars}
 use Rattle.disklayout.specs.declared.Location.{Location}
-use Rattle.sectortype.proofs.Maps.{in-graph, in-locs, in-nodes, locs-at, locs-some, nodes-at, nodes-form-at, nodes-some}
+use Rattle.sectortype.proofs.Maps.{in-graph, in-nodes, locs-at, locs-some, nodes-at, nodes-form-at, nodes-some}
 use Rattle.sectortype.specs.Abstract.{locsOf, nodesMap}
 use Rattle.sectortype.specs.Form.{nodesForm}
 use Rattle.sectortype.specs.declared.Node.{Node}
+use Rattle.blocksystem.proofs.Counting.{entry-read-iff}
 use Rattle.blocksystem.proofs.Invariant.{StoredPictured}
 use Rattle.blocksystem.proofs.ScreenReads.{pictured-iff}
 use Rattle.blocksystem.specs.Run.{State}
@@ -56,10 +57,7 @@ module _ (d : ℕ) (s : State) (cache-form : cacheForm (s .cache) ≡ true) (dis
 
   -- the record looked at is what the disk has at the ephemeral location
   record-iff : (n : Node) → ((storedRecord d s ref .present ≡ true) × (storedRecord d s ref .node ≡ n)) ↔ (at nodes (locs ref) ≡ some n)
-  record-iff n =
-      split (ephemeralEntry s ref .located)
-      (λ t. let r = node-read-iff d (s .disk .records) (ephemeralEntry s ref .loc) n in rw (t, locs-at (s .cache .tables .ephemeral) ref t) ((λ h. r .1 h), (λ e. r .0 e)))
-      (λ t. rw (t, none-iff (locs ref) .0 (in-locs (s .cache .tables .ephemeral) ref ∙ t)) ((λ h. absurd (false≢true (h .0))), (λ e. never e)))
+  record-iff n = entry-read-iff d (s .disk .records) (s .cache .tables .ephemeral) ref n
 
   shown-there : Shown d s ref → ShownOf (nodesMap (s .cache .nodes) ref) (locs ref) nodes (nodesMap (s .pictures .working) ref)
   shown-there h =

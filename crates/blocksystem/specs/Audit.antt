@@ -14,9 +14,13 @@ use Rattle.sectortype.specs.declared.Slot.{Slot}
 use Rattle.blocksystem.specs.declared.Counts.{Counts}
 use Rattle.blocksystem.specs.declared.Named.{Named}
 
--- a reference's node on the disk, through the table read at a place: what is stored at exactly its location; else nothing
+-- the node on the disk by a table's entry: what is stored at exactly its location; nothing where it has none
+abbrev pub atEntry : ℕ → Records → Entry → NodeRecord
+atEntry d r e = cond (e .located) (readNode d r (e .loc)) zeroNodeRecord
+
+-- through the table read at a place; nothing where none is stored there
 abbrev pub throughTable : ℕ → Records → TableRecord → Entry → NodeRecord
-throughTable d r x e = cond (x .present && e .located) (readNode d r (e .loc)) zeroNodeRecord
+throughTable d r x e = cond (x .present) (atEntry d r e) zeroNodeRecord
 
 -- reference k read through the table stored at exactly the place l
 abbrev pub onDisk : ℕ → Records → Location → ℕ → NodeRecord

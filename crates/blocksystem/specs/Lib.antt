@@ -1,4 +1,4 @@
--- What the joined calls' contracts cite, the run that demand 3 speaks of, and upstream's BlockSystem.
+-- What the joined calls' contracts cite, the run that demand 3 speaks of and all that is promised of it, and upstream's BlockSystem.
 pub mod Allowed
 pub mod Audit
 pub mod Format

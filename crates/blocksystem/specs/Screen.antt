@@ -1,14 +1,13 @@
 -- What a member sees on the screen (document 02, Q-9), along the run that demand 3 speaks of: the accepted reads, and the cache in Ready, against the
 -- working picture.
 use Prim.Native.Nat.{_+_, ℕ}
-use mathlib.Core.Bool.{Bool, _&&_, _||_, cond, not, true}
+use mathlib.Core.Bool.{Bool, _&&_, _||_, not, true}
 use mathlib.Core.List.{List, [], _∷_}
 use mathlib.Core.Path.{_≡_}
 use Rattle.base.specs.Scan.{bit}
 use Rattle.blockcache.specs.Form.{isReady}
 use Rattle.blockcache.specs.Steps.{isRead}
 use Rattle.blockcache.specs.declared.Call.{Call}
-use Rattle.blockdisk.specs.Records.{readNode, zeroNodeRecord}
 use Rattle.blockdisk.specs.declared.NodeRecord.{NodeRecord}
 use Rattle.blockdisk.specs.declared.Records.{Records}
 use Rattle.sectortype.specs.Form.{entryAt, slotAt}
@@ -17,6 +16,7 @@ use Rattle.sectortype.specs.declared.Entry.{Entry}
 use Rattle.sectortype.specs.declared.Node.{Node}
 use Rattle.sectortype.specs.declared.Nodes.{Nodes}
 use Rattle.sectortype.specs.declared.Slot.{Slot}
+use Rattle.blocksystem.specs.Audit.{atEntry}
 use Rattle.blocksystem.specs.Run.{JoinedCall, State, acceptsStep, asked, moved, step}
 
 -- the node is the one that the picture has of this reference, high, low and list; never where the picture has none
@@ -51,7 +51,7 @@ module _ (s : State) (ref : ℕ) where
 module _ (d : ℕ) (s : State) (ref : ℕ) where
   -- what the disk has at exactly its ephemeral location; an older node in another block is not meant
   abbrev pub storedRecord : NodeRecord
-  storedRecord = cond (ephemeralEntry s ref .located) (readNode d (s .disk .records) (ephemeralEntry s ref .loc)) zeroNodeRecord
+  storedRecord = atEntry d (s .disk .records) (ephemeralEntry s ref)
 
   pub record Shown : Type 0 where
     -- it is cached, or stored on the disk at its ephemeral location

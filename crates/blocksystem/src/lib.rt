@@ -1,5 +1,5 @@
-// Upstream's BlockSystem as definitions: formatting, the joined call, names and pictures, what is lost, and the theorems of demands 2
-// and 3. No code: `system` has the calls.
+// Upstream's BlockSystem as definitions: formatting, the joined call, names and pictures, what is lost, what is shown, and the theorems of
+// demands 2 and 3. No code: `system` has the calls.
 use blockcache::CacheState;
 use blockdisk::DiskState;
 use disklayout::Location;

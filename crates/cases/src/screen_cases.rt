@@ -1,6 +1,6 @@
-// A node that is held against the working picture. After a list of joined calls with starts at named places an accepted read hands out no other node than
-// that, so pictures are made by hand here. The picture's reference k has contents 100 + k, high 0, and lists nothing. The words follow from document 02, Q-9: same
-// where the picture has that reference with this node, high, low and list in its order, else other.
+// A node compared with the working picture's. After a list of joined calls with starts at named places an accepted read hands out no other node than the picture's,
+// so pictures are made by hand here. The picture's reference k has contents 100 + k, high 0, and lists nothing, where a case doesn't say otherwise. The words follow
+// from document 02, Q-9: same where the picture has that reference with this node, high, low and list in its order, else other.
 use crate::node_cases::list;
 use blocksystem::Pictures;
 use fixtures::high_leaf;
@@ -46,7 +46,12 @@ fn numbers() {
     shown(b"the_node_of_another_reference", m, 62, leaf(163));
     last(b"reference_63_as_in_the_picture", leaf(163));
     last(b"reference_63_with_another_low", leaf(162));
+    last(b"reference_63_with_a_low_that_ends_alike", leaf(4294967459));
     last(b"reference_63_with_another_high", high_leaf(1, 163));
+    last(
+        b"reference_63_with_a_high_of_one_bit",
+        high_leaf(9223372036854775808, 163),
+    );
     last(
         b"reference_63_with_high_and_low_exchanged",
         high_leaf(163, 0),
@@ -55,14 +60,30 @@ fn numbers() {
     last(b"reference_63_with_a_list", listing(163, 2));
 }
 
-// A node that lists 3 and then 0, as far as `count` goes, at most two.
+// The picture with this node of this reference.
+fn having(reference: usize, node: Node) -> Nodes {
+    let slot = Slot {
+        present: true,
+        node,
+    };
+    sector::with_slot(all(), reference, slot)
+}
+
+// The picture's reference 7 has high 5 and low 73, its reference 8 zeros.
+fn highs() {
+    let m = having(7, high_leaf(5, 73));
+    let zero = sector::zero_node();
+    let n = having(8, zero);
+    shown(b"high_and_low_as_in_the_picture", m, 7, high_leaf(5, 73));
+    shown(b"low_alone", m, 7, leaf(73));
+    shown(b"low_with_another_high", m, 7, high_leaf(6, 73));
+    shown(b"zeros_that_the_picture_has", n, 8, zero);
+    shown(b"a_low_where_the_picture_has_zeros", n, 8, leaf(1));
+}
+
+// A node that lists 3 and then 0: of these the first `count`, at most two. The list of one differs from it in the count alone.
 fn listing(contents: u64, count: u8) -> Node {
     let mut succs = list(3, 0);
-    let mut at = succs.at;
-    if count < 2 {
-        at[1] = 0;
-    }
-    succs.at = at;
     succs.count = count;
     let mut node = leaf(contents);
     node.succs = succs;
@@ -72,11 +93,7 @@ fn listing(contents: u64, count: u8) -> Node {
 // The picture's reference 5 lists 3 and 0. Other lists of the same set, in another order and with a repeat, are other nodes.
 fn lists() {
     let node = listing(105, 2);
-    let slot = Slot {
-        present: true,
-        node,
-    };
-    let m = sector::with_slot(all(), 5, slot);
+    let m = having(5, node);
     let mut turned = node;
     turned.succs = list(0, 3);
     let mut repeated = node;
@@ -90,6 +107,23 @@ fn lists() {
     shown(b"the_list_with_a_repeat", m, 5, repeated);
     shown(b"a_part_of_the_list", m, 5, listing(105, 1));
     shown(b"no_list", m, 5, less);
+    shown(b"the_list_with_other_contents", m, 5, listing(104, 2));
+}
+
+// A node that lists eight references, the last of them this one.
+fn eight(reference: u8) -> Node {
+    let mut node = leaf(106);
+    let mut succs = node.succs;
+    succs.at = [1, 2, 3, 4, 5, 6, 7, reference];
+    succs.count = 8;
+    node.succs = succs;
+    node
+}
+
+fn long_lists() {
+    let m = having(6, eight(8));
+    shown(b"a_list_of_eight_as_in_the_picture", m, 6, eight(8));
+    shown(b"a_list_of_eight_with_another_eighth", m, 6, eight(9));
 }
 
 // The picture lacks 63; of what it lacks the struct holds a node of zeros, or, where it is not in its written form, another.
@@ -132,23 +166,35 @@ fn above() {
     );
 }
 
+// These as the working picture; every other picture has the others.
+fn among(m: Nodes, others: Nodes) -> Pictures {
+    let mut t = working(m);
+    let mut first = t.first;
+    first.picture = others;
+    t.first = first;
+    t.second = first;
+    t.frozen = others;
+    t
+}
+
 // Only the working picture is looked at.
 fn other_pictures() {
     let none = sector::empty_nodes();
-    let m = all();
-    let mut t = working(none);
-    let mut first = t.first;
-    first.picture = m;
-    t.first = first;
-    t.second = first;
-    t.frozen = m;
-    let same = system::is_pictured(t, 0, leaf(100));
+    let without = among(none, all());
+    let apart = among(all(), picture_of(0, 64, 200));
+    let same = system::is_pictured(without, 0, leaf(100));
     picture(b"a_node_of_every_picture_but_the_working_one", same);
+    let same = system::is_pictured(apart, 0, leaf(100));
+    picture(b"a_node_of_the_working_picture_alone", same);
+    let same = system::is_pictured(apart, 0, leaf(200));
+    picture(b"another_node_of_every_other_picture", same);
 }
 
 pub(crate) fn run() {
     numbers();
+    highs();
     lists();
+    long_lists();
     lacking();
     above();
     other_pictures();

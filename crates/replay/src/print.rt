@@ -104,7 +104,7 @@ fn picture(same: bool) {
     }
 }
 
-// What step 17 answers; an accepted one, whether the node is the working picture's too.
+// What step 17 answers, and of an accepted one whether the node is the working picture's.
 pub fn read(line: u64, answer: u64, node: Node, same: bool) {
     word(b"line=", line);
     word(b" answer=", answer);

@@ -1,4 +1,5 @@
-// Cache and disk joined: formatting, the joined call, names and pictures, and what a crash has lost, as `blocksystem` defines them.
+// Cache and disk joined: formatting, the joined call, names and pictures, what a crash has lost and what is shown, as `blocksystem` defines
+// them.
 mod formatting;
 mod joined;
 mod pictures;

@@ -5,7 +5,8 @@ use blocksystem::Pictures;
 use sectortype::Node;
 use sectortype::Nodes;
 
-// Whether the picture has this node of the reference. A function of its own, as that a picture has 64 places is plain where nothing but a picture is given.
+// Whether the picture has this node of the reference. A function of its own: its proof needs that a picture has 64 places, which is at hand where the
+// picture alone is an argument.
 fn has_node(picture: Nodes, reference: u64, node: Node) -> bool
     ensures { λ b. ⌜ b ≡ isPictured picture reference node ⌝ }
 {
@@ -18,8 +19,8 @@ fn has_node(picture: Nodes, reference: u64, node: Node) -> bool
     slot.present & same
 }
 
-// Whether the node is the one that the working picture has of this reference, high, low and list. No where the picture has none, so for each
-// reference above 63 too.
+// Whether the node is the one that the working picture has of this reference, high, low and list. It says no where the picture has none, and
+// so for each reference above 63.
 pub fn is_pictured(t: Pictures, reference: u64, node: Node) -> bool
     ensures { λ b. ⌜ b ≡ isPictured (t .working) reference node ⌝ }
 {
