@@ -9,6 +9,10 @@ M='18446744073709551615'
 AREA1,AREA2='73728+4096','139264+4096'
 def block(k): return '%d+4096'%(262144+65536*k)
 def dots(s): return 'blocks='+s+'.'*(128-len(s))
+def start(area):
+    a('step=10 v=SendPersistentLocOp vloc='+area,0)
+    a('step=8 d=ReqReadIndirectionTableOp id=1 loc='+area,0)
+    a('step=9 d=RespReadIndirectionTableOp id=1 table=stored',0)
 def p(device,place,kind,answer=0): l('place device=%d loc=%s'%(device,place),'answer=%d kind=%s'%(answer,kind))
 
 # an example: its first line, and a script of which each line has a comment above it

@@ -3,9 +3,7 @@ from parts.lines import *
 
 def load():
     a('format device=0 contents=5',0)
-    a('step=10 v=SendPersistentLocOp vloc=73728+4096',0)
-    a('step=8 d=ReqReadIndirectionTableOp id=1 loc=73728+4096',0)
-    a('step=9 d=RespReadIndirectionTableOp id=1 table=stored',0)
+    start(AREA1)
 
 def before_format():
     c(b'Nothing but format and place is taken before the first accepted one.')
@@ -128,10 +126,6 @@ def life():
 def last_blocks():
     FIRST,B126,B127,END,AREA1,AREA2='4194304','136314880','137363456','138412032','1056768+4096','2105344+4096'
     def show(cached,writes,row): l('show','phase=Ready allocated=1 cached=%d writes=%d reads=0'%(cached,writes),'blocks='+row)
-    def start(area):
-        a('step=10 v=SendPersistentLocOp vloc='+area,0)
-        a('step=8 d=ReqReadIndirectionTableOp id=1 loc='+area,0)
-        a('step=9 d=RespReadIndirectionTableOp id=1 table=stored',0)
     c(b'The last blocks of device 2. The root goes to block 127, frozen from there, then to block 126.')
     a('format device=2 contents=5',0)
     start(AREA1)

@@ -2,10 +2,6 @@
 from parts.lines import *
 from parts.steps import paged,write
 
-def start(area):
-    a('step=10 v=SendPersistentLocOp vloc='+area,0)
-    a('step=8 d=ReqReadIndirectionTableOp id=1 loc='+area,0)
-    a('step=9 d=RespReadIndirectionTableOp id=1 table=stored',0)
 def page(ref,k):
     a('step=6 ref=%d d=ReqReadNodeOp id=2 loc=%s'%(ref,block(k)),0)
     a('step=7 d=RespReadNodeOp id=2 node=stored',0)
@@ -83,7 +79,7 @@ def zeros():
     a('step=18 v=CrashOp',0)
     start(AREA1); page(0,0); read(0,'0','','other')
     a('step=15 v=AdvanceOp node=0:',0); read(0,'0','','same')
-    c(b'On a new device the working picture holds the root alone.')
+    c(b'On a new device the root is in the working picture, and no card is there.')
     paged(); read(0,'5','','same'); unread(1)
     c(b'')
 

@@ -1,6 +1,7 @@
 -- DEMAND 3, and all else that is promised of a list: along every list of joined calls, crashes between any two included, from a newly formatted device,
--- each call is answered as documents 01 and 02 fix, no accepted read differs from the working picture, and afterwards no reference is lost, added or
--- altered at a named place, the cache in Ready agrees with the working picture, and no wait is for ever. Assumes nothing.
+-- each call is answered as documents 01 and 02 fix, no accepted read differs from the working picture, and afterwards a place is named, no reference is
+-- lost, added or altered at a named place, no start there is refused with 20, the cache in Ready agrees with the working picture, and no wait is for ever.
+-- Assumes nothing.
 use Prim.Native.Nat.{ℕ}
 use mathlib.Core.Bool.{true}
 use mathlib.Core.List.{List}
@@ -12,7 +13,7 @@ use Rattle.blocksystem.proofs.Counting.{none-counted}
 use Rattle.blocksystem.proofs.Formatted.{formatted-holds}
 use Rattle.blocksystem.proofs.Invariant.{Invariant}
 use Rattle.blocksystem.proofs.Keep.{run-keeps}
-use Rattle.blocksystem.proofs.Restart.{named-whole}
+use Rattle.blocksystem.proofs.Restart.{starts-whole}
 use Rattle.blocksystem.proofs.Screen.{none-differ, ready-shown}
 use Rattle.blocksystem.proofs.Waits.{waits-end}
 use Rattle.blocksystem.specs.Promise.{Promised}
@@ -34,7 +35,7 @@ nothing-lost d on x calls n =
       answered = all-answered d calls s;
       kept = holds-nothing-lost d (after d s calls) v;
       named = v .first-named;
-      whole = named-whole d (after d s calls) v;
+      starts = starts-whole d (after d s calls) v;
       reads = none-differ d calls s at-first n;
       shown = ready-shown d (after d s calls) v;
       waits = waits-end d (after d s calls) v;

@@ -1,14 +1,14 @@
 -- What is shown step by step of the joined call: one split over the steps for each of these laws, written once and used by the theorems. Assumes
 -- nothing.
 use Prim.Native.Nat.{_<_, ℕ}
-use mathlib.Core.Bool.{_||_, false, true}
+use mathlib.Core.Bool.{false, true}
 use mathlib.Core.Logic.{inl, inr, ⊎-elim}
 use mathlib.Core.Option.{none, Option, some}
 use mathlib.Core.Path.{_∙_, _≡_, ap, refl, subst, sym}
 use borrow.Author.Tests.{eq-eqb, eqb-false}
 use lib.Dec.{eqb}
 use Rattle.base.proofs.Maps.{flagged-some}
-use Rattle.base.proofs.Tests.{and-iff, clash, split}
+use Rattle.base.proofs.Tests.{and-both, and-iff, clash, split}
 use Rattle.base.specs.Maps.{put}
 use Rattle.blockcache.proofs.Numbers.{step-of-number}
 use Rattle.blockcache.specs.Abstract.{callOp}
@@ -34,18 +34,20 @@ use Rattle.blocksystem.proofs.KeepSteps.{page-in-table-req-kept, page-i
 use Rattle.blocksystem.proofs.KeepSteps.{write-back-node-resp-kept, write-back-table-req-kept, write-back-table-resp-kept}
 use Rattle.blocksystem.specs.Allowed.{joinedOp, joinedVop}
 use Rattle.blocksystem.specs.Joined.{diskCall}
-use Rattle.blocksystem.specs.Names.{names, picturesAfter, picturesOf, startedAt, stepPictures}
+use Rattle.blocksystem.specs.Names.{isNamed, names, nodePictured, pictureOf, picturesAfter, picturesOf, startedAt, stepPictures, withWorking}
 use Rattle.blocksystem.specs.declared.Pictures.{Pictures}
 use Rattle.disklayout.specs.declared.Location.{Location}
 use Rattle.disklayout.proofs.Facts.{same-loc-iff}
+use Rattle.sectortype.proofs.Forms.{empty-nodes-form, with-slot-form, zero-slot-form}
 use Rattle.sectortype.proofs.Maps.{nodes-del, nodes-put}
 use Rattle.sectortype.specs.Abstract.{nodesMap}
-use Rattle.sectortype.specs.Form.{emptyNodes, withSlot, zeroSlot}
+use Rattle.sectortype.specs.Form.{emptyNodes, nodeForm, nodesForm, withSlot, zeroSlot}
 use Rattle.disklayout.specs.Layout.{sameLoc}
+use Rattle.sectortype.specs.declared.Nodes.{Nodes}
 
 -- A START AT A NAMED PLACE
 
-pub started : (t : Pictures) (l : Location) → (names (t .first) l || names (t .second) l) ≡ true → Started (pictureMaps t) (pictureMaps (startedAt t l)) l
+pub started : (t : Pictures) (l : Location) → isNamed t l ≡ true → Started (pictureMaps t) (pictureMaps (startedAt t l)) l
 started t l h =
     record {
       place = refl;
@@ -76,7 +78,7 @@ module _ (d : ℕ) (q : Call) (s s' : Variables) (v v' : DVariables) (t : Pictur
     -- NoOp takes no read answer that the cache awaits
     pub unawaited : eqb (numberOf step) (numberOf noOpStep) ≡ true → AwaitsRead s (callOp q) → ⊥
     -- an accepted start is given a place then named
-    pub start : isStart (numberOf step) ≡ true → (names (t .first) (vopLoc (q .vop)) || names (t .second) (vopLoc (q .vop))) ≡ true
+    pub start : isStart (numberOf step) ≡ true → isNamed t (vopLoc (q .vop)) ≡ true
 
   abbrev maps : PictureMaps
   maps = pictureMaps t
@@ -84,7 +86,8 @@ module _ (d : ℕ) (q : Call) (s s' : Variables) (v v' : DVariables) (t : Pictur
   same : Whole d s' v' (pictureMaps t) → KeptAfter d s' v' t
   same h = record { named = named; whole = h }
 
-  set-node : nodesMap (withSlot (t .working) (q .reference) (cachedSlot (q .node))) ≡ put (nodesMap (t .working)) (q .reference) (q .node)
+  -- Dirty and Alloc set the call's node in the working picture
+  set-node : nodesMap (nodePictured q t .working) ≡ put (nodesMap (t .working)) (q .reference) (q .node)
   set-node = nodes-put (t .working) (q .reference) (cachedSlot (q .node)) (f .working) bound refl
 
   pub step-kept : (step : Step) → isCrash (numberOf step) ≡ false → Moves step → KeptAfter d s' v' (stepPictures q t step)
@@ -143,6 +146,52 @@ module _ (d : ℕ) (q : Call) (s s' : Variables) (v v' : DVariables) (t : Pictur
   step-kept readStep e m = same (read-kept d s s' v v' (callOp q) (q .vop) (q .reference) (q .node) maps w (m .move) (m .cache))
   step-kept crashStep e m = clash refl e
   step-kept letGoStep e m = same (let-go-kept d s s' v v' (callOp q) (q .vop) (q .reference) (q .node) maps w i (m .disk) (m .move) (m .cache))
+
+-- EACH PICTURE KEEPS ITS FORM
+
+module _ (t : Pictures) (f : PicturesForm t) where
+  picture-form : (l : Location) → nodesForm (pictureOf t l) ≡ true
+  picture-form l = split (names (t .first) l) (λ a. rw a (f .first)) (λ a. split (names (t .second) l) (λ b. rw (a, b) (f .second)) (λ b. rw (a, b) empty-nodes-form))
+
+  with-working-form : (m : Nodes) → nodesForm m ≡ true → PicturesForm (withWorking t m)
+  with-working-form m h = record { first = f .first; second = f .second; working = h; frozen = f .frozen }
+
+  module _ (q : Call) (bound : q .reference < 64) (formed : nodeForm (q .node) ≡ true) where
+    set-form : PicturesForm (nodePictured q t)
+    set-form =
+        with-working-form (withSlot (t .working) (q .reference) (cachedSlot (q .node)))
+        (with-slot-form (t .working) (q .reference) (cachedSlot (q .node)) (f .working) bound (and-both formed refl))
+
+    step-form : (x : Step) → PicturesForm (stepPictures q t x)
+    step-form writeBackNodeReqStep = f
+    step-form writeBackNodeRespStep = f
+    step-form writeBackIndirectionTableReqStep = f
+    step-form writeBackIndirectionTableRespStep = record { first = f .first; second = f .frozen; working = f .working; frozen = f .frozen }
+    step-form unallocStep =
+        with-working-form (withSlot (t .working) (q .reference) zeroSlot) (with-slot-form (t .working) (q .reference) zeroSlot (f .working) bound zero-slot-form)
+    step-form pageInNodeReqStep = f
+    step-form pageInNodeRespStep = f
+    step-form pageInIndirectionTableReqStep = f
+    step-form pageInIndirectionTableRespStep = f
+    step-form receiveLocStep =
+        record { first = picture-form (vopLoc (q .vop)); second = empty-nodes-form; working = picture-form (vopLoc (q .vop)); frozen = f .frozen }
+    step-form evictStep = f
+    step-form freezeStep = record { first = f .first; second = empty-nodes-form; working = f .working; frozen = f .working }
+    step-form cleanUpStep = record { first = f .second; second = empty-nodes-form; working = f .working; frozen = f .frozen }
+    step-form noOpStep = f
+    step-form dirtyStep = set-form
+    step-form allocStep = set-form
+    step-form readStep = f
+    step-form crashStep = f
+    step-form letGoStep = f
+
+    number-forms : (o : Option Step) → PicturesForm (picturesOf q t o)
+    number-forms none = f
+    number-forms (some x) = step-form x
+
+    pub number-form : (n : ℕ) → PicturesForm (picturesAfter n q t)
+    unfolding picturesAfter
+    number-form n = number-forms (stepOf n)
 
 -- THE NUMBERS OF THE STEPS THAT CHANGE NAMES OR PICTURES: every other number leaves them as they are
 

@@ -1,12 +1,11 @@
 -- Every joined call, accepted or refused, keeps the invariant, if an accepted start is given a place then named; so it holds after any list. Assumes nothing.
 use Prim.Native.Nat.{ℕ}
-use mathlib.Core.Bool.{_&&_, _||_, Bool, false, false≢true, not, true}
+use mathlib.Core.Bool.{false, true}
 use mathlib.Core.List.{List, [], _∷_}
-use mathlib.Core.Logic.{_↔_}
 use mathlib.Core.Option.{some}
 use mathlib.Core.Path.{_∙_, _≡_, refl, subst, sym}
 use borrow.Author.Tests.{eqb-true}
-use Rattle.base.proofs.Tests.{and-left, and-right, split}
+use Rattle.base.proofs.Tests.{and-iff, split}
 use Rattle.base.specs.Refusals.{answer}
 use Rattle.blockcache.proofs.Demand2.{store-allowed}
 use Rattle.blockcache.proofs.Kept.{cache-form-kept, inv-kept}
@@ -26,13 +25,13 @@ use Rattle.blockdisk.specs.Crash.{crashed, crashRows}
 use Rattle.blockdisk.specs.Ops.{diskRows, nextDisk}
 use Rattle.blockdisk.specs.Upstream.{diskVars, dopOf, Next}
 use Rattle.blockdisk.specs.declared.Records.{Records}
+use Rattle.blocksystem.proofs.After.{step-named-iff}
 use Rattle.blocksystem.proofs.Accepting.{crash-answer, crash-next, disk-answer, disk-next, joined-cache, joined-disk, joined-zero, survives}
-use Rattle.blocksystem.proofs.EveryStep.{step-kept}
+use Rattle.blocksystem.proofs.EveryStep.{number-form, step-kept}
 use Rattle.blocksystem.proofs.Invariant.{Invariant, pictureMaps}
 use Rattle.blocksystem.proofs.KeepQueues.{keep-crash}
-use Rattle.blocksystem.proofs.PictureForms.{number-form}
 use Rattle.blocksystem.specs.Joined.{diskAsked, diskCall, joined, joinedAnswer}
-use Rattle.blocksystem.specs.Names.{names, picturesAfter}
+use Rattle.blocksystem.specs.Names.{isNamed, picturesAfter}
 use Rattle.blocksystem.specs.Run.{acceptsStep, after, afterStep, JoinedCall, moved, startNamed, startsNamed, State, step, stepNamed}
 
 -- AN ACCEPTED STEP
@@ -46,7 +45,7 @@ module _ (d : ℕ) (q : Call) (o : Records) (s : State) (v : Invariant d s) wher
 
   -- an accepted start is given a place then named
   abbrev Named : ℕ → Type 0
-  Named n = isStart n ≡ true → (names (s .pictures .first) (vopLoc (q .vop)) || names (s .pictures .second) (vopLoc (q .vop))) ≡ true
+  Named n = isStart n ≡ true → isNamed (s .pictures) (vopLoc (q .vop)) ≡ true
 
   crash-keeps : Accepted 18 → Invariant d (nextState 18)
   unfolding picturesAfter stepOf steps
@@ -105,17 +104,6 @@ module _ (d : ℕ) (q : Call) (o : Records) (s : State) (v : Invariant d s) wher
 
 -- ANY STEP
 
-if-then-iff : (x y a b : Bool) → ((not (x && y) || a || b) ≡ true) ↔ (x ≡ true → y ≡ true → (a || b) ≡ true)
-if-then-iff true true a b = ((λ h e f. h), (λ h. h refl refl))
-if-then-iff true false a b = ((λ h e f. absurd (false≢true f)), (λ h. refl))
-if-then-iff false y a b = ((λ h e f. absurd (false≢true e)), (λ h. refl))
-
--- what demand 3 asks of its list: an accepted start is given a place then named, and nothing more
-pub step-named-iff : (d : ℕ) (s : State) (n : ℕ) (q : Call) (o : Records) →
-    (stepNamed d s n q o ≡ true)
-    ↔ (acceptsStep d s n q o ≡ true → isStart n ≡ true → (names (s .pictures .first) (vopLoc (q .vop)) || names (s .pictures .second) (vopLoc (q .vop))) ≡ true)
-step-named-iff d s n q o = if-then-iff (acceptsStep d s n q o) (isStart n) (names (s .pictures .first) (vopLoc (q .vop))) (names (s .pictures .second) (vopLoc (q .vop)))
-
 module _ (d : ℕ) (s : State) (n : ℕ) (q : Call) (o : Records) (v : Invariant d s) (named : stepNamed d s n q o ≡ true) where
   when-accepted : acceptsStep d s n q o ≡ true → Invariant d (afterStep d s n q o)
   unfolding joined
@@ -123,7 +111,7 @@ module _ (d : ℕ) (s : State) (n : ℕ) (q : Call) (o : Records) (v : Invariant
       let e : joinedAnswer d n q o (s .cache) (s .disk) ≡ 0 = eqb-true _ _ t in
       let c = joined-cache d n q o (s .cache) (s .disk) e in
       let y = joined-disk d n q o (s .cache) (s .disk) e in
-      let at : (isStart n ≡ true → (names (s .pictures .first) (vopLoc (q .vop)) || names (s .pictures .second) (vopLoc (q .vop))) ≡ true) =
+      let at : (isStart n ≡ true → isNamed (s .pictures) (vopLoc (q .vop)) ≡ true) =
       step-named-iff d s n q o .0 named t in
       rw (c, y, t) (accepted-keeps d q o s v n at e)
 
@@ -141,8 +129,12 @@ call-keeps d s (step n q o) v named = step-call-keeps d s n q o v named
 
 -- ANY LIST
 
+-- after its first call, the rest of a list finds what the list found
+pub first-keeps : (d : ℕ) (s : State) (k : JoinedCall) (ks : List JoinedCall) → Invariant d s → startsNamed d s (k ∷ ks) ≡ true → Invariant d (moved d s k) × (startsNamed d (moved d s k) ks ≡ true)
+unfolding startsNamed
+first-keeps d s k ks v n = let h = and-iff (startNamed d s k) (startsNamed d (moved d s k) ks) .0 n in (call-keeps d s k v (h .0), h .1)
+
 pub run-keeps : (d : ℕ) (calls : List JoinedCall) (s : State) → Invariant d s → startsNamed d s calls ≡ true → Invariant d (after d s calls)
-unfolding after startsNamed
+unfolding after
 run-keeps d [] s v n = v
-run-keeps d (k ∷ ks) s v n =
-    run-keeps d ks (moved d s k) (call-keeps d s k v (and-left (startNamed d s k) (startsNamed d (moved d s k) ks) n)) (and-right (startNamed d s k) (startsNamed d (moved d s k) ks) n)
+run-keeps d (k ∷ ks) s v n = let rest = first-keeps d s k ks v n in run-keeps d ks (moved d s k) (rest .0) (rest .1)

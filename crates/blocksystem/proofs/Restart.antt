@@ -1,25 +1,37 @@
--- What else follows from the invariant: a start at a named place is never refused with 20. Assumes nothing.
+-- From the invariant: a whole graph is stored at a named place, and a start there is never refused with 20. Assumes nothing.
 use Prim.Native.Nat.{ℕ}
-use mathlib.Core.Bool.{_||_, true}
+use mathlib.Core.Bool.{false, false≢true, true}
 use mathlib.Core.Logic.{⊎-elim}
 use mathlib.Core.Option.{Option, some}
-use mathlib.Core.Path.{_∙_, _≡_, ap, sym}
+use mathlib.Core.Path.{_∙_, _≡_, ap, refl, subst, sym}
+use native.Mathlib.Omega.{arith}
 use Rattle.base.proofs.Maps.{some-of}
 use Rattle.base.proofs.Tests.{and-iff, none-iff, or-cases, split}
 use Rattle.base.specs.Maps.{isSome}
+use Rattle.base.specs.Refusals.{holds}
+use Rattle.blockcache.specs.Ops.{vopLoc}
+use Rattle.blockcache.specs.Steps.{stepOf, steps}
 use Rattle.blockdisk.proofs.Forms.{disk-form-iff}
 use Rattle.blockdisk.proofs.Reading.{stored-table-place, upstream-some}
+use Rattle.blockdisk.specs.Ops.{opRows}
 use Rattle.blockdisk.specs.Upstream.{diskVars}
+use Rattle.blockdisk.specs.declared.DiskOp.{DiskOp}
+use Rattle.blockdisk.specs.declared.DiskOp.the-variants.{NoDiskOp, ReqReadIndirectionTableOp, ReqReadNodeOp, ReqWriteIndirectionTableOp, ReqWriteNodeOp, RespReadIndirectionTableOp, RespReadNodeOp}
+use Rattle.blockdisk.specs.declared.DiskOp.the-variants.{RespWriteIndirectionTableOp, RespWriteNodeOp}
+use Rattle.blockdisk.specs.declared.DiskState.{DiskState}
 use Rattle.disklayout.specs.declared.Location.{Location}
 use Rattle.disklayout.proofs.Facts.{same-loc-iff}
 use Rattle.sectortype.specs.Abstract.{nodesMap}
 use Rattle.disklayout.specs.Layout.{sameLoc}
 use Rattle.sectortype.specs.declared.Node.{Node}
+use Rattle.sectortype.specs.declared.Table.{Table}
+use Rattle.blocksystem.proofs.Answering.{answered-as}
 use Rattle.blocksystem.proofs.Invariant.{Invariant, KeptOn}
 use Rattle.blocksystem.proofs.Laws.{kept-keys}
 use Rattle.blocksystem.proofs.Starting.{wf-succs-iff}
-use Rattle.blocksystem.specs.Names.{names}
-use Rattle.blocksystem.specs.Run.{State}
+use Rattle.blocksystem.specs.Names.{isNamed, names}
+use Rattle.blocksystem.specs.Promise.{StartsWhole}
+use Rattle.blocksystem.specs.Run.{State, conditions, step}
 use Rattle.blocksystem.specs.Start.{WFSuccs as wholeGraph}
 use Rattle.blocksystem.specs.Upstream.{DiskGraph, WFSuccs, systemVars}
 
@@ -63,8 +75,8 @@ module _ (d : ℕ) (s : State) (v : Invariant d s) (l : Location) (pic : ℕ →
             graph-keys r2 ∙ k .complete .graphClosed r1 (g .0) (g .1) r2 (same ∙ h));
       }
 
--- 20 is never given to a start at a named place
-pub named-whole : (d : ℕ) (s : State) → Invariant d s → (l : Location) → (names (s .pictures .first) l || names (s .pictures .second) l) ≡ true → wholeGraph d (s .disk .records) l ≡ true
+-- a whole graph is stored at a named place ..
+pub named-whole : (d : ℕ) (s : State) → Invariant d s → (l : Location) → isNamed (s .pictures) l ≡ true → wholeGraph d (s .disk .records) l ≡ true
 named-whole d s v l h =
     let f = disk-form-iff d (s .disk) .0 (v .disk-form) in
     wf-succs-iff d (s .disk) f (s .cache) l .1
@@ -76,3 +88,22 @@ named-whole d s v l h =
     let p : s .pictures .second .place ≡ l = same-loc-iff (s .pictures .second .place) l .0 (e .1) in
     kept-succs d s v l (nodesMap (s .pictures .second .picture)) (v .whole .second l (rw (e .0) (ap some p))))
     (or-cases (names (s .pictures .first) l) (names (s .pictures .second) l) h))
+
+-- .. so 20 is never given to a start there: no row of cache or disk has that number
+disk-never : (d : ℕ) (s : DiskState) (op : DiskOp) (n : Node) (t : Table) → holds 20 (opRows d s op n t) ≡ false
+disk-never d s (ReqReadIndirectionTableOp id l) n t = refl
+disk-never d s (ReqReadNodeOp id l) n t = refl
+disk-never d s (ReqWriteIndirectionTableOp id l) n t = refl
+disk-never d s (ReqWriteNodeOp id l) n t = refl
+disk-never d s (RespReadIndirectionTableOp id b) n t = refl
+disk-never d s (RespReadNodeOp id b) n t = refl
+disk-never d s (RespWriteIndirectionTableOp id) n t = refl
+disk-never d s (RespWriteNodeOp id) n t = refl
+disk-never d s NoDiskOp n t = refl
+
+pub starts-whole : (d : ℕ) (s : State) → Invariant d s → StartsWhole d s
+unfolding conditions stepOf steps
+starts-whole d s v q o h e =
+    let a = answered-as d s (step 10 q o) in
+    let c = subst (λ m. conditions d s 10 q o m ≡ true) e (a .refused (λ z. omega (arith, e, z))) in
+    absurd (false≢true (rw (disk-never d (s .disk) (q .dop) (q .node) (q .table), named-whole d s v (vopLoc (q .vop)) h) at c))

@@ -32,7 +32,7 @@ use Rattle.blocksystem.proofs.Accepting.{joined-node, joined-zero}
 use Rattle.blocksystem.proofs.Formatted.{first-forms}
 use Rattle.blocksystem.proofs.Invariant.{PicturesForm}
 use Rattle.blocksystem.proofs.PictureForms.{call-form}
-use Rattle.blocksystem.specs.Joined.{joined, joinedAnswer}
+use Rattle.blocksystem.specs.Joined.{joined}
 use Rattle.blocksystem.specs.Run.{JoinedCall, State, acceptsStep, after, asked, moved, start, step}
 use Rattle.blocksystem.specs.Screen.{differs, isPictured, readsDiffering, stepDiffers}
 
@@ -64,28 +64,27 @@ pub record HandsOutPictured (d : ℕ) (s : State) (q : Call) (o : Records) : Typ
 
 module _ (d : ℕ) (s : State) (q : Call) (o : Records) where
   -- an accepted read: the cache is Ready, and hands out its node of an allocated reference
-  pub read-cached : acceptsStep d s 17 q o ≡ true → (isReady (s .cache) ≡ true) × ReadStep (readyVars (s .cache)) (q .reference) (asked d s 17 q o .node)
+  pub read-cached : asked d s 17 q o .answer ≡ 0 → (isReady (s .cache) ≡ true) × ReadStep (readyVars (s .cache)) (q .reference) (asked d s 17 q o .node)
   unfolding joined
-  read-cached t =
-      let e : joinedAnswer d 17 q o (s .cache) (s .disk) ≡ 0 = eqb-true _ _ t in
+  read-cached e =
       let z = joined-zero d 17 q o (s .cache) (s .disk) .0 e in
       let r = cache-read d (s .cache) q (z .0) in
       (r .0, rw (joined-node d 17 q o (s .cache) (s .disk) e, cache-node d (s .cache) q (z .0)) (r .2))
 
-  node-read-form : acceptsStep d s 17 q o ≡ true → nodeForm (asked d s 17 q o .node) ≡ true
+  node-read-form : asked d s 17 q o .answer ≡ 0 → nodeForm (asked d s 17 q o .node) ≡ true
   unfolding joined
-  node-read-form t =
-      let e : joinedAnswer d 17 q o (s .cache) (s .disk) ≡ 0 = eqb-true _ _ t in
+  node-read-form e =
       let x = call-accepted-iff d (s .cache) 17 q .0 (joined-zero d 17 q o (s .cache) (s .disk) .0 e .0) in
-      nodes-form-at (s .cache .nodes) (x .form .form .nodes) (q .reference) (asked d s 17 q o .node) (read-cached t .1 .cached)
+      nodes-form-at (s .cache .nodes) (x .form .form .nodes) (q .reference) (asked d s 17 q o .node) (read-cached e .1 .cached)
 
   -- it differs from the picture, or hands out the picture's node
-  same-iff : PicturesForm (s .pictures) → acceptsStep d s 17 q o ≡ true → (stepDiffers d s 17 q o ≡ false) ↔ HandsOutPictured d s q o
-  same-iff f t =
+  same-iff : PicturesForm (s .pictures) → asked d s 17 q o .answer ≡ 0 → (stepDiffers d s 17 q o ≡ false) ↔ HandsOutPictured d s q o
+  same-iff f e =
+      let t : acceptsStep d s 17 q o ≡ true = eq-eqb _ _ e in
       let n = asked d s 17 q o .node in
-      let w = pictured-iff (s .pictures .working) (q .reference) n (f .working) (node-read-form t) in
+      let w = pictured-iff (s .pictures .working) (q .reference) n (f .working) (node-read-form e) in
       let test = isPictured (s .pictures .working) (q .reference) n in (
-        (λ e. let h : test ≡ true = split test (λ y. y) (λ y. clash (rw (t, y)) e) in
+        (λ z. let h : test ≡ true = split test (λ y. y) (λ y. clash (rw (t, y)) z) in
             record { node = n; pictured = w .0 h; high = refl; low = refl; list = refl }),
         (λ h. let same : n ≡ h .node = node-equal-iff n (h .node) .1 (h .high, (h .low, h .list)) in
             let y : test ≡ true = w .1 (h .pictured ∙ ap some (sym same)) in rw (t, y)),
@@ -107,7 +106,7 @@ at-cut : (d : ℕ) (front back : List JoinedCall) (q : Call) (o : Records) (s : 
     asked d (after d s front) 17 q o .answer ≡ 0 → HandsOutPictured d (after d s front) q o
 unfolding after readsDiffering
 at-cut d [] back q o s f z t =
-    same-iff d s q o f (eq-eqb _ _ t) .0 (sum-zero (stepDiffers d s 17 q o) (readsDiffering d (moved d s (step 17 q o)) back) .0 z .0)
+    same-iff d s q o f t .0 (sum-zero (stepDiffers d s 17 q o) (readsDiffering d (moved d s (step 17 q o)) back) .0 z .0)
 at-cut d (k ∷ ks) back q o s f z t =
     at-cut d ks back q o (moved d s k) (call-form d s k f) (sum-zero (differs d s k) (readsDiffering d (moved d s k) (ks ++ (step 17 q o ∷ back))) .0 z .1) t
 
@@ -117,7 +116,7 @@ pub not-counted : (d : ℕ) (s : State) (k : JoinedCall) → PicturesForm (s .pi
 not-counted d s (step n q o) f h =
     split (isRead n)
     (λ r. let e : n ≡ 17 = eqb-true n 17 r in
-    rw e (split (acceptsStep d s 17 q o) (λ t. same-iff d s q o f t .1 (h q o (ap (λ m. step m q o) e) (eqb-true _ _ t))) (λ t. rw t)))
+    rw e (split (acceptsStep d s 17 q o) (λ t. let z = eqb-true _ _ t in same-iff d s q o f z .1 (h q o (ap (λ m. step m q o) e) z)) (λ t. rw t)))
     (λ r. split (acceptsStep d s n q o) (λ t. rw (t, r)) (λ t. rw t))
 
 all-same : (d : ℕ) (calls : List JoinedCall) (s : State) → PicturesForm (s .pictures) → EveryReadPictured d s calls → readsDiffering d s calls ≡ 0

@@ -1,16 +1,15 @@
--- What is said of the cache in Ready, in upstream's variables: of each reference of the ephemeral graph. Assumes nothing.
+-- What is said of the cache in Ready, in upstream's variables: the working picture has the references of the ephemeral graph, and what is said of each. Assumes nothing.
 use Prim.Native.Nat.{ℕ}
 use mathlib.Core.Bool.{true}
 use mathlib.Core.Logic.{_↔_, _⊎_, inl, inr, ⊎-elim}
 use mathlib.Core.Option.{Option, some}
-use mathlib.Core.Path.{_∙_, _≡_, ap, refl, subst, sym}
+use mathlib.Core.Path.{_∙_, _≡_, ap, refl, sym}
 use Rattle.base.proofs.Tests.{and-both, and-iff, or-cases, or-inl, or-inr, some-iff}
 use Rattle.base.specs.Maps.{Map, isSome}
 use Rattle.blockcache.proofs.Forms.{cache-form-iff}
-use Rattle.blockcache.proofs.OpKinds.{on-ready-iff, ready-is}
-use Rattle.blockcache.specs.Abstract.{cacheVars, readyVars}
+use Rattle.blockcache.specs.Abstract.{readyVars}
 use Rattle.blockcache.specs.Form.{cacheForm}
-use Rattle.blockcache.specs.Upstream.{In, Ready, ready}
+use Rattle.blockcache.specs.Upstream.{In, Ready}
 use Rattle.blockdisk.proofs.Forms.{disk-form-iff}
 use Rattle.blockdisk.proofs.Reading.{stored-node-form}
 use Rattle.blockdisk.specs.Form.{diskForm}
@@ -21,7 +20,7 @@ use Rattle.sectortype.specs.Abstract.{locsOf, nodesMap}
 use Rattle.sectortype.specs.Form.{nodesForm}
 use Rattle.sectortype.specs.declared.Node.{Node}
 use Rattle.blocksystem.proofs.Counting.{entry-read-iff}
-use Rattle.blocksystem.proofs.Invariant.{StoredPictured}
+use Rattle.blocksystem.proofs.Invariant.{SameKeys, StoredPictured}
 use Rattle.blocksystem.proofs.ScreenReads.{pictured-iff}
 use Rattle.blocksystem.specs.Run.{State}
 use Rattle.blocksystem.specs.Screen.{ReadyShown, Shown, cacheSlot, ephemeralEntry, isPictured, storedRecord}
@@ -34,9 +33,9 @@ pub record ShownOf (cached : Option Node) (loc : Option Location) (nodes : Imap 
   pub in-cache : (n : Node) → cached ≡ some n → pictured ≡ some n
   pub on-disk : (l : Location) → loc ≡ some l → StoredPictured nodes l pictured
 
-abbrev pub ReadyShownOf : Ready → Imap Node → Map Node → Type 0
-ReadyShownOf x nodes pic =
-    (ref : ℕ) → In ref (x .ephemeralIndirectionTable .graph) → ShownOf (x .cache ref) (x .ephemeralIndirectionTable .locs ref) nodes (pic ref)
+pub record ReadyShownOf (x : Ready) (nodes : Imap Node) (pic : Map Node) : Type 0 where
+  pub keys : SameKeys pic (x .ephemeralIndirectionTable .graph)
+  pub shown : (ref : ℕ) → In ref (x .ephemeralIndirectionTable .graph) → ShownOf (x .cache ref) (x .ephemeralIndirectionTable .locs ref) nodes (pic ref)
 
 module _ (d : ℕ) (s : State) (cache-form : cacheForm (s .cache) ≡ true) (disk-form : diskForm d (s .disk) ≡ true) (form : nodesForm (s .pictures .working) ≡ true) (ref : ℕ) where
   abbrev nodes : Imap Node
@@ -90,11 +89,16 @@ module _ (d : ℕ) (s : State) (cache-form : cacheForm (s .cache) ≡ true) (dis
 
 -- what is said of the cache in Ready is said of upstream's variables
 pub ready-shown-iff : (d : ℕ) (s : State) → cacheForm (s .cache) ≡ true → diskForm d (s .disk) ≡ true → nodesForm (s .pictures .working) ≡ true →
-    ReadyShown d s ↔ ((x : Ready) → cacheVars (s .cache) ≡ ready x → ReadyShownOf x (diskVars d (s .disk) .nodes) (nodesMap (s .pictures .working)))
-ready-shown-iff d s c k f = (
-  (λ h x e.
-      let r = on-ready-iff (s .cache) (λ y. y ≡ x) .0 (x, e, refl) in
-      subst (λ (y : Ready). ReadyShownOf y (diskVars d (s .disk) .nodes) (nodesMap (s .pictures .working))) (r .1)
-      (λ ref i. shown-there d s c k f ref (h (r .0) ref (sym (in-graph (s .cache .tables .ephemeral) ref) ∙ i)))),
-  (λ h t ref a. shown-back d s c k f ref (h (readyVars (s .cache)) (ready-is (s .cache) t) ref (in-graph (s .cache .tables .ephemeral) ref ∙ a))),
-)
+    ReadyShown d s ↔ ReadyShownOf (readyVars (s .cache)) (diskVars d (s .disk) .nodes) (nodesMap (s .pictures .working))
+ready-shown-iff d s c k f =
+    let t = s .cache .tables .ephemeral in
+    let pic = s .pictures .working in (
+      (λ h. record {
+        keys = λ ref. in-nodes pic ref ∙ h .allocated ref ∙ sym (in-graph t ref);
+        shown = λ ref i. shown-there d s c k f ref (h .shown ref (sym (in-graph t ref) ∙ i));
+      }),
+      (λ h. record {
+        allocated = λ ref. sym (in-nodes pic ref) ∙ h .keys ref ∙ in-graph t ref;
+        shown = λ ref a. shown-back d s c k f ref (h .shown ref (in-graph t ref ∙ a));
+      }),
+    )

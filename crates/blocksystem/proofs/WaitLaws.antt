@@ -38,7 +38,8 @@ use Rattle.queue.specs.declared.Requests.{Requests}
 use Rattle.sectortype.specs.Form.{nodeForm, tableForm}
 use Rattle.blocksystem.proofs.Accepting.{disk-answer, disk-next, joined-cache, joined-disk, joined-zero}
 use Rattle.blocksystem.proofs.Invariant.{InPhase, Invariant, Whole, pictureMaps}
-use Rattle.blocksystem.proofs.Keep.{call-keeps, step-named-iff}
+use Rattle.blocksystem.proofs.After.{step-named-iff}
+use Rattle.blocksystem.proofs.Keep.{call-keeps}
 use Rattle.blocksystem.specs.Joined.{diskCall, joined, joinedAnswer}
 use Rattle.blocksystem.specs.Run.{State, acceptsStep, afterStep, step}
 use Rattle.blocksystem.specs.Waits.{Asks}

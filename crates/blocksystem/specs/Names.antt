@@ -1,7 +1,7 @@
 -- Named places and pictures, settled by accepted calls and their arguments alone. Both are document 01's terms; a picture is nodes by reference.
 use Prim.Native.Nat.{ℕ}
 use mathlib.Core.Option.{Option, none, some}
-use mathlib.Core.Bool.{Bool, _&&_, cond, false, true}
+use mathlib.Core.Bool.{Bool, _&&_, _||_, cond, false, true}
 use Rattle.blockcache.specs.Next.{cachedSlot}
 use Rattle.blockcache.specs.Ops.{vopLoc}
 use Rattle.blockcache.specs.Steps.{Step, allocStep, cleanUpStep, crashStep, dirtyStep, evictStep, freezeStep, letGoStep, noOpStep, pageInIndirectionTableReqStep, pageInIndirectionTableRespStep}
@@ -34,6 +34,10 @@ firstPictures d x = record { first = naming (tablePlaceOf d) (withRoot x); secon
 -- the name is of this place
 abbrev pub names : Named → Location → Bool
 names m l = m .present && sameLoc (m .place) l
+
+-- some name is of this place
+abbrev pub isNamed : Pictures → Location → Bool
+isNamed t l = names (t .first) l || names (t .second) l
 
 -- the picture that belongs to a place; the empty one where it is not named
 abbrev pub pictureOf : Pictures → Location → Nodes

@@ -1,19 +1,21 @@
 -- All that is promised of a list of joined calls, a line for each promise. The theorem, `nothing-lost` (proofs/Demand3.antt), says it of every list from a
 -- newly formatted device whose accepted starts are given places then named.
 use Prim.Native.Nat.{ℕ}
-use mathlib.Core.Bool.{_||_, true}
+use mathlib.Core.Bool.{true}
 use mathlib.Core.List.{List}
 use mathlib.Core.Path.{_≡_}
-use Rattle.disklayout.specs.declared.Location.{Location}
-use Rattle.blocksystem.specs.Names.{names}
-use Rattle.blocksystem.specs.Run.{Answered, JoinedCall, State, after, nothingLost}
+use Rattle.blockcache.specs.Form.{isReady}
+use Rattle.blockcache.specs.Ops.{vopLoc}
+use Rattle.blockcache.specs.declared.Call.{Call}
+use Rattle.blockdisk.specs.declared.Records.{Records}
+use Rattle.blocksystem.specs.Names.{isNamed}
+use Rattle.blocksystem.specs.Run.{Answered, JoinedCall, State, after, asked, nothingLost}
 use Rattle.blocksystem.specs.Screen.{ReadyShown, readsDiffering}
-use Rattle.blocksystem.specs.Start.{WFSuccs}
 use Rattle.blocksystem.specs.Waits.{NoWaitForEver}
 
--- a whole graph is stored at each named place
-abbrev pub NamedWhole : ℕ → State → Type 0
-NamedWhole d s = (l : Location) → (names (s .pictures .first) l || names (s .pictures .second) l) ≡ true → WFSuccs d (s .disk .records) l ≡ true
+-- a start at a named place is never refused with 20: a whole graph is stored there
+abbrev pub StartsWhole : ℕ → State → Type 0
+StartsWhole d s = (q : Call) (o : Records) → isNamed (s .pictures) (vopLoc (q .vop)) ≡ true → asked d s 10 q o .answer ≡ 20 → ⊥
 
 pub record Promised (d : ℕ) (s : State) (calls : List JoinedCall) : Type 0 where
   -- demand 3: each call is answered as documents 01 and 02 fix ..
@@ -23,11 +25,11 @@ pub record Promised (d : ℕ) (s : State) (calls : List JoinedCall) : Type 0 whe
   -- there is a named place ..
   pub named : after d s calls .pictures .first .present ≡ true
   -- .. and 20 is never given to a start there
-  pub whole : NamedWhole d (after d s calls)
+  pub starts : StartsWhole d (after d s calls)
   -- the screen: no accepted read handed out another node than the working picture's ..
   pub reads : readsDiffering d s calls ≡ 0
-  -- .. and in Ready each allocated reference is cached, or stored on the disk at its ephemeral location; the cache, if it has it, and that location, if it has one,
-  -- have the picture's node
-  pub shown : ReadyShown d (after d s calls)
+  -- .. and in Ready it has exactly the allocated references; each is cached, or stored on the disk at its ephemeral location; the cache, if it has it, and that
+  -- location, if it has one, have the picture's node
+  pub shown : isReady (after d s calls .cache) ≡ true → ReadyShown d (after d s calls)
   -- no wait is for ever
   pub waits : NoWaitForEver d (after d s calls)

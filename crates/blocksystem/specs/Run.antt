@@ -20,7 +20,7 @@ use Rattle.sectortype.specs.declared.Contents.{Contents}
 use Rattle.blocksystem.specs.Audit.{counted, noneCounted}
 use Rattle.blocksystem.specs.Format.{formatted}
 use Rattle.blocksystem.specs.Joined.{diskAsked, diskCall, joined, startRows}
-use Rattle.blocksystem.specs.Names.{firstPictures, names, picturesAfter}
+use Rattle.blocksystem.specs.Names.{firstPictures, isNamed, picturesAfter}
 use Rattle.blocksystem.specs.declared.Outcome.{Outcome}
 use Rattle.blocksystem.specs.declared.Pictures.{Pictures}
 
@@ -81,8 +81,7 @@ module _ (d : ℕ) where
 
   -- an accepted start is given a place then named
   abbrev pub stepNamed : State → ℕ → Call → Records → Bool
-  stepNamed s n q o =
-      not (acceptsStep s n q o && isStart n) || names (s .pictures .first) (vopLoc (q .vop)) || names (s .pictures .second) (vopLoc (q .vop))
+  stepNamed s n q o = not (acceptsStep s n q o && isStart n) || isNamed (s .pictures) (vopLoc (q .vop))
 
   -- ANY CALL OF A LIST
 

@@ -5,7 +5,6 @@ use mathlib.Core.Bool.{Bool, _&&_, _||_, not, true}
 use mathlib.Core.List.{List, [], _∷_}
 use mathlib.Core.Path.{_≡_}
 use Rattle.base.specs.Scan.{bit}
-use Rattle.blockcache.specs.Form.{isReady}
 use Rattle.blockcache.specs.Steps.{isRead}
 use Rattle.blockcache.specs.declared.Call.{Call}
 use Rattle.blockdisk.specs.declared.NodeRecord.{NodeRecord}
@@ -61,6 +60,7 @@ module _ (d : ℕ) (s : State) (ref : ℕ) where
     -- if it has an ephemeral location, the disk has the picture's node there
     pub located : ephemeralEntry s ref .located ≡ true → (storedRecord .present && isPictured (s .pictures .working) ref (storedRecord .node)) ≡ true
 
--- of each allocated reference
-abbrev pub ReadyShown : ℕ → State → Type 0
-ReadyShown d s = isReady (s .cache) ≡ true → (ref : ℕ) → ephemeralEntry s ref .allocated ≡ true → Shown d s ref
+-- the working picture has exactly the allocated references, and what is said above holds of each of them
+pub record ReadyShown (d : ℕ) (s : State) : Type 0 where
+  pub allocated : (ref : ℕ) → slotAt (s .pictures .working) ref .present ≡ ephemeralEntry s ref .allocated
+  pub shown : (ref : ℕ) → ephemeralEntry s ref .allocated ≡ true → Shown d s ref
