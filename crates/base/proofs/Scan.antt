@@ -179,6 +179,10 @@ pub bit-le : (b : Bool) → bit b ≤ 1
 bit-le true = omega arith
 bit-le false = omega arith
 
+pub bit-zero-iff : (b : Bool) → (bit b ≡ 0) ↔ (b ≡ false)
+bit-zero-iff true = ((λ e. absurd (let h = e in omega arith)), (λ e. absurd (false≢true (sym e))))
+bit-zero-iff false = ((λ e. refl), (λ e. refl))
+
 pub count-le : (g : ℕ → Bool) (n : ℕ) → countBelow g n ≤ n
 unfolding countBelow
 count-le g zero = omega arith
@@ -203,11 +207,7 @@ count-zero-at g zero k e b = absurd (not-suc-le-zero b)
 count-zero-at g (suc n) k e b =
     below-or-last k n b
     (λ c. let z : countBelow g n ≡ 0 = omega arith in count-zero-at g n k z c)
-    (λ c. rw c (bit-zero (g n) (omega arith)))
-  where
-    bit-zero : (t : Bool) → bit t ≡ 0 → t ≡ false
-    bit-zero true q = absurd (omega arith)
-    bit-zero false q = refl
+    (λ c. rw c (bit-zero-iff (g n) .0 (omega arith)))
 
 -- a count is 0 exactly where the test fails at each number below n
 pub count-zero-iff : (g : ℕ → Bool) (n : ℕ) → (countBelow g n ≡ 0) ↔ ((k : ℕ) → k < n → g k ≡ false)

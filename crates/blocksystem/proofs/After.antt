@@ -1,18 +1,18 @@
 -- What the run of a list is: each call gets the cache and disk that the last one handed back, names and pictures move where a call is accepted, and a list
--- runs as its two parts one after the other. And what demand 3 asks of its list. Assumes nothing.
+-- runs as its two parts one after the other. What it is that something holds of each call of a list. And what demand 3 asks of its list. Assumes nothing.
 use Prim.Native.Nat.{ℕ}
 use mathlib.Core.Bool.{_&&_, _||_, Bool, false, false≢true, not, true}
 use mathlib.Core.List.{List, [], _++_, _∷_}
 use mathlib.Core.Logic.{_↔_}
-use mathlib.Core.Path.{_≡_, ap, refl, subst}
+use mathlib.Core.Path.{_∙_, _≡_, ap, refl, subst}
 use borrow.Author.Tests.{eq-eqb, eqb-true, ne-eqb}
-use Rattle.base.proofs.Tests.{and-both, and-left, and-right}
+use Rattle.base.proofs.Tests.{and-iff}
 use Rattle.blockcache.specs.Ops.{vopLoc}
 use Rattle.blockcache.specs.Steps.{isStart}
 use Rattle.blockcache.specs.declared.Call.{Call}
 use Rattle.blockdisk.specs.declared.Records.{Records}
 use Rattle.blocksystem.specs.Names.{isNamed, picturesAfter}
-use Rattle.blocksystem.specs.Run.{JoinedCall, State, acceptsStep, after, afterStep, asked, moved, startNamed, startsNamed, step, stepNamed}
+use Rattle.blocksystem.specs.Run.{Every, JoinedCall, State, acceptsStep, after, afterStep, asked, moved, startNamed, startsNamed, step, stepNamed}
 
 -- THE RUN
 
@@ -35,6 +35,24 @@ unfolding after
 run-cut d [] back s = refl
 run-cut d (k ∷ ks) back s = run-cut d ks back (moved d s k)
 
+-- EACH CALL OF A LIST
+
+module _ (d : ℕ) (P : State → JoinedCall → Type 0) where
+  at-cut : (front back : List JoinedCall) (k : JoinedCall) (s : State) → Every d P s (front ++ (k ∷ back)) → P (after d s front) k
+  unfolding after
+  at-cut [] back k s h = h .0
+  at-cut (j ∷ js) back k s h = at-cut js back k (moved d s j) (h .1)
+
+  from-cuts : (calls : List JoinedCall) (s : State) → ((front back : List JoinedCall) (k : JoinedCall) → calls ≡ front ++ (k ∷ back) → P (after d s front) k) → Every d P s calls
+  unfolding after
+  from-cuts [] s h = tt
+  from-cuts (k ∷ ks) s h = (h [] ks k refl, from-cuts ks (moved d s k) (λ front back j e. h (k ∷ front) back j (ap (λ l. k ∷ l) e)))
+
+  -- it is so of each exactly when, wherever the list is cut, it is so of the call right after the first part, in the state after that part
+  pub every-iff : (calls : List JoinedCall) (s : State) →
+      Every d P s calls ↔ ((front back : List JoinedCall) (k : JoinedCall) → calls ≡ front ++ (k ∷ back) → P (after d s front) k)
+  every-iff calls s = ((λ h front back k e. at-cut front back k s (subst (Every d P s) e h)), from-cuts calls s)
+
 -- WHAT IS ASKED OF A LIST
 
 if-then-iff : (x y a : Bool) → ((not (x && y) || a) ≡ true) ↔ (x ≡ true → y ≡ true → a ≡ true)
@@ -53,23 +71,24 @@ EveryStartNamed d s calls =
     (front back : List JoinedCall) (n : ℕ) (q : Call) (o : Records) → calls ≡ front ++ (step n q o ∷ back) → asked d (after d s front) n q o .answer ≡ 0 → isStart n ≡ true →
     isNamed (after d s front .pictures) (vopLoc (q .vop)) ≡ true
 
-at-cut : (d : ℕ) (front back : List JoinedCall) (n : ℕ) (q : Call) (o : Records) (s : State) → startsNamed d s (front ++ (step n q o ∷ back)) ≡ true →
-    asked d (after d s front) n q o .answer ≡ 0 → isStart n ≡ true → isNamed (after d s front .pictures) (vopLoc (q .vop)) ≡ true
-unfolding after startsNamed
-at-cut d [] back n q o s h e t =
-    step-named-iff d s n q o .0 (and-left (stepNamed d s n q o) (startsNamed d (moved d s (step n q o)) back) h) (eq-eqb _ _ e) t
-at-cut d (k ∷ ks) back n q o s h e t =
-    at-cut d ks back n q o (moved d s k) (and-right (startNamed d s k) (startsNamed d (moved d s k) (ks ++ (step n q o ∷ back))) h) e t
+abbrev CallNamed : ℕ → State → JoinedCall → Type 0
+CallNamed d s k = startNamed d s k ≡ true
 
-call-named : (d : ℕ) (s : State) (k : JoinedCall) →
-    ((n : ℕ) (q : Call) (o : Records) → k ≡ step n q o → asked d s n q o .answer ≡ 0 → isStart n ≡ true → isNamed (s .pictures) (vopLoc (q .vop)) ≡ true) → startNamed d s k ≡ true
-call-named d s (step n q o) h = step-named-iff d s n q o .1 (λ t. h n q o refl (eqb-true _ _ t))
+each-named : (d : ℕ) (calls : List JoinedCall) (s : State) → (startsNamed d s calls ≡ true) ↔ Every d (CallNamed d) s calls
+unfolding startsNamed
+each-named d [] s = ((λ h. tt), (λ h. refl))
+each-named d (k ∷ ks) s =
+    let both = and-iff (startNamed d s k) (startsNamed d (moved d s k) ks) in
+    let rest = each-named d ks (moved d s k) in ((λ h. (both .0 h .0, rest .0 (both .0 h .1))), (λ h. both .1 (h .0, rest .1 (h .1))))
 
-all-named : (d : ℕ) (calls : List JoinedCall) (s : State) → EveryStartNamed d s calls → startsNamed d s calls ≡ true
-unfolding after startsNamed
-all-named d [] s h = refl
-all-named d (k ∷ ks) s h =
-    and-both (call-named d s k (λ n q o e. h [] ks n q o (ap (λ j. j ∷ ks) e))) (all-named d ks (moved d s k) (λ front back n q o e. h (k ∷ front) back n q o (ap (λ l. k ∷ l) e)))
+at-named : (d : ℕ) (s : State) (k : JoinedCall) →
+    ((n : ℕ) (q : Call) (o : Records) → k ≡ step n q o → asked d s n q o .answer ≡ 0 → isStart n ≡ true → isNamed (s .pictures) (vopLoc (q .vop)) ≡ true) → CallNamed d s k
+at-named d s (step n q o) h = step-named-iff d s n q o .1 (λ t. h n q o refl (eqb-true _ _ t))
 
 pub starts-named-iff : (d : ℕ) (s : State) (calls : List JoinedCall) → (startsNamed d s calls ≡ true) ↔ EveryStartNamed d s calls
-starts-named-iff d s calls = ((λ h front back n q o e. at-cut d front back n q o s (subst (λ l. startsNamed d s l ≡ true) e h)), (λ h. all-named d calls s h))
+starts-named-iff d s calls =
+    let each = each-named d calls s in
+    let cuts = every-iff d (CallNamed d) calls s in (
+      (λ h front back n q o e a. step-named-iff d (after d s front) n q o .0 (cuts .0 (each .0 h) front back (step n q o) e) (eq-eqb _ _ a)),
+      (λ h. each .1 (cuts .1 (λ front back k e. at-named d (after d s front) k (λ n q o i. h front back n q o (e ∙ ap (λ j. front ++ (j ∷ back)) i))))),
+    )

@@ -1,7 +1,7 @@
 -- Each joined call is answered as documents 01 and 02 fix: the lowest number whose condition holds, in cache, disk or start; 0 where none does. Assumes nothing.
 use Prim.Native.Nat.{_<_, _≤_, ℕ}
 use mathlib.Core.Bool.{Bool, _||_, false, true}
-use mathlib.Core.List.{List, [], _∷_}
+use mathlib.Core.List.{List}
 use mathlib.Core.Logic.{⊎-elim}
 use mathlib.Core.Path.{_≡_, refl}
 use native.Mathlib.Omega.{arith}
@@ -22,8 +22,9 @@ use Rattle.blockdisk.specs.Crash.{crashRows}
 use Rattle.blockdisk.specs.declared.Records.{Records}
 use Rattle.blockdisk.specs.Ops.{diskRows}
 use Rattle.blocksystem.proofs.Accepting.{crash-answer, disk-answer}
+use Rattle.blocksystem.proofs.After.{every-iff}
 use Rattle.blocksystem.specs.Joined.{diskAsked, diskCall, joined, joinedAnswer, startRows}
-use Rattle.blocksystem.specs.Run.{Answered, AnsweredAs, JoinedCall, State, StepAnswered, conditions, diskSide, moved, step}
+use Rattle.blocksystem.specs.Run.{Answered, AnsweredAs, JoinedCall, State, StepAnswered, after, conditions, diskSide, step}
 
 -- a is the lowest number of which P holds; 0 where P holds of none
 pub record Lowest (a : ℕ) (P : ℕ → Bool) : Type 0 where
@@ -113,5 +114,4 @@ answered-as d s (step n q o) = step-answered d s n q o
 
 -- each call of a list, whatever the state
 pub all-answered : (d : ℕ) (calls : List JoinedCall) (s : State) → Answered d s calls
-all-answered d [] s = tt
-all-answered d (k ∷ ks) s = (answered-as d s k, all-answered d ks (moved d s k))
+all-answered d calls s = every-iff d (AnsweredAs d) calls s .1 (λ front back k e. answered-as d (after d s front) k)

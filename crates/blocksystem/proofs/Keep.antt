@@ -32,7 +32,7 @@ use Rattle.blocksystem.proofs.Invariant.{Invariant, pictureMaps}
 use Rattle.blocksystem.proofs.KeepQueues.{keep-crash}
 use Rattle.blocksystem.specs.Joined.{diskAsked, diskCall, joined, joinedAnswer}
 use Rattle.blocksystem.specs.Names.{isNamed, picturesAfter}
-use Rattle.blocksystem.specs.Run.{acceptsStep, after, afterStep, JoinedCall, moved, startNamed, startsNamed, State, step, stepNamed}
+use Rattle.blocksystem.specs.Run.{acceptsStep, after, afterStep, Every, JoinedCall, moved, startNamed, startsNamed, State, step, stepNamed}
 
 -- AN ACCEPTED STEP
 
@@ -130,7 +130,7 @@ call-keeps d s (step n q o) v named = step-call-keeps d s n q o v named
 -- ANY LIST
 
 -- after its first call, the rest of a list finds what the list found
-pub first-keeps : (d : ℕ) (s : State) (k : JoinedCall) (ks : List JoinedCall) → Invariant d s → startsNamed d s (k ∷ ks) ≡ true → Invariant d (moved d s k) × (startsNamed d (moved d s k) ks ≡ true)
+first-keeps : (d : ℕ) (s : State) (k : JoinedCall) (ks : List JoinedCall) → Invariant d s → startsNamed d s (k ∷ ks) ≡ true → Invariant d (moved d s k) × (startsNamed d (moved d s k) ks ≡ true)
 unfolding startsNamed
 first-keeps d s k ks v n = let h = and-iff (startNamed d s k) (startsNamed d (moved d s k) ks) .0 n in (call-keeps d s k v (h .0), h .1)
 
@@ -138,3 +138,9 @@ pub run-keeps : (d : ℕ) (calls : List JoinedCall) (s : State) → Invariant d 
 unfolding after
 run-keeps d [] s v n = v
 run-keeps d (k ∷ ks) s v n = let rest = first-keeps d s k ks v n in run-keeps d ks (moved d s k) (rest .0) (rest .1)
+
+-- what holds of a call wherever the invariant does holds of each call of a list
+pub run-every : (d : ℕ) (P : State → JoinedCall → Type 0) → ((s : State) (k : JoinedCall) → Invariant d s → P s k) →
+    (calls : List JoinedCall) (s : State) → Invariant d s → startsNamed d s calls ≡ true → Every d P s calls
+run-every d P h [] s v n = tt
+run-every d P h (k ∷ ks) s v n = let rest = first-keeps d s k ks v n in (h s k v, run-every d P h ks (moved d s k) (rest .0) (rest .1))

@@ -1,5 +1,6 @@
 -- Each picture keeps its form, whatever the call and the state: an accepted call is within the limits. Assumes nothing.
 use Prim.Native.Nat.{ℕ}
+use mathlib.Core.List.{List, [], _∷_}
 use mathlib.Core.Path.{_≡_}
 use borrow.Author.Tests.{eqb-true}
 use Rattle.base.proofs.Tests.{split}
@@ -10,7 +11,7 @@ use Rattle.blocksystem.proofs.Accepting.{joined-zero}
 use Rattle.blocksystem.proofs.EveryStep.{number-form}
 use Rattle.blocksystem.proofs.Invariant.{PicturesForm}
 use Rattle.blocksystem.specs.Joined.{joined, joinedAnswer}
-use Rattle.blocksystem.specs.Run.{JoinedCall, State, acceptsStep, afterStep, moved, step}
+use Rattle.blocksystem.specs.Run.{JoinedCall, State, acceptsStep, after, afterStep, moved, step}
 
 step-call-form : (d : ℕ) (s : State) (n : ℕ) (q : Call) (o : Records) → PicturesForm (s .pictures) → PicturesForm (afterStep d s n q o .pictures)
 unfolding joined
@@ -21,5 +22,10 @@ step-call-form d s n q o f =
     rw t (number-form (s .pictures) f q (x .form .call .reference) (x .form .call .node) n))
     (λ t. rw t f)
 
-pub call-form : (d : ℕ) (s : State) (k : JoinedCall) → PicturesForm (s .pictures) → PicturesForm (moved d s k .pictures)
+call-form : (d : ℕ) (s : State) (k : JoinedCall) → PicturesForm (s .pictures) → PicturesForm (moved d s k .pictures)
 call-form d s (step n q o) f = step-call-form d s n q o f
+
+pub run-form : (d : ℕ) (calls : List JoinedCall) (s : State) → PicturesForm (s .pictures) → PicturesForm (after d s calls .pictures)
+unfolding after
+run-form d [] s f = f
+run-form d (k ∷ ks) s f = run-form d ks (moved d s k) (call-form d s k f)

@@ -2,7 +2,7 @@
 -- location, with the picture's node. Assumes nothing.
 use Prim.Native.Nat.{ℕ}
 use mathlib.Core.Bool.{false, true}
-use mathlib.Core.List.{List, [], _∷_}
+use mathlib.Core.List.{List}
 use mathlib.Core.Logic.{inl, inr, ⊎-elim}
 use mathlib.Core.Path.{_≡_, ap, refl, subst}
 use Rattle.base.proofs.Maps.{some-of}
@@ -16,10 +16,10 @@ use Rattle.blockdisk.specs.Upstream.{diskVars}
 use Rattle.blockdisk.specs.declared.Records.{Records}
 use Rattle.sectortype.specs.Abstract.{locsOf}
 use Rattle.blocksystem.proofs.Invariant.{InPhase, Invariant, ReadyOk, pictureMaps}
-use Rattle.blocksystem.proofs.Keep.{first-keeps}
-use Rattle.blocksystem.proofs.ScreenReads.{HandsOutPictured, not-counted, read-cached, sum-zero}
+use Rattle.blocksystem.proofs.Keep.{run-every}
+use Rattle.blocksystem.proofs.ScreenReads.{CallSame, HandsOutPictured, each-same, not-counted, read-cached}
 use Rattle.blocksystem.proofs.ScreenReady.{ready-shown-iff}
-use Rattle.blocksystem.specs.Run.{JoinedCall, State, asked, moved, startsNamed}
+use Rattle.blocksystem.specs.Run.{JoinedCall, State, asked, startsNamed}
 use Rattle.blocksystem.specs.Screen.{ReadyShown, differs, readsDiffering}
 
 module _ (d : ℕ) (s : State) (v : Invariant d s) where
@@ -60,7 +60,4 @@ module _ (d : ℕ) (s : State) (v : Invariant d s) where
 
 -- along a list
 pub none-differ : (d : ℕ) (calls : List JoinedCall) (s : State) → Invariant d s → startsNamed d s calls ≡ true → readsDiffering d s calls ≡ 0
-unfolding readsDiffering
-none-differ d [] s v n = refl
-none-differ d (k ∷ ks) s v n =
-    let rest = first-keeps d s k ks v n in sum-zero (differs d s k) (readsDiffering d (moved d s k) ks) .1 (call-same d s v k, none-differ d ks (moved d s k) (rest .0) (rest .1))
+none-differ d calls s v n = each-same d calls s .1 (run-every d (CallSame d) (λ s k v. call-same d s v k) calls s v n)

@@ -1,14 +1,15 @@
 -- The count of accepted reads that differ from the working picture is 0 exactly when, wherever the list is cut, an accepted read right after the first
 -- part hands out the working picture's node. Assumes nothing.
 use Prim.Native.Nat.{_+_, _≤_, ℕ}
-use mathlib.Core.Bool.{Bool, false, true}
+use mathlib.Core.Bool.{false, true}
 use mathlib.Core.List.{List, [], _++_, _∷_}
 use mathlib.Core.Logic.{_↔_}
 use mathlib.Core.Option.{some}
-use mathlib.Core.Path.{_∙_, _≡_, ap, refl, subst, sym}
+use mathlib.Core.Path.{_∙_, _≡_, ap, refl, sym}
 use native.Mathlib.Omega.{arith}
 use borrow.Author.Tests.{eq-eqb, eqb-true}
 use lib.ListN.{List·getD-eq-default, length}
+use Rattle.base.proofs.Scan.{bit-zero-iff}
 use Rattle.base.proofs.Tests.{and-iff, clash, split}
 use Rattle.base.specs.Scan.{bit}
 use Rattle.blockcache.proofs.Demand2.{cache-read}
@@ -29,11 +30,12 @@ use Rattle.sectortype.specs.declared.Contents.{Contents}
 use Rattle.sectortype.specs.declared.Node.{Node}
 use Rattle.sectortype.specs.declared.Nodes.{Nodes}
 use Rattle.blocksystem.proofs.Accepting.{joined-node, joined-zero}
+use Rattle.blocksystem.proofs.After.{every-iff}
 use Rattle.blocksystem.proofs.Formatted.{first-forms}
 use Rattle.blocksystem.proofs.Invariant.{PicturesForm}
-use Rattle.blocksystem.proofs.PictureForms.{call-form}
+use Rattle.blocksystem.proofs.PictureForms.{run-form}
 use Rattle.blocksystem.specs.Joined.{joined}
-use Rattle.blocksystem.specs.Run.{JoinedCall, State, acceptsStep, after, asked, moved, start, step}
+use Rattle.blocksystem.specs.Run.{Every, JoinedCall, State, acceptsStep, after, asked, moved, start, step}
 use Rattle.blocksystem.specs.Screen.{differs, isPictured, readsDiffering, stepDiffers}
 
 -- WHAT IS THE PICTURE'S
@@ -98,18 +100,6 @@ EveryReadPictured d s calls =
     (front back : List JoinedCall) (q : Call) (o : Records) → calls ≡ front ++ (step 17 q o ∷ back) →
     asked d (after d s front) 17 q o .answer ≡ 0 → HandsOutPictured d (after d s front) q o
 
-pub sum-zero : (b : Bool) (n : ℕ) → (bit b + n ≡ 0) ↔ ((b ≡ false) × (n ≡ 0))
-sum-zero true n = ((λ e. absurd (let h = e in omega arith)), (λ h. clash refl (h .0)))
-sum-zero false n = ((λ e. (refl, let h = e in omega arith)), (λ h. let z = h .1 in omega arith))
-
-at-cut : (d : ℕ) (front back : List JoinedCall) (q : Call) (o : Records) (s : State) → PicturesForm (s .pictures) → readsDiffering d s (front ++ (step 17 q o ∷ back)) ≡ 0 →
-    asked d (after d s front) 17 q o .answer ≡ 0 → HandsOutPictured d (after d s front) q o
-unfolding after readsDiffering
-at-cut d [] back q o s f z t =
-    same-iff d s q o f t .0 (sum-zero (stepDiffers d s 17 q o) (readsDiffering d (moved d s (step 17 q o)) back) .0 z .0)
-at-cut d (k ∷ ks) back q o s f z t =
-    at-cut d ks back q o (moved d s k) (call-form d s k f) (sum-zero (differs d s k) (readsDiffering d (moved d s k) (ks ++ (step 17 q o ∷ back))) .0 z .1) t
-
 -- a call is not counted, if it is no read or hands out the picture's node where it is accepted
 pub not-counted : (d : ℕ) (s : State) (k : JoinedCall) → PicturesForm (s .pictures) →
     ((q : Call) (o : Records) → k ≡ step 17 q o → asked d s 17 q o .answer ≡ 0 → HandsOutPictured d s q o) → differs d s k ≡ false
@@ -119,18 +109,28 @@ not-counted d s (step n q o) f h =
     rw e (split (acceptsStep d s 17 q o) (λ t. let z = eqb-true _ _ t in same-iff d s q o f z .1 (h q o (ap (λ m. step m q o) e) z)) (λ t. rw t)))
     (λ r. split (acceptsStep d s n q o) (λ t. rw (t, r)) (λ t. rw t))
 
-all-same : (d : ℕ) (calls : List JoinedCall) (s : State) → PicturesForm (s .pictures) → EveryReadPictured d s calls → readsDiffering d s calls ≡ 0
-unfolding after readsDiffering
-all-same d [] s f h = refl
-all-same d (k ∷ ks) s f h =
-    sum-zero (differs d s k) (readsDiffering d (moved d s k) ks) .1 (
-      not-counted d s k f (λ q o e. h [] ks q o (ap (λ j. j ∷ ks) e)),
-      all-same d ks (moved d s k) (call-form d s k f) (λ front back q o e. h (k ∷ front) back q o (ap (λ l. k ∷ l) e)),
+abbrev pub CallSame : ℕ → State → JoinedCall → Type 0
+CallSame d s k = differs d s k ≡ false
+
+-- the count is 0 exactly when no call is counted
+pub each-same : (d : ℕ) (calls : List JoinedCall) (s : State) → (readsDiffering d s calls ≡ 0) ↔ Every d (CallSame d) s calls
+unfolding readsDiffering
+each-same d [] s = ((λ h. tt), (λ h. refl))
+each-same d (k ∷ ks) s =
+    let one = bit-zero-iff (differs d s k) in
+    let rest = each-same d ks (moved d s k) in (
+      (λ h. (one .0 (omega (arith, h)), rest .0 (omega (arith, h)))),
+      (λ h. let a = one .1 (h .0) in let b = rest .1 (h .1) in omega arith),
     )
 
 -- what it is for the count to be 0, from any state whose pictures are in their form ..
 pub reads-iff : (d : ℕ) (s : State) (calls : List JoinedCall) → PicturesForm (s .pictures) → (readsDiffering d s calls ≡ 0) ↔ EveryReadPictured d s calls
-reads-iff d s calls f = ((λ z front back q o e. at-cut d front back q o s f (subst (λ l. readsDiffering d s l ≡ 0) e z)), (λ h. all-same d calls s f h))
+reads-iff d s calls f =
+    let each = each-same d calls s in
+    let cuts = every-iff d (CallSame d) calls s in (
+      (λ z front back q o e t. same-iff d (after d s front) q o (run-form d front s f) t .0 (cuts .0 (each .0 z) front back (step 17 q o) e)),
+      (λ h. each .1 (cuts .1 (λ front back k e. not-counted d (after d s front) k (run-form d front s f) (λ q o i. h front back q o (e ∙ ap (λ j. front ++ (j ∷ back)) i))))),
+    )
 
 -- .. so from a newly formatted device, along any list, whatever place its starts are given
 pub run-reads-iff : (d : ℕ) (x : Contents) (calls : List JoinedCall) → (readsDiffering d (start d x) calls ≡ 0) ↔ EveryReadPictured d (start d x) calls

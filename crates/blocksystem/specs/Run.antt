@@ -101,9 +101,13 @@ module _ (d : ℕ) where
   after s [] = s
   after s (k ∷ ks) = after (moved s k) ks
 
+  -- something holds of each call of a list, in the state that the call gets
+  abbrev pub Every : (State → JoinedCall → Type 0) → State → List JoinedCall → Type 0
+  Every P s [] = Unit {0}
+  Every P s (k ∷ ks) = P s k × Every P (moved s k) ks
+
   abbrev pub Answered : State → List JoinedCall → Type 0
-  Answered s [] = Unit {0}
-  Answered s (k ∷ ks) = AnsweredAs s k × Answered (moved s k) ks
+  Answered s calls = Every AnsweredAs s calls
 
   unfoldable pub startsNamed : State → List JoinedCall → Bool
   startsNamed s [] = true
