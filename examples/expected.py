@@ -4,6 +4,7 @@ import sys
 sys.dont_write_bytecode=True
 from parts.lines import AREA1,EX,OK,P,c,example,l
 from parts.lives import before_format,edges,last_blocks,life
+from parts.rules import rule_rows,rules
 from parts.screen import screen_rows
 from parts.steps import letgo_rows,rows
 from parts.stories import contents,crash,day,letgo,places,refusals,screen
@@ -22,6 +23,8 @@ letgo_rows()
 example('letgo','A drive that brings nothing: the wait for a card is let go, and the card is read after all; the next morning the same with the table.',letgo)
 example('screen','What a member sees: the screen agrees with the working picture, whatever was changed, dropped or lost; and a start that nothing is promised of.',screen)
 screen_rows()
+example('rules','Two rules for a second freeze: under rule 1 it un-names the place that was reported, under rule 2 it is refused.',rules)
+rule_rows()
 c(b'The last line has no line feed.')
 l('audit','place=%s %s'%(AREA1,OK))
 

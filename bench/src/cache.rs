@@ -1,6 +1,6 @@
 //! The cache: phases, three tables, what is outstanding, the cached nodes.
 
-use crate::disk::DiskOp;
+use crate::disk::{is_rule, DiskOp};
 use crate::layout::{self, Location};
 use crate::sector::{Entry, Node, Nodes, Request, Requests, Slot, Table};
 
@@ -113,8 +113,8 @@ impl Cache {
     }
 
     /// The number of a call, 0 if the cache accepts it.
-    pub fn refusal(&self, device: u64, number: u64, q: &Call) -> u64 {
-        if !(device <= 2 && self.form() && q.reference <= 63 && q.node.form() && q.table.form()) {
+    pub fn refusal(&self, device: u64, rule: u64, number: u64, q: &Call) -> u64 {
+        if !(device <= 2 && is_rule(rule) && self.form() && q.reference <= 63 && q.node.form() && q.table.form()) {
             return 1;
         }
         let r = q.reference as usize;
@@ -222,7 +222,7 @@ impl Cache {
                     && self.writes.list().iter().any(|w| w.reference as usize == r && w.loc == entry.loc),
                 11: self.fz(r),
             ),
-            12 => first!(2: q.vop != VersionOp::Freeze, 3: !bare, 4: !ready, 10: self.waiting),
+            12 => first!(2: q.vop != VersionOp::Freeze, 3: !bare, 4: !ready, 10: self.waiting, 25: rule == 2 && self.frozenplaced),
             13 => first!(
                 2: q.vop != VersionOp::CleanUp,
                 3: !bare,

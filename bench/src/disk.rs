@@ -25,11 +25,17 @@ pub struct Records {
 
 #[derive(Clone, PartialEq, Eq, Default)]
 pub struct Disk {
+    pub rule: u64,
     pub records: Records,
     pub tablereads: Requests,
     pub nodereads: Requests,
     pub tablewrites: Requests,
     pub nodewrites: Requests,
+}
+
+/// A freeze rule is 1 or 2.
+pub fn is_rule(rule: u64) -> bool {
+    rule == 1 || rule == 2
 }
 
 /// A read answer says whether it brings something; the node or the table stands beside the operation.
@@ -112,7 +118,8 @@ fn written_at(q: &Requests, addr: u64) -> bool {
 
 impl Disk {
     pub fn form(&self, device: u64) -> bool {
-        self.records.form()
+        is_rule(self.rule)
+            && self.records.form()
             && self.records.placed(device)
             && table_queue_form(device, &self.tablereads)
             && node_queue_form(device, &self.nodereads)
@@ -187,6 +194,6 @@ impl Disk {
     }
 
     pub fn crash(&mut self, offered: &Records) {
-        *self = Disk { records: offered.clone(), ..Disk::default() };
+        *self = Disk { rule: self.rule, records: offered.clone(), ..Disk::default() };
     }
 }

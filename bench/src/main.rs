@@ -33,7 +33,7 @@ fn lower(a: u64, b: u64) -> u64 {
 #[inline(never)]
 fn step(device: u64, number: u64, q: &Call, offered: Option<&Records>, c: &mut Cache, s: &mut Disk) -> (u64, Node) {
     let dop = if number == 17 { DiskOp::None } else { q.dop };
-    let a = c.refusal(device, number, q);
+    let a = c.refusal(device, s.rule, number, q);
     let b = if device > 2 {
         1
     } else if number == 18 {
@@ -113,7 +113,7 @@ impl State {
         self.device = device;
         self.base = base;
         self.cache = Cache::default();
-        self.disk = Disk::default();
+        self.disk = Disk { rule: 2, ..Disk::default() };
         let (at, place) = (self.area(0), self.block(0));
         let mut table = Table::default();
         table.set(0, Entry { allocated: true, located: true, loc: place, succs: Succs::default() });
@@ -232,6 +232,7 @@ impl State {
         self.freeze();
         self.write_req(1, 41, 20, small);
         self.turn(4, bare(0, VersionOp::SendFrozenLoc(self.area(1)), DiskOp::RespWriteTable(40)));
+        self.freeze();
         self.turn(13, bare(0, VersionOp::CleanUp, NONE));
         self.turn(13, bare(0, VersionOp::CleanUp, NONE));
         self.turn(14, bare(0, VersionOp::PushSync, NONE));

@@ -1,4 +1,4 @@
-// The joined call in a loop, to be timed (docs/PERFORMANCE.md): `bench ROUNDS` runs the script of 85 calls so many times, and prints
+// The joined call in a loop, to be timed (docs/PERFORMANCE.md): `bench ROUNDS` runs the script of 86 calls so many times, and prints
 // the calls made, those accepted, and a checksum of the answers and of the contents read.
 ghost use Prim.Native.Nat.{_≤_};
 

@@ -1,4 +1,4 @@
-// The script: 85 calls on a newly formatted device, of which documents 01 and 02 accept 64. Each refused call says its number.
+// The script: 86 calls on a newly formatted device, of which documents 01 and 02 accept 64. Each refused call says its number.
 use crate::calls::State;
 use crate::calls::contents;
 use crate::calls::naming;
@@ -30,6 +30,9 @@ use blockdisk::Brought;
 use blockdisk::DiskOp;
 use sectortype::Node;
 use system::Store;
+
+// Under rule 2 the freeze of call 59 is refused, and the frozen place is there for the clean-up after it.
+const RULE: u64 = 2;
 
 // Reference r as the script first writes it: it names the one before it, and the root.
 fn leaf(base: u64, r: u8) -> Node {
@@ -153,7 +156,7 @@ fn write_back(s: State) -> State {
     write_back_node_resp(s, 99) // 5: not awaited
 }
 
-// Calls 53 to 62: a frozen table written and cleaned up.
+// Calls 53 to 63: a frozen table written and cleaned up.
 fn persist(s: State) -> State {
     let s = freeze(s);
     let n = small(0);
@@ -162,13 +165,14 @@ fn persist(s: State) -> State {
     let s = freeze(s); // 10: a table write is outstanding
     let s = write_back_node_req(s, 1, 41, 20, n); // 10: the same
     let s = write_back_table_resp(s, 40);
+    let s = freeze(s); // 25: its place is set
     let s = clean_up(s);
     let s = clean_up(s); // 11: no frozen place
     let s = no_op(s, DiskOp::NoDiskOp);
     no_op(s, DiskOp::RespReadNodeOp(77, Brought::Something)) // 15: no such read
 }
 
-// Calls 63 to 76: a node out and in again, after the drive first brought nothing, and a crash with a write outstanding.
+// Calls 64 to 77: a node out and in again, after the drive first brought nothing, and a crash with a write outstanding.
 fn lose(s: State) -> State {
     let s = evict(s, 2);
     let s = read(s, 2); // 8: not cached
@@ -188,7 +192,7 @@ fn lose(s: State) -> State {
     crash(s, VersionOp::CrashOp)
 }
 
-// Calls 77 to 85: a start from area 2.
+// Calls 78 to 86: a start from area 2.
 fn again(s: State) -> State {
     let s = receive_loc(s, true);
     let s = page_in_table_req(s, 70, true);
@@ -202,10 +206,10 @@ fn again(s: State) -> State {
     crash(s, VersionOp::CrashOp)
 }
 
-// The store newly formatted on this device for the round of this number; counts and checksum as they were.
+// The store newly formatted on this device, under rule 2, for the round of this number; counts and checksum as they were.
 fn formatted(s: State, device: u64, base: u64) -> State {
     let x = contents(base, 0);
-    let o = Store::format(device, x);
+    let o = Store::format(device, x, RULE);
     State {
         device,
         base,
@@ -230,7 +234,7 @@ pub fn round(s: State, i: u64) -> State {
 // Nothing called yet.
 pub fn start() -> State {
     let x = sector::zero_contents();
-    let o = Store::format(0, x);
+    let o = Store::format(0, x, RULE);
     State {
         device: 0,
         base: 0,

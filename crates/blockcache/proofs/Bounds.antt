@@ -13,6 +13,7 @@ use Rattle.blockcache.specs.Ops.{dopId}
 use Rattle.blockcache.specs.Rows.{readRef}
 use Rattle.blockcache.specs.declared.CacheState.{CacheState}
 use Rattle.blockcache.specs.declared.Call.{Call}
+use Rattle.blockcache.specs.declared.Settings.{Settings}
 use Rattle.queue.proofs.Laws.{form-length, found-used}
 use Rattle.queue.specs.Queue.{entryOf, findOf, requestAt, requestsForm, zeroRequest}
 use Rattle.queue.specs.declared.Requests.{Requests}
@@ -34,8 +35,8 @@ entry-reference q id form =
     let m : length (q .at) ≤ findOf q id = omega arith in
     rw (List·getD-eq-default (q .at) zeroRequest m) (omega arith))
 
-pub read-reference : (d : ℕ) (c : CacheState) (q : Call) → cacheForm c ≡ true → readRef d c q < 64
+pub read-reference : (g : Settings) (c : CacheState) (q : Call) → cacheForm c ≡ true → readRef g c q < 64
 unfolding cacheForm
-read-reference d c q e =
+read-reference g c q e =
     let h = simp and-iff at e in
     entry-reference (c .outstanding .reads) (dopId (q .dop)) (h .0 .0 .1 .1)

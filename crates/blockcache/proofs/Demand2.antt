@@ -28,23 +28,24 @@ use Rattle.blockcache.specs.Steps.{isNew, numberOf, readStep, Step, step
 use Rattle.blockcache.specs.Upstream.{ReadStep, unready, Variables}
 use Rattle.blockcache.specs.declared.CacheState.{CacheState}
 use Rattle.blockcache.specs.declared.Call.{Call}
+use Rattle.blockcache.specs.declared.Settings.{Settings}
 
-module _ (d : ℕ) (c : CacheState) (q : Call) (w : WellFormed d c q) where
+module _ (g : Settings) (c : CacheState) (q : Call) (w : WellFormed g c q) where
   -- the rows of a step are clear exactly where its predicate allows it and no narrowing of it applies
-  step-accepted : (step : Step) → Clear (stepRows d c q step) ↔ ((stepNarrowed c q step ≡ false) × ((s' : Variables) × Next d c q step s'))
+  step-accepted : (step : Step) → Clear (stepRows g c q step) ↔ ((stepNarrowed g c q step ≡ false) × ((s' : Variables) × Next g c q step s'))
   step-accepted step =
-      let x = exact d c q w step in
-      let g = gate-iff (takes (c .phase) (q .vop) (q .dop) step) (ownRows d c q step) in
+      let x = exact g c q w step in
+      let gates = gate-iff (takes (c .phase) (q .vop) (q .dop) step) (ownRows g c q step) in
       let after = cacheVars (stepNext c q step) in (
-        (λ k. let h = g .0 k in (x .free (h .1), (after, frame d c q after step .1 (h .0, x .sound (h .0) (h .1))))),
-        (λ (n, (s', nx)). let o = frame d c q s' step .0 nx in g .1 (o .0, x .complete s' n (o .1))),
+        (λ k. let h = gates .0 k in (x .free (h .1), (after, frame g c q after step .1 (h .0, x .sound (h .0) (h .1))))),
+        (λ (n, (s', nx)). let o = frame g c q s' step .0 nx in gates .1 (o .0, x .complete s' n (o .1))),
       )
 
   -- the next state is one that it allows
-  step-allowed : (step : Step) → Clear (stepRows d c q step) → Next d c q step (cacheVars (stepNext c q step))
+  step-allowed : (step : Step) → Clear (stepRows g c q step) → Next g c q step (cacheVars (stepNext c q step))
   step-allowed step k =
-      let h = gate-iff (takes (c .phase) (q .vop) (q .dop) step) (ownRows d c q step) .0 k in
-      frame d c q (cacheVars (stepNext c q step)) step .1 (h .0, exact d c q w step .sound (h .0) (h .1))
+      let h = gate-iff (takes (c .phase) (q .vop) (q .dop) step) (ownRows g c q step) .0 k in
+      frame g c q (cacheVars (stepNext c q step)) step .1 (h .0, exact g c q w step .sound (h .0) (h .1))
 
 -- EVERY STEP OF THE STORE
 
@@ -53,23 +54,23 @@ abbrev pub StoreAllows : ℕ → CacheState → ℕ → Call → Type 0
 StoreAllows d c n q =
     (step : Step) × (stepOf n ≡ some step) × ((s' : Variables) × StoreStep d (cacheVars c) s' (callOp q) (q .vop) (q .reference) (q .node) step)
 
-pub store-accepted : (d : ℕ) (c : CacheState) (n : ℕ) (q : Call) → (answer (cacheRows d c n q) ≡ 0) ↔ ((narrowed d c n q ≡ false) × StoreAllows d c n q)
+pub store-accepted : (g : Settings) (c : CacheState) (n : ℕ) (q : Call) → (answer (cacheRows g c n q) ≡ 0) ↔ ((narrowed g c n q ≡ false) × StoreAllows (g .device) c n q)
 unfolding narrowed
-store-accepted d c n q = (
-  (λ e. let x = call-accepted-iff d c n q .0 e in
-      let h = step-accepted d c q (x .form) (x .step) .0 (x .clear) in
-      let within = limits-iff d c n q .1 (well-formed-iff d c q .1 (x .form), (x .step, x .is)) in
-      (or-iff (outsideLimits d c n q) (narrowedOf c q (stepOf n)) .1 (within, rw (x .is) (h .0)), (x .step, x .is, h .1))),
+store-accepted g c n q = (
+  (λ e. let x = call-accepted-iff g c n q .0 e in
+      let h = step-accepted g c q (x .form) (x .step) .0 (x .clear) in
+      let within = limits-iff g c n q .1 (well-formed-iff g c q .1 (x .form), (x .step, x .is)) in
+      (or-iff (outsideLimits g c n q) (narrowedOf g c q (stepOf n)) .1 (within, rw (x .is) (h .0)), (x .step, x .is, h .1))),
   (λ (m, (step, e, a)).
-      let h = or-iff (outsideLimits d c n q) (narrowedOf c q (stepOf n)) .0 m in
-      let w = well-formed-iff d c q .0 (limits-iff d c n q .0 (h .0) .0) in
-      call-accepted-iff d c n q .1 (record { form = w; step = step; is = e; clear = step-accepted d c q w step .1 (rw e at (h .1), a) })),
+      let h = or-iff (outsideLimits g c n q) (narrowedOf g c q (stepOf n)) .0 m in
+      let w = well-formed-iff g c q .0 (limits-iff g c n q .0 (h .0) .0) in
+      call-accepted-iff g c n q .1 (record { form = w; step = step; is = e; clear = step-accepted g c q w step .1 (rw e at (h .1), a) })),
 )
 
-pub store-allowed : (d : ℕ) (c : CacheState) (n : ℕ) (q : Call) → answer (cacheRows d c n q) ≡ 0 →
-    (step : Step) × (stepOf n ≡ some step) × StoreStep d (cacheVars c) (cacheVars (cacheNext c n q)) (callOp q) (q .vop) (q .reference) (q .node) step
-store-allowed d c n q e =
-    let x = call-accepted-iff d c n q .0 e in (x .step, x .is, rw (x .is) (step-allowed d c q (x .form) (x .step) (x .clear)))
+pub store-allowed : (g : Settings) (c : CacheState) (n : ℕ) (q : Call) → answer (cacheRows g c n q) ≡ 0 →
+    (step : Step) × (stepOf n ≡ some step) × StoreStep (g .device) (cacheVars c) (cacheVars (cacheNext c n q)) (callOp q) (q .vop) (q .reference) (q .node) step
+store-allowed g c n q e =
+    let x = call-accepted-iff g c n q .0 e in (x .step, x .is, rw (x .is) (step-allowed g c q (x .form) (x .step) (x .clear)))
 
 -- THE THEOREMS: upstream's steps
 
@@ -81,27 +82,27 @@ old-steps n b = ne-eqb n 19 (λ e. let h = b in omega arith)
 pub upstreams : (n : ℕ) (step : Step) → isNew n ≡ false → stepOf n ≡ some step → isNew (numberOf step) ≡ false
 upstreams n step old e = subst (λ m. isNew m ≡ false) (step-of-number n step e) old
 
-module _ (d : ℕ) (c : CacheState) (n : ℕ) (q : Call) (old : isNew n ≡ false) where
-  pub cache-accepted : (answer (cacheRows d c n q) ≡ 0) ↔ ((narrowed d c n q ≡ false) × Allowed d c n q)
+module _ (g : Settings) (c : CacheState) (n : ℕ) (q : Call) (old : isNew n ≡ false) where
+  pub cache-accepted : (answer (cacheRows g c n q) ≡ 0) ↔ ((narrowed g c n q ≡ false) × Allowed (g .device) c n q)
   cache-accepted =
-      let a = store-accepted d c n q in (
+      let a = store-accepted g c n q in (
         (λ e. let h = a .0 e in let x = h .1 in (h .0, (x .0, x .1, (x .2 .0, rw (upstreams n (x .0) old (x .1)) at (x .2 .1))))),
-        (λ (m, (step, e, (s', g))). a .1 (m, (step, e, (s', rw (upstreams n step old e) g)))),
+        (λ (m, (step, e, (s', k))). a .1 (m, (step, e, (s', rw (upstreams n step old e) k)))),
       )
 
-  pub cache-allowed : answer (cacheRows d c n q) ≡ 0 →
-      (step : Step) × (stepOf n ≡ some step) × NextStep d (cacheVars c) (cacheVars (cacheNext c n q)) (callOp q) (q .vop) (q .reference) (q .node) step
-  cache-allowed e = let x = store-allowed d c n q e in (x .0, x .1, rw (upstreams n (x .0) old (x .1)) at (x .2))
+  pub cache-allowed : answer (cacheRows g c n q) ≡ 0 →
+      (step : Step) × (stepOf n ≡ some step) × NextStep (g .device) (cacheVars c) (cacheVars (cacheNext c n q)) (callOp q) (q .vop) (q .reference) (q .node) step
+  cache-allowed e = let x = store-allowed g c n q e in (x .0, x .1, rw (upstreams n (x .0) old (x .1)) at (x .2))
 
 -- an accepted read leaves the cache as it is, and ReadStep names the cached node
-pub cache-read : (d : ℕ) (c : CacheState) (q : Call) → answer (cacheRows d c 17 q) ≡ 0 →
+pub cache-read : (g : Settings) (c : CacheState) (q : Call) → answer (cacheRows g c 17 q) ≡ 0 →
     (isReady c ≡ true) × (cacheNext c 17 q ≡ c) × ReadStep (readyVars c) (q .reference) (nodeOf c 17 q)
 unfolding stepOf steps
-cache-read d c q e =
-    let x = call-accepted-iff d c 17 q .0 e in
-    let k : Clear (stepRows d c q readStep) = subst (λ s. Clear (stepRows d c q s)) (number-decides 17 (x .step) readStep (x .is) refl) (x .clear) in
-    let h = gate-iff (takes (c .phase) (q .vop) (q .dop) readStep) (ownRows d c q readStep) .0 k in
-    (h .0 .2, refl, read-cached d c q (x .form) (h .1))
+cache-read g c q e =
+    let x = call-accepted-iff g c 17 q .0 e in
+    let k : Clear (stepRows g c q readStep) = subst (λ s. Clear (stepRows g c q s)) (number-decides 17 (x .step) readStep (x .is) refl) (x .clear) in
+    let h = gate-iff (takes (c .phase) (q .vop) (q .dop) readStep) (ownRows g c q readStep) .0 k in
+    (h .0 .2, refl, read-cached g c q (x .form) (h .1))
 
 -- a crash leaves the cache unready
 pub cache-crash : (c : CacheState) (q : Call) → cacheVars (cacheNext c 18 q) ≡ unready

@@ -41,6 +41,7 @@ use Rattle.blockcache.specs.UpstreamInv.{Inv, InvReady}
 use Rattle.blockcache.specs.declared.Awaited.{Awaited}
 use Rattle.blockcache.specs.declared.CacheState.{CacheState}
 use Rattle.blockcache.specs.declared.Call.{Call}
+use Rattle.blockcache.specs.declared.Settings.{Settings}
 use Rattle.blockcache.specs.declared.Places.{Places}
 use Rattle.blockcache.specs.declared.Tables.{Tables}
 use Rattle.blockcache.specs.declared.VersionOp.{VersionOp}
@@ -81,9 +82,9 @@ number-of-step letGoStep = refl
 
 -- THE ROWS ASCEND
 
-module _ (d : ℕ) (c : CacheState) (q : Call) (b : Bool) where
+module _ (g : Settings) (c : CacheState) (q : Call) (b : Bool) where
   -- the numbers of the rows ascend
-  pub rows-ascend : (step : Step) → ascending ((1 when b) ∷ stepRows d c q step) ≡ true
+  pub rows-ascend : (step : Step) → ascending ((1 when b) ∷ stepRows g c q step) ≡ true
   rows-ascend writeBackNodeReqStep = refl
   rows-ascend writeBackNodeRespStep = refl
   rows-ascend writeBackIndirectionTableReqStep = refl
@@ -104,33 +105,62 @@ module _ (d : ℕ) (c : CacheState) (q : Call) (b : Bool) where
   rows-ascend crashStep = refl
   rows-ascend letGoStep = refl
 
+-- THE FREEZE RULE
+
+-- a device under a rule
+abbrev pub under : ℕ → ℕ → Settings
+under d r = record { device = d; rule = r }
+
+module _ (d : ℕ) (c : CacheState) (q : Call) where
+  -- a step other than Freeze has the same rows under both rules
+  pub rows-of-rule : (step : Step) → (numberOf step ≡ 12 → ⊥) → stepRows (under d 2) c q step ≡ stepRows (under d 1) c q step
+  rows-of-rule writeBackNodeReqStep ne = refl
+  rows-of-rule writeBackNodeRespStep ne = refl
+  rows-of-rule writeBackIndirectionTableReqStep ne = refl
+  rows-of-rule writeBackIndirectionTableRespStep ne = refl
+  rows-of-rule unallocStep ne = refl
+  rows-of-rule pageInNodeReqStep ne = refl
+  rows-of-rule pageInNodeRespStep ne = refl
+  rows-of-rule pageInIndirectionTableReqStep ne = refl
+  rows-of-rule pageInIndirectionTableRespStep ne = refl
+  rows-of-rule receiveLocStep ne = refl
+  rows-of-rule evictStep ne = refl
+  rows-of-rule freezeStep ne = absurd (ne refl)
+  rows-of-rule cleanUpStep ne = refl
+  rows-of-rule noOpStep ne = refl
+  rows-of-rule dirtyStep ne = refl
+  rows-of-rule allocStep ne = refl
+  rows-of-rule readStep ne = refl
+  rows-of-rule crashStep ne = refl
+  rows-of-rule letGoStep ne = refl
+
 -- DEMAND 2
 
-module _ (d : ℕ) (c : CacheState) (q : Call) (w : WellFormed d c q) where
-  pub exact : (step : Step) → Exact d c q step
-  exact writeBackNodeReqStep = write-back-node-req-exact d c q w
-  exact writeBackNodeRespStep = write-back-node-resp-exact d c q w
-  exact writeBackIndirectionTableReqStep = write-back-table-req-exact d c q w
-  exact writeBackIndirectionTableRespStep = write-back-table-resp-exact d c q w
-  exact unallocStep = unalloc-exact d c q w
-  exact pageInNodeReqStep = page-in-node-req-exact d c q w
-  exact pageInNodeRespStep = page-in-node-resp-exact d c q w
-  exact pageInIndirectionTableReqStep = page-in-table-req-exact d c q w
-  exact pageInIndirectionTableRespStep = page-in-table-resp-exact d c q w
-  exact receiveLocStep = receive-loc-exact d c q w
-  exact evictStep = evict-exact d c q w
-  exact freezeStep = freeze-exact d c q w
-  exact cleanUpStep = clean-up-exact d c q w
-  exact noOpStep = no-op-exact d c q w
-  exact dirtyStep = dirty-exact d c q w
-  exact allocStep = alloc-exact d c q w
-  exact readStep = read-exact d c q w
-  exact crashStep = crash-exact d c q w
-  exact letGoStep = let-go-exact d c q w
+module _ (g : Settings) (c : CacheState) (q : Call) (w : WellFormed g c q) where
+  pub exact : (step : Step) → Exact g c q step
+  exact writeBackNodeReqStep = write-back-node-req-exact g c q w
+  exact writeBackNodeRespStep = write-back-node-resp-exact g c q w
+  exact writeBackIndirectionTableReqStep = write-back-table-req-exact g c q w
+  exact writeBackIndirectionTableRespStep = write-back-table-resp-exact g c q w
+  exact unallocStep = unalloc-exact g c q w
+  exact pageInNodeReqStep = page-in-node-req-exact g c q w
+  exact pageInNodeRespStep = page-in-node-resp-exact g c q w
+  exact pageInIndirectionTableReqStep = page-in-table-req-exact g c q w
+  exact pageInIndirectionTableRespStep = page-in-table-resp-exact g c q w
+  exact receiveLocStep = receive-loc-exact g c q w
+  exact evictStep = evict-exact g c q w
+  exact freezeStep = freeze-exact g c q w
+  exact cleanUpStep = clean-up-exact g c q w
+  exact noOpStep = no-op-exact g c q w
+  exact dirtyStep = dirty-exact g c q w
+  exact allocStep = alloc-exact g c q w
+  exact readStep = read-exact g c q w
+  exact crashStep = crash-exact g c q w
+  exact letGoStep = let-go-exact g c q w
 
 -- THE WRITTEN FORM IS KEPT
 
-module _ (d : ℕ) (c : CacheState) (q : Call) (w : WellFormed d c q) where
+module _ (g : Settings) (c : CacheState) (q : Call) (w : WellFormed g c q) where
   abbrev r : ℕ
   r = q .reference
 
@@ -195,7 +225,7 @@ module _ (d : ℕ) (c : CacheState) (q : Call) (w : WellFormed d c q) where
       with-nodes-form (withEphemeral c t) e ok (withSlot (c .nodes) r (cachedSlot (q .node)))
       (with-slot-form (c .nodes) r (cachedSlot (q .node)) (f .nodes) (w .call .reference) (cached-slot-form (q .node) (w .call .node)))
 
-  pub next-form : (step : Step) → Open d c q step → Clear (ownRows d c q step) → CacheForm (stepNext c q step)
+  pub next-form : (step : Step) → Open g c q step → Clear (ownRows g c q step) → CacheForm (stepNext c q step)
   next-form writeBackNodeReqStep taken k =
       let new : Request = record { id = id; reference = r; loc = loc } in
       let h = with-writes-form c f (taken .2) (insertOf writing new)

@@ -12,8 +12,10 @@ use Rattle.base.proofs.Tests.{and-iff, and-left, clash, eqb-iff, never, not-tru
 use Rattle.base.specs.Maps.{empty}
 use Rattle.blockcache.specs.Form.{awaitedForm, cacheForm, formIn, idle, isReady, loadingPhase, phaseForm, placesForm, readOk, readsForm, readyPhase, writeOk, writesForm}
 use Rattle.blockcache.specs.Step.{wellFormed}
+use Rattle.blockdisk.specs.Form.{isRule}
 use Rattle.blockcache.specs.declared.CacheState.{CacheState}
 use Rattle.blockcache.specs.declared.Call.{Call}
+use Rattle.blockcache.specs.declared.Settings.{Settings}
 use Rattle.blockcache.specs.declared.Outstanding.{Outstanding}
 use Rattle.blockcache.specs.declared.Phase.{Phase}
 use Rattle.blockcache.specs.declared.Phase.the-variants.{Loading as PhaseLoading, Ready as PhaseReady, Unready as PhaseUnready}
@@ -182,16 +184,17 @@ pub record CallForm (q : Call) : Type 0 where
   pub node : nodeForm (q .node) ≡ true
   pub table : tableForm (q .table) ≡ true
 
-pub record WellFormed (d : ℕ) (c : CacheState) (q : Call) : Type 0 where
-  pub on : made d ≡ true
+pub record WellFormed (g : Settings) (c : CacheState) (q : Call) : Type 0 where
+  pub on : made (g .device) ≡ true
+  pub rule : isRule (g .rule) ≡ true
   pub form : CacheForm c
   pub call : CallForm q
 
-pub well-formed-iff : (d : ℕ) (c : CacheState) (q : Call) → (wellFormed d c q ≡ true) ↔ WellFormed d c q
-well-formed-iff d c q = (
+pub well-formed-iff : (g : Settings) (c : CacheState) (q : Call) → (wellFormed g c q ≡ true) ↔ WellFormed g c q
+well-formed-iff g c q = (
   (λ e. let h = simp (cache-form-iff, and-iff) at e in
       let b : q .reference ≤ 63 = leb-true (q .reference) 63 (h .1 .0 .0) in
-      record { on = h .0 .0; form = h .0 .1; call = record { reference = omega arith; node = h .1 .0 .1; table = h .1 .1 } }),
+      record { on = h .0 .0 .0; rule = h .0 .0 .1; form = h .0 .1; call = record { reference = omega arith; node = h .1 .0 .1; table = h .1 .1 } }),
   (λ w. let b : q .reference < 64 = w .call .reference in
-      simp (cache-form-iff, and-iff) ((w .on, w .form), ((le-leb (q .reference) 63 (omega arith), w .call .node), w .call .table))),
+      simp (cache-form-iff, and-iff) (((w .on, w .rule), w .form), ((le-leb (q .reference) 63 (omega arith), w .call .node), w .call .table))),
 )

@@ -31,6 +31,7 @@ use Rattle.blockcache.specs.Upstream.{Alloc, CleanUp, Dirty, Evict, Free
 use Rattle.blockcache.specs.Upstream.{Ready, ReceiveLoc, Unalloc, Variables, WriteBackIndirectionTableReq, WriteBackIndirectionTableResp, WriteBackNodeReq, WriteBackNodeResp}
 use Rattle.blockcache.specs.declared.CacheState.{CacheState}
 use Rattle.blockcache.specs.declared.Call.{Call}
+use Rattle.blockcache.specs.declared.Settings.{Settings}
 use Rattle.blockcache.specs.declared.VersionOp.the-variants.{StatesInternalOp}
 use Rattle.blockdisk.specs.Ops.{somethingIn}
 use Rattle.blockdisk.specs.Upstream.{noDiskOp}
@@ -48,7 +49,7 @@ gate-iff t rest = (
   (λ (o, k). (not-iff (t .version) .1 (o .0), (not-iff (t .disk) .1 (o .1), (not-iff (t .phase) .1 (o .2), k)))),
 )
 
-module _ (d : ℕ) (c : CacheState) (q : Call) where
+module _ (g : Settings) (c : CacheState) (q : Call) where
   abbrev r : ℕ
   r = q .reference
 
@@ -69,16 +70,16 @@ module _ (d : ℕ) (c : CacheState) (q : Call) where
 
   -- the step's own predicate
   abbrev pub Own : Step → Variables → Type 0
-  Own writeBackNodeReqStep s' = OnReady s' (λ y. WriteBackNodeReq d (readyVars c) y id loc (q .node) r)
+  Own writeBackNodeReqStep s' = OnReady s' (λ y. WriteBackNodeReq (g .device) (readyVars c) y id loc (q .node) r)
   Own writeBackNodeRespStep s' = OnReady s' (λ y. WriteBackNodeResp (readyVars c) y id)
-  Own writeBackIndirectionTableReqStep s' = OnReady s' (λ y. WriteBackIndirectionTableReq d (readyVars c) y id loc (indirectionTable (q .table)))
+  Own writeBackIndirectionTableReqStep s' = OnReady s' (λ y. WriteBackIndirectionTableReq (g .device) (readyVars c) y id loc (indirectionTable (q .table)))
   Own writeBackIndirectionTableRespStep s' = OnReady s' (λ y. WriteBackIndirectionTableResp (readyVars c) y id (vopLoc (q .vop)))
   Own unallocStep s' = OnReady s' (λ y. Unalloc (readyVars c) y r)
   Own pageInNodeReqStep s' = OnReady s' (λ y. PageInNodeReq (readyVars c) y id loc r)
   Own pageInNodeRespStep s' = OnReady s' (λ y. PageInNodeResp (readyVars c) y id broughtNode)
   Own pageInIndirectionTableReqStep s' = PageInIndirectionTableReq (c .places .persistent) (awaitedId (c .awaited)) s' id loc
-  Own pageInIndirectionTableRespStep s' = OnReady s' (λ y. PageInIndirectionTableResp d (c .places .persistent) (awaitedId (c .awaited)) y id broughtTable)
-  Own receiveLocStep s' = ReceiveLoc d (cacheVars c) s' (vopLoc (q .vop))
+  Own pageInIndirectionTableRespStep s' = OnReady s' (λ y. PageInIndirectionTableResp (g .device) (c .places .persistent) (awaitedId (c .awaited)) y id broughtTable)
+  Own receiveLocStep s' = ReceiveLoc (g .device) (cacheVars c) s' (vopLoc (q .vop))
   Own evictStep s' = OnReady s' (λ y. Evict (readyVars c) y r)
   Own freezeStep s' = OnReady s' (λ y. Freeze (readyVars c) y)
   Own cleanUpStep s' = OnReady s' (λ y. CleanUp (readyVars c) y)
@@ -93,22 +94,22 @@ module _ (d : ℕ) (c : CacheState) (q : Call) where
       ⊎ ((isD tableReadResp (q .dop) ≡ true) × (loadingPhase (c .phase) ≡ true) × LetTableGo (c .places .persistent) (awaitedId (c .awaited)) s' id)
 
   abbrev pub Next : Step → Variables → Type 0
-  Next step s' = StoreStep d (cacheVars c) s' (callOp q) (q .vop) (q .reference) (q .node) step
+  Next step s' = StoreStep (g .device) (cacheVars c) s' (callOp q) (q .vop) (q .reference) (q .node) step
 
   -- what the rows accept upstream allows, with the next state
   abbrev pub Sound : Step → Type 0
-  Sound step = Open step → Clear (ownRows d c q step) → Own step (cacheVars (stepNext c q step))
+  Sound step = Open step → Clear (ownRows g c q step) → Own step (cacheVars (stepNext c q step))
 
   -- what upstream allows the rows accept, where no narrowing applies
   abbrev pub Complete : Step → Type 0
-  Complete step = (s' : Variables) → stepNarrowed c q step ≡ false → Own step s' → Clear (ownRows d c q step)
+  Complete step = (s' : Variables) → stepNarrowed g c q step ≡ false → Own step s' → Clear (ownRows g c q step)
 
   -- what demand 2 asks of a step
   pub record Exact (step : Step) : Type 0 where
     pub sound : Sound step
     pub complete : Complete step
     -- a narrowing refuses
-    pub free : Clear (ownRows d c q step) → stepNarrowed c q step ≡ false
+    pub free : Clear (ownRows g c q step) → stepNarrowed g c q step ≡ false
 
   module _ (s' : Variables) where
     -- V is internal; D, and then the phase, by the laws of their kinds
@@ -148,7 +149,7 @@ module _ (d : ℕ) (c : CacheState) (q : Call) where
 
     receive-frame : Next receiveLocStep s' ↔ (Open receiveLocStep × Own receiveLocStep s')
     receive-frame =
-        let sent = send-persistent-iff (q .vop) (λ l. ReceiveLoc d (cacheVars c) s' l) in
+        let sent = send-persistent-iff (q .vop) (λ l. ReceiveLoc (g .device) (cacheVars c) s' l) in
         let no-op = no-disk-op-iff (q .dop) (q .node) (q .table) in (
           (λ (o, v). let a = sent .0 v in ((a .0, no-op .1 o, unready-iff c .0 (a .1 .before)), a .1)),
           (λ ((v, o, u), p). (no-op .0 o, sent .1 (v, p))),
@@ -163,11 +164,11 @@ module _ (d : ℕ) (c : CacheState) (q : Call) where
         let phase = answer-phase-iff (c .phase) (q .dop) in
         let n = isD nodeReadResp (q .dop) in
         let t = isD tableReadResp (q .dop) in (
-          (λ g. let v = internal-iff (q .vop) .1 (g .op) in
+          (λ l. let v = internal-iff (q .vop) .1 (l .op) in
               ⊎-elim
               (λ x. let a = node .0 x in let b = ready .0 (a .1) in ((v, or-inl t (a .0), phase .1 (inl (a .0, b .0))), inl (a .0, b .0, b .1)))
               (λ x. let a = table .0 x in let b = loading .0 (a .1) in ((v, or-inr n (a .0), phase .1 (inr (a .0, b .0))), inr (a .0, b .0, b .1)))
-              (g .answer)),
+              (l .answer)),
           (λ ((v, o, p), u).
               record {
                 op = internal-iff (q .vop) .0 v;
@@ -177,14 +178,14 @@ module _ (d : ℕ) (c : CacheState) (q : Call) where
 
     pub frame : (step : Step) → Next step s' ↔ (Open step × Own step s')
     frame writeBackNodeReqStep =
-        internal-frame (req-write-node-iff (q .dop) (q .node) (q .table) (λ i l n. OnBoth (cacheVars c) s' (λ x y. WriteBackNodeReq d x y i l n r)))
-        (on-ready-iff c (λ x. OnReady s' (λ y. WriteBackNodeReq d x y id loc (q .node) r)))
+        internal-frame (req-write-node-iff (q .dop) (q .node) (q .table) (λ i l n. OnBoth (cacheVars c) s' (λ x y. WriteBackNodeReq (g .device) x y i l n r)))
+        (on-ready-iff c (λ x. OnReady s' (λ y. WriteBackNodeReq (g .device) x y id loc (q .node) r)))
     frame writeBackNodeRespStep =
         internal-frame (resp-write-node-iff (q .dop) (q .node) (q .table) (λ i. OnBoth (cacheVars c) s' (λ x y. WriteBackNodeResp x y i)))
         (on-ready-iff c (λ x. OnReady s' (λ y. WriteBackNodeResp x y id)))
     frame writeBackIndirectionTableReqStep =
-        internal-frame (req-write-table-iff (q .dop) (q .node) (q .table) (λ i l t. OnBoth (cacheVars c) s' (λ x y. WriteBackIndirectionTableReq d x y i l t)))
-        (on-ready-iff c (λ x. OnReady s' (λ y. WriteBackIndirectionTableReq d x y id loc (indirectionTable (q .table)))))
+        internal-frame (req-write-table-iff (q .dop) (q .node) (q .table) (λ i l t. OnBoth (cacheVars c) s' (λ x y. WriteBackIndirectionTableReq (g .device) x y i l t)))
+        (on-ready-iff c (λ x. OnReady s' (λ y. WriteBackIndirectionTableReq (g .device) x y id loc (indirectionTable (q .table)))))
     frame writeBackIndirectionTableRespStep = table-resp-frame
     frame unallocStep = no-dop-frame (λ x y. Unalloc x y r) (no-op-iff (q .vop))
     frame pageInNodeReqStep =
@@ -197,8 +198,8 @@ module _ (d : ℕ) (c : CacheState) (q : Call) where
         internal-frame (req-read-table-iff (q .dop) (q .node) (q .table) (λ i l. OnLoading (cacheVars c) (λ at read. PageInIndirectionTableReq at read s' i l)))
         (on-loading-iff c (λ at read. PageInIndirectionTableReq at read s' id loc))
     frame pageInIndirectionTableRespStep =
-        internal-frame (resp-read-table-iff (q .dop) (q .node) (q .table) (λ i t. OnLoading (cacheVars c) (λ at read. OnReady s' (λ y. PageInIndirectionTableResp d at read y i t))))
-        (on-loading-iff c (λ at read. OnReady s' (λ y. PageInIndirectionTableResp d at read y id broughtTable)))
+        internal-frame (resp-read-table-iff (q .dop) (q .node) (q .table) (λ i t. OnLoading (cacheVars c) (λ at read. OnReady s' (λ y. PageInIndirectionTableResp (g .device) at read y i t))))
+        (on-loading-iff c (λ at read. OnReady s' (λ y. PageInIndirectionTableResp (g .device) at read y id broughtTable)))
     frame receiveLocStep = receive-frame
     frame evictStep = no-dop-frame (λ x y. Evict x y r) (internal-iff (q .vop))
     frame freezeStep = no-dop-frame (λ x y. Freeze x y) (freeze-iff (q .vop))

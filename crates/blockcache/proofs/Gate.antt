@@ -16,6 +16,7 @@ use Rattle.blockcache.specs.Step.{answered, cacheNext, cacheRows, cacheS
 use Rattle.blockcache.specs.Steps.{Step, stepOf}
 use Rattle.blockcache.specs.declared.CacheState.{CacheState}
 use Rattle.blockcache.specs.declared.Call.{Call}
+use Rattle.blockcache.specs.declared.Settings.{Settings}
 
 -- the answer is that of the gate where it is shut, that of the rows behind it where it is open
 pub gate-answer : (t : Takes) (rest : List Row) → answer (gate t rest) ≡ cond (eqb (answer (gate t [])) 0) (answer rest) (answer (gate t []))
@@ -23,42 +24,42 @@ unfolding answer
 gate-answer t rest =
     split (t .version) (λ a. split (t .disk) (λ b. split (t .phase) (λ e. rw (a, b, e)) (λ e. rw (a, b, e))) (λ b. rw (a, b))) (λ a. rw a)
 
-module _ (d : ℕ) (c : CacheState) (q : Call) where
+module _ (g : Settings) (c : CacheState) (q : Call) where
   abbrev gateOf : Option Step → ℕ
   gateOf o = gated (c .phase) (q .vop) (q .dop) o
 
   -- the rows of a call within the limits
-  rows-shut : (o : Option Step) → (gateOf o ≡ 0 → ⊥) → answer ((1 when not (isSome o)) ∷ rowsOf d c q o) ≡ gateOf o
+  rows-shut : (o : Option Step) → (gateOf o ≡ 0 → ⊥) → answer ((1 when not (isSome o)) ∷ rowsOf g c q o) ≡ gateOf o
   unfolding gated answer
   rows-shut none ne = refl
-  rows-shut (some step) ne = gate-answer (takes (c .phase) (q .vop) (q .dop) step) (ownRows d c q step) ∙ rw (ne-eqb (gateOf (some step)) 0 ne)
+  rows-shut (some step) ne = gate-answer (takes (c .phase) (q .vop) (q .dop) step) (ownRows g c q step) ∙ rw (ne-eqb (gateOf (some step)) 0 ne)
 
   rows-open : (n : ℕ) (o : Option Step) → stepOf n ≡ o → gateOf o ≡ 0 →
-      outcome (answer ((1 when not (isSome o)) ∷ rowsOf d c q o)) (nodeOf c n q) (nextOf c q o) c ≡ dispatched d c q o
+      outcome (answer ((1 when not (isSome o)) ∷ rowsOf g c q o)) (nodeOf c n q) (nextOf c q o) c ≡ dispatched g c q o
   unfolding gated answer pastGate
   rows-open n none e z = absurd (omega arith)
   rows-open n (some step) e z =
-      let a : answer (stepRows d c q step) ≡ answer (ownRows d c q step) =
-      gate-answer (takes (c .phase) (q .vop) (q .dop) step) (ownRows d c q step) ∙ rw (eq-eqb (gateOf (some step)) 0 z) in
+      let a : answer (stepRows g c q step) ≡ answer (ownRows g c q step) =
+      gate-answer (takes (c .phase) (q .vop) (q .dop) step) (ownRows g c q step) ∙ rw (eq-eqb (gateOf (some step)) 0 z) in
       rw (a, step-of-number n step e)
 
-module _ (d : ℕ) (c : CacheState) (n : ℕ) (q : Call) where
+module _ (g : Settings) (c : CacheState) (n : ℕ) (q : Call) where
   -- a step is made of the answer of its rows, the node and the next cache
-  pub step-is : cacheStep d c n q ≡ outcome (answer (cacheRows d c n q)) (nodeOf c n q) (cacheNext c n q) c
+  pub step-is : cacheStep g c n q ≡ outcome (answer (cacheRows g c n q)) (nodeOf c n q) (cacheNext c n q) c
   unfolding cacheStep
   step-is = refl
 
   -- not in its written form, or on no such device
-  pub step-unformed : wellFormed d c q ≡ false → cacheStep d c n q ≡ answered 1 c
+  pub step-unformed : wellFormed g c q ≡ false → cacheStep g c n q ≡ answered 1 c
   unfolding answer
   step-unformed w = step-is ∙ rw w
 
-  module _ (w : wellFormed d c q ≡ true) where
+  module _ (w : wellFormed g c q ≡ true) where
     -- refused by V, D or phase, or for want of such a step
-    pub step-shut : (gateOf d c q (stepOf n) ≡ 0 → ⊥) → cacheStep d c n q ≡ answered (gateOf d c q (stepOf n)) c
+    pub step-shut : (gateOf g c q (stepOf n) ≡ 0 → ⊥) → cacheStep g c n q ≡ answered (gateOf g c q (stepOf n)) c
     step-shut ne =
-        let e : answer (cacheRows d c n q) ≡ gateOf d c q (stepOf n) = rw w (rows-shut d c q (stepOf n) ne) in
-        step-is ∙ rw (e, ne-eqb (gateOf d c q (stepOf n)) 0 ne)
+        let e : answer (cacheRows g c n q) ≡ gateOf g c q (stepOf n) = rw w (rows-shut g c q (stepOf n) ne) in
+        step-is ∙ rw (e, ne-eqb (gateOf g c q (stepOf n)) 0 ne)
 
-    pub step-open : gateOf d c q (stepOf n) ≡ 0 → cacheStep d c n q ≡ dispatched d c q (stepOf n)
-    step-open z = step-is ∙ rw w (rows-open d c q n (stepOf n) refl z)
+    pub step-open : gateOf g c q (stepOf n) ≡ 0 → cacheStep g c n q ≡ dispatched g c q (stepOf n)
+    step-open z = step-is ∙ rw w (rows-open g c q n (stepOf n) refl z)

@@ -21,6 +21,7 @@ use Rattle.blockcache.specs.Steps.{allocStep, dirtyStep, evictStep, read
 use Rattle.blockcache.specs.Upstream.{Alloc, Dirty, Evict, ReadStep, Unalloc, setCache}
 use Rattle.blockcache.specs.declared.CacheState.{CacheState}
 use Rattle.blockcache.specs.declared.Call.{Call}
+use Rattle.blockcache.specs.declared.Settings.{Settings}
 use Rattle.queue.specs.declared.Requests.{Requests}
 use Rattle.sectortype.proofs.Forms.{located-allocated}
 use Rattle.sectortype.proofs.Graphs.{within-iff}
@@ -31,7 +32,7 @@ use Rattle.sectortype.specs.declared.Entry.{Entry}
 use Rattle.sectortype.specs.declared.Slot.{Slot}
 use Rattle.sectortype.specs.declared.Table.{Table}
 
-module _ (d : ℕ) (c : CacheState) (q : Call) (w : WellFormed d c q) where
+module _ (g : Settings) (c : CacheState) (q : Call) (w : WellFormed g c q) where
   abbrev r : ℕ
   r = q .reference
 
@@ -55,7 +56,7 @@ module _ (d : ℕ) (c : CacheState) (q : Call) (w : WellFormed d c q) where
 
   -- Unalloc
 
-  unalloc-sound : Sound d c q unallocStep
+  unalloc-sound : Sound g c q unallocStep
   unalloc-sound taken k =
       let h = simp (not-iff, or-iff) at k in
       let ok = taken .2 in
@@ -81,7 +82,7 @@ module _ (d : ℕ) (c : CacheState) (q : Call) (w : WellFormed d c q) where
         },
       )
 
-  unalloc-complete : Complete d c q unallocStep
+  unalloc-complete : Complete g c q unallocStep
   unalloc-complete s' ns (y, e, p) =
       simp (not-iff, or-iff) (
         sym (in-graph table r) ∙ p .allocated,
@@ -91,12 +92,12 @@ module _ (d : ℕ) (c : CacheState) (q : Call) (w : WellFormed d c q) where
         ),
       )
 
-  pub unalloc-exact : Exact d c q unallocStep
+  pub unalloc-exact : Exact g c q unallocStep
   unalloc-exact = record { sound = unalloc-sound; complete = unalloc-complete; free = λ k. refl }
 
   -- Evict
 
-  evict-sound : Sound d c q evictStep
+  evict-sound : Sound g c q evictStep
   evict-sound taken k =
       let h = simp (not-iff, or-iff) at k in
       let ok = taken .2 in
@@ -117,7 +118,7 @@ module _ (d : ℕ) (c : CacheState) (q : Call) (w : WellFormed d c q) where
         },
       )
 
-  evict-complete : Complete d c q evictStep
+  evict-complete : Complete g c q evictStep
   evict-complete s' ns (y, e, p) =
       simp (not-iff, or-iff) (
         (
@@ -132,7 +133,7 @@ module _ (d : ℕ) (c : CacheState) (q : Call) (w : WellFormed d c q) where
         ),
       )
 
-  pub evict-exact : Exact d c q evictStep
+  pub evict-exact : Exact g c q evictStep
   evict-exact = record { sound = evict-sound; complete = evict-complete; free = λ k. refl }
 
   -- Dirty
@@ -144,7 +145,7 @@ module _ (d : ℕ) (c : CacheState) (q : Call) (w : WellFormed d c q) where
   graph-after : graphOf (withEntry table r listed) ≡ put (graphOf table) r (q .node .succs)
   graph-after = graph-put table r listed (f .tables .ephemeral) (w .call .reference) refl
 
-  dirty-sound : Sound d c q dirtyStep
+  dirty-sound : Sound g c q dirtyStep
   dirty-sound taken k =
       let h = simp (not-iff, or-iff) at k in
       let ok = taken .2 in
@@ -172,14 +173,14 @@ module _ (d : ℕ) (c : CacheState) (q : Call) (w : WellFormed d c q) where
         },
       )
 
-  dirty-complete : Complete d c q dirtyStep
+  dirty-complete : Complete g c q dirtyStep
   dirty-complete s' ns (y, e, p) =
       simp (not-iff, or-iff) (
         (sym (in-nodes (c .nodes) r) ∙ p .cached, sym (in-graph table r) ∙ p .allocated),
         (needs-cached-iff (c .tables) r .1 (p .frozen-located), (within-iff table (q .node .succs) .1 (p .points), tt)),
       )
 
-  pub dirty-exact : Exact d c q dirtyStep
+  pub dirty-exact : Exact g c q dirtyStep
   dirty-exact = record { sound = dirty-sound; complete = dirty-complete; free = λ k. refl }
 
   -- Alloc
@@ -188,7 +189,7 @@ module _ (d : ℕ) (c : CacheState) (q : Call) (w : WellFormed d c q) where
   not-located a =
       none-iff (locsOf table r) .0 (in-locs table r ∙ split (entry .located) (λ t. clash {b = entry .allocated} (located-allocated table (f .tables .ephemeral) r t) a) (λ t. t))
 
-  alloc-sound : Sound d c q allocStep
+  alloc-sound : Sound g c q allocStep
   alloc-sound taken k =
       let h = simp (not-iff, or-iff) at k in
       let ok = taken .2 in
@@ -215,29 +216,29 @@ module _ (d : ℕ) (c : CacheState) (q : Call) (w : WellFormed d c q) where
         },
       )
 
-  alloc-complete : Complete d c q allocStep
+  alloc-complete : Complete g c q allocStep
   alloc-complete s' ns (y, e, p) =
       simp (not-iff, or-iff) (
         (sym (in-nodes (c .nodes) r) ∙ none-iff (nodesMap (c .nodes) r) .1 (p .not-cached), sym (in-graph table r) ∙ none-iff (graphOf table r) .1 (p .not-allocated)),
         (within-iff table (q .node .succs) .1 (p .points), tt),
       )
 
-  pub alloc-exact : Exact d c q allocStep
+  pub alloc-exact : Exact g c q allocStep
   alloc-exact = record { sound = alloc-sound; complete = alloc-complete; free = λ k. refl }
 
   -- Read (ReadStep)
 
   -- the cached node is the one that ReadStep names
-  pub read-cached : Clear (ownRows d c q readStep) → ReadStep (readyVars c) r (slot .node)
+  pub read-cached : Clear (ownRows g c q readStep) → ReadStep (readyVars c) r (slot .node)
   read-cached k =
       let h = simp (not-iff, or-iff) at k in
       record { allocated = in-graph table r ∙ h .0 .0; cached = nodes-at (c .nodes) r (h .0 .1) }
 
-  read-sound : Sound d c q readStep
+  read-sound : Sound g c q readStep
   read-sound taken k = (refl, (slot .node, read-cached k))
 
-  read-complete : Complete d c q readStep
+  read-complete : Complete g c q readStep
   read-complete s' ns (e, (n, p)) = simp (not-iff, or-iff) ((sym (in-graph table r) ∙ p .allocated, nodes-some (c .nodes) r (p .cached) .0), tt)
 
-  pub read-exact : Exact d c q readStep
+  pub read-exact : Exact g c q readStep
   read-exact = record { sound = read-sound; complete = read-complete; free = λ k. refl }

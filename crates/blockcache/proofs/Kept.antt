@@ -17,18 +17,19 @@ use Rattle.blockcache.specs.Upstream.{Init, Variables}
 use Rattle.blockcache.specs.UpstreamInv.{Inv}
 use Rattle.blockcache.specs.declared.CacheState.{CacheState}
 use Rattle.blockcache.specs.declared.Call.{Call}
+use Rattle.blockcache.specs.declared.Settings.{Settings}
 
-pub cache-form-kept : (d : ℕ) (c : CacheState) (n : ℕ) (q : Call) → answer (cacheRows d c n q) ≡ 0 → cacheForm (cacheNext c n q) ≡ true
-cache-form-kept d c n q e =
-    let x = call-accepted-iff d c n q .0 e in
-    let g = gate-iff (takes (c .phase) (q .vop) (q .dop) (x .step)) (ownRows d c q (x .step)) .0 (x .clear) in
-    rw (x .is) (cache-form-iff (stepNext c q (x .step)) .1 (next-form d c q (x .form) (x .step) (g .0) (g .1)))
+pub cache-form-kept : (g : Settings) (c : CacheState) (n : ℕ) (q : Call) → answer (cacheRows g c n q) ≡ 0 → cacheForm (cacheNext c n q) ≡ true
+cache-form-kept g c n q e =
+    let x = call-accepted-iff g c n q .0 e in
+    let h = gate-iff (takes (c .phase) (q .vop) (q .dop) (x .step)) (ownRows g c q (x .step)) .0 (x .clear) in
+    rw (x .is) (cache-form-iff (stepNext c q (x .step)) .1 (next-form g c q (x .form) (x .step) (h .0) (h .1)))
 
 -- an accepted call keeps it
-pub inv-kept : (d : ℕ) (c : CacheState) (n : ℕ) (q : Call) → Inv d (cacheVars c) → answer (cacheRows d c n q) ≡ 0 → Inv d (cacheVars (cacheNext c n q))
-inv-kept d c n q i e =
-    let a = store-allowed d c n q e in
-    next-inv d (cacheVars c) (cacheVars (cacheNext c n q)) (callOp q) (q .vop) (q .reference) (q .node) (a .0) (a .2) i
+pub inv-kept : (g : Settings) (c : CacheState) (n : ℕ) (q : Call) → Inv (g .device) (cacheVars c) → answer (cacheRows g c n q) ≡ 0 → Inv (g .device) (cacheVars (cacheNext c n q))
+inv-kept g c n q i e =
+    let a = store-allowed g c n q e in
+    next-inv (g .device) (cacheVars c) (cacheVars (cacheNext c n q)) (callOp q) (q .vop) (q .reference) (q .node) (a .0) (a .2) i
 
 -- Init
 pub inv-init : (d : ℕ) (s : Variables) → Init s → Inv d s

@@ -28,25 +28,26 @@ use Rattle.blockcache.specs.Steps.{letGoStep, noOpStep, stepOf, steps}
 use Rattle.blockcache.specs.Upstream.{In, Variables, loadingIndirectionTable, ready, setReads}
 use Rattle.blockcache.specs.declared.CacheState.{CacheState}
 use Rattle.blockcache.specs.declared.Call.{Call}
+use Rattle.blockcache.specs.declared.Settings.{Settings}
 use Rattle.blockcache.specs.declared.VersionOp.the-variants.{StatesInternalOp}
 
-module _ (d : ℕ) (c : CacheState) (q : Call) where
+module _ (g : Settings) (c : CacheState) (q : Call) where
   -- accepted exactly where 1 doesn't apply, V is internal, and a node read answer comes in Ready or a table read answer in Loading under an awaited id
-  pub let-go-accepted : (answer (cacheRows d c 19 q) ≡ 0) ↔ ((outsideLimits d c 19 q ≡ false) × ((s' : Variables) × LetGo (cacheVars c) s' (callOp q) (q .vop)))
+  pub let-go-accepted : (answer (cacheRows g c 19 q) ≡ 0) ↔ ((outsideLimits g c 19 q ≡ false) × ((s' : Variables) × LetGo (cacheVars c) s' (callOp q) (q .vop)))
   unfolding narrowed stepOf steps
   let-go-accepted =
-      let a = store-accepted d c 19 q in (
+      let a = store-accepted g c 19 q in (
         (λ e. let h = a .0 e in
             let x = h .1 in
             let z = number-decides 19 (x .0) letGoStep (x .1) refl in
-            (or-iff (outsideLimits d c 19 q) false .0 (h .0) .0, (x .2 .0, rw z at (x .2 .1)))),
-        (λ (m, (s', g)). a .1 (or-iff (outsideLimits d c 19 q) false .1 (m, refl), (letGoStep, refl, (s', g)))),
+            (or-iff (outsideLimits g c 19 q) false .0 (h .0) .0, (x .2 .0, rw z at (x .2 .1)))),
+        (λ (m, (s', l)). a .1 (or-iff (outsideLimits g c 19 q) false .1 (m, refl), (letGoStep, refl, (s', l)))),
       )
 
   -- and then the next variables are the old ones without that wait
-  pub let-go-next : answer (cacheRows d c 19 q) ≡ 0 → LetGo (cacheVars c) (cacheVars (cacheNext c 19 q)) (callOp q) (q .vop)
+  pub let-go-next : answer (cacheRows g c 19 q) ≡ 0 → LetGo (cacheVars c) (cacheVars (cacheNext c 19 q)) (callOp q) (q .vop)
   let-go-next e =
-      let x = store-allowed d c 19 q e in
+      let x = store-allowed g c 19 q e in
       let z = number-decides 19 (x .0) letGoStep (x .1) refl in
       rw z at (x .2)
 
@@ -72,23 +73,23 @@ module _ (d : ℕ) (c : CacheState) (q : Call) where
       )
 
   -- what NoOp takes is not awaited
-  pub no-op-unawaited : answer (cacheRows d c 14 q) ≡ 0 → AwaitsRead (cacheVars c) (callOp q) → ⊥
+  pub no-op-unawaited : answer (cacheRows g c 14 q) ≡ 0 → AwaitsRead (cacheVars c) (callOp q) → ⊥
   unfolding narrowed stepOf steps
   no-op-unawaited e a =
-      let n = or-iff (outsideLimits d c 14 q) (awaitsRead c (q .dop)) .0 (store-accepted d c 14 q .0 e .0) in
+      let n = or-iff (outsideLimits g c 14 q) (awaitsRead c (q .dop)) .0 (store-accepted g c 14 q .0 e .0) in
       clash (awaits-read-iff .1 a) (n .1)
 
   -- let go takes exactly the awaited answers
-  pub let-go-awaited : (answer (cacheRows d c 19 q) ≡ 0) ↔ ((outsideLimits d c 19 q ≡ false) × (q .vop ≡ StatesInternalOp) × AwaitsRead (cacheVars c) (callOp q))
+  pub let-go-awaited : (answer (cacheRows g c 19 q) ≡ 0) ↔ ((outsideLimits g c 19 q ≡ false) × (q .vop ≡ StatesInternalOp) × AwaitsRead (cacheVars c) (callOp q))
   let-go-awaited =
       let a = let-go-accepted in (
-        (λ e. let h = a .0 e in let g = h .1 .1 in (
+        (λ e. let h = a .0 e in let l = h .1 .1 in (
           h .0,
-          g .op,
+          l .op,
           ⊎-elim
               (λ (i, n, op, (x, ex, (y, ey, u))). inl (i, n, op, (x, ex, u .awaited)))
               (λ (i, t, op, (at, read, ex, u)). inr (i, t, op, (at, read, ex, u .awaited)))
-              (g .answer),
+              (l .answer),
         )),
         (λ (m, v, w). a .1 (
           m,
@@ -101,21 +102,21 @@ module _ (d : ℕ) (c : CacheState) (q : Call) where
       )
 
   -- what it is refused with, where 1 doesn't apply: V first, then D in every phase, then the phase of a read answer, then the wait
-  module _ (m : outsideLimits d c 19 q ≡ false) where
-    pub let-go-2 : isV internal (q .vop) ≡ false → answer (cacheRows d c 19 q) ≡ 2
+  module _ (m : outsideLimits g c 19 q ≡ false) where
+    pub let-go-2 : isV internal (q .vop) ≡ false → answer (cacheRows g c 19 q) ≡ 2
     unfolding stepOf steps answer
     let-go-2 v = rw (m, v)
 
     module _ (v : q .vop ≡ StatesInternalOp) where
-      pub let-go-3 : isD nodeReadResp (q .dop) ≡ false → isD tableReadResp (q .dop) ≡ false → answer (cacheRows d c 19 q) ≡ 3
+      pub let-go-3 : isD nodeReadResp (q .dop) ≡ false → isD tableReadResp (q .dop) ≡ false → answer (cacheRows g c 19 q) ≡ 3
       unfolding stepOf steps answer
       let-go-3 n t = rw (m, v, n, t)
 
-      pub let-go-4 : (isD nodeReadResp (q .dop) || isD tableReadResp (q .dop)) ≡ true → answerPhase (c .phase) (q .dop) ≡ false → answer (cacheRows d c 19 q) ≡ 4
+      pub let-go-4 : (isD nodeReadResp (q .dop) || isD tableReadResp (q .dop)) ≡ true → answerPhase (c .phase) (q .dop) ≡ false → answer (cacheRows g c 19 q) ≡ 4
       unfolding stepOf steps answer
       let-go-4 r p = rw (m, v, r, p)
 
-      pub let-go-5 : answerPhase (c .phase) (q .dop) ≡ true → awaitsRead c (q .dop) ≡ false → answer (cacheRows d c 19 q) ≡ 5
+      pub let-go-5 : answerPhase (c .phase) (q .dop) ≡ true → awaitsRead c (q .dop) ≡ false → answer (cacheRows g c 19 q) ≡ 5
       unfolding stepOf steps answer
       let-go-5 p w =
           let r : (isD nodeReadResp (q .dop) || isD tableReadResp (q .dop)) ≡ true =
@@ -123,21 +124,21 @@ module _ (d : ℕ) (c : CacheState) (q : Call) where
           rw (m, v, r, p, w)
 
   -- a condition of a lower number doesn't hold where the answer is 22
-  lower : (k : ℕ) → k < 22 → answer (cacheRows d c 14 q) ≡ 22 → holds k (cacheRows d c 14 q) ≡ false
+  lower : (k : ℕ) → k < 22 → answer (cacheRows g c 14 q) ≡ 22 → holds k (cacheRows g c 14 q) ≡ false
   lower k b e =
-      split (holds k (cacheRows d c 14 q)) (λ t. absurd (let le = answer-lowest 0 (cacheRows d c 14 q) (rows-ascending d c 14 q) k t in omega arith)) (λ t. t)
+      split (holds k (cacheRows g c 14 q)) (λ t. absurd (let le = answer-lowest 0 (cacheRows g c 14 q) (rows-ascending g c 14 q) k t in omega arith)) (λ t. t)
 
-  given-22 : answer (cacheRows d c 14 q) ≡ 22 → (outsideLimits d c 14 q ≡ false) × IdleVop (q .vop) × AwaitsRead (cacheVars c) (callOp q)
+  given-22 : answer (cacheRows g c 14 q) ≡ 22 → (outsideLimits g c 14 q ≡ false) × IdleVop (q .vop) × AwaitsRead (cacheVars c) (callOp q)
   unfolding stepOf steps
   given-22 e =
-      let h : holds 22 (cacheRows d c 14 q) ≡ true =
-      subst (λ n. holds n (cacheRows d c 14 q) ≡ true) e (answer-holds (cacheRows d c 14 q) (λ z. let w : _≡_ {A = ℕ} 0 22 = sym z ∙ e in omega arith)) in (
-        or-iff (outsideLimits d c 14 q) false .0 (lower 1 (omega arith) e) .0,
+      let h : holds 22 (cacheRows g c 14 q) ≡ true =
+      subst (λ n. holds n (cacheRows g c 14 q) ≡ true) e (answer-holds (cacheRows g c 14 q) (λ z. let w : _≡_ {A = ℕ} 0 22 = sym z ∙ e in omega arith)) in (
+        or-iff (outsideLimits g c 14 q) false .0 (lower 1 (omega arith) e) .0,
         idle-vop-iff (q .vop) .0 (simp (or-false, not-iff) at (lower 2 (omega arith) e)),
         awaits-read-iff .0 (simp or-false at h),
       )
 
-  gives-22 : outsideLimits d c 14 q ≡ false → takes (c .phase) (q .vop) (q .dop) noOpStep .version ≡ true → awaitsRead c (q .dop) ≡ true → answer (cacheRows d c 14 q) ≡ 22
+  gives-22 : outsideLimits g c 14 q ≡ false → takes (c .phase) (q .vop) (q .dop) noOpStep .version ≡ true → awaitsRead c (q .dop) ≡ true → answer (cacheRows g c 14 q) ≡ 22
   unfolding stepOf steps answer
   gives-22 m v w =
       ⊎-elim
@@ -146,5 +147,5 @@ module _ (d : ℕ) (c : CacheState) (q : Call) where
       (awaits-read-is c (q .dop) .0 w)
 
   -- NoOp gives 22 exactly for these, where nothing else refuses it
-  pub no-op-22-iff : (answer (cacheRows d c 14 q) ≡ 22) ↔ ((outsideLimits d c 14 q ≡ false) × IdleVop (q .vop) × AwaitsRead (cacheVars c) (callOp q))
+  pub no-op-22-iff : (answer (cacheRows g c 14 q) ≡ 22) ↔ ((outsideLimits g c 14 q ≡ false) × IdleVop (q .vop) × AwaitsRead (cacheVars c) (callOp q))
   no-op-22-iff = (given-22, (λ (m, v, w). gives-22 m (idle-vop-iff (q .vop) .1 v) (awaits-read-iff .1 w)))

@@ -20,10 +20,11 @@ use Rattle.blockcache.specs.Steps.{letGoStep}
 use Rattle.blockcache.specs.Upstream.{setReads}
 use Rattle.blockcache.specs.declared.CacheState.{CacheState}
 use Rattle.blockcache.specs.declared.Call.{Call}
+use Rattle.blockcache.specs.declared.Settings.{Settings}
 use Rattle.queue.specs.Queue.{removeOf}
 use Rattle.queue.specs.declared.Requests.{Requests}
 
-module _ (d : ℕ) (c : CacheState) (q : Call) (w : WellFormed d c q) where
+module _ (g : Settings) (c : CacheState) (q : Call) (w : WellFormed g c q) where
   abbrev f : CacheForm c
   f = w .form
 
@@ -33,7 +34,7 @@ module _ (d : ℕ) (c : CacheState) (q : Call) (w : WellFormed d c q) where
   abbrev reading : Requests
   reading = c .outstanding .reads
 
-  let-go-sound : Sound d c q letGoStep
+  let-go-sound : Sound g c q letGoStep
   let-go-sound taken k =
       ⊎-elim
       (λ x. let after = withReads c (removeOf reading id) in
@@ -51,12 +52,12 @@ module _ (d : ℕ) (c : CacheState) (q : Call) (w : WellFormed d c q) where
       ))
       (awaits-read-is c (q .dop) .0 (not-iff (awaitsRead c (q .dop)) .0 (k .0)))
 
-  let-go-complete : Complete d c q letGoStep
+  let-go-complete : Complete g c q letGoStep
   let-go-complete s' ns u =
       let a : awaitsRead c (q .dop) ≡ true =
       awaits-read-is c (q .dop) .1
       (⊎-elim (λ x. inl (x .0, x .1, sym (reads-has reading id) ∙ x .2 .2 .awaited)) (λ x. inr (x .0, x .1, awaits-iff (c .awaited) id .1 (x .2 .awaited))) u) in
       (not-iff (awaitsRead c (q .dop)) .1 a, tt)
 
-  pub let-go-exact : Exact d c q letGoStep
+  pub let-go-exact : Exact g c q letGoStep
   let-go-exact = record { sound = let-go-sound; complete = let-go-complete; free = λ k. refl }

@@ -7,6 +7,7 @@ pub mod EveryStep
 pub mod FormLaws
 pub mod Forms
 pub mod Frames
+pub mod Freezing
 pub mod Gate
 pub mod GraphSteps
 pub mod IdleOps

@@ -22,6 +22,7 @@ use Rattle.blockcache.specs.Step.{cacheRows, outsideLimits, rowsOf, well
 use Rattle.blockcache.specs.Steps.{numberOf, Step, stepOf, steps}
 use Rattle.blockcache.specs.declared.CacheState.{CacheState}
 use Rattle.blockcache.specs.declared.Call.{Call}
+use Rattle.blockcache.specs.declared.Settings.{Settings}
 
 -- THE NUMBER
 
@@ -91,31 +92,31 @@ number-decides n step k e t = let h : stepOf n ≡ some k = ap stepOf (eqb-true 
 
 -- A CALL THAT IS ACCEPTED
 
-of-ascend : (d : ℕ) (c : CacheState) (q : Call) (b : Bool) (o : Option Step) → ascending ((1 when b) ∷ rowsOf d c q o) ≡ true
-of-ascend d c q b none = refl
-of-ascend d c q b (some step) = rows-ascend d c q b step
+of-ascend : (g : Settings) (c : CacheState) (q : Call) (b : Bool) (o : Option Step) → ascending ((1 when b) ∷ rowsOf g c q o) ≡ true
+of-ascend g c q b none = refl
+of-ascend g c q b (some step) = rows-ascend g c q b step
 
-pub rows-ascending : (d : ℕ) (c : CacheState) (n : ℕ) (q : Call) → ascending (cacheRows d c n q) ≡ true
-rows-ascending d c n q = of-ascend d c q (outsideLimits d c n q) (stepOf n)
+pub rows-ascending : (g : Settings) (c : CacheState) (n : ℕ) (q : Call) → ascending (cacheRows g c n q) ≡ true
+rows-ascending g c n q = of-ascend g c q (outsideLimits g c n q) (stepOf n)
 
-pub record Accepted (d : ℕ) (c : CacheState) (n : ℕ) (q : Call) : Type 0 where
-  pub form : WellFormed d c q
+pub record Accepted (g : Settings) (c : CacheState) (n : ℕ) (q : Call) : Type 0 where
+  pub form : WellFormed g c q
   pub step : Step
   pub is : stepOf n ≡ some step
-  pub clear : Clear (stepRows d c q step)
+  pub clear : Clear (stepRows g c q step)
 
 -- within the limits: the forms, and a step
-pub limits-iff : (d : ℕ) (c : CacheState) (n : ℕ) (q : Call) → (outsideLimits d c n q ≡ false) ↔ ((wellFormed d c q ≡ true) × ((step : Step) × (stepOf n ≡ some step)))
-limits-iff d c n q = (
-  (λ e. let h = or-iff (not (wellFormed d c q)) (not (isSome (stepOf n))) .0 e in
-      (not-iff (wellFormed d c q) .0 (h .0), some-iff (stepOf n) .0 (not-iff (isSome (stepOf n)) .0 (h .1)))),
-  (λ (w, (step, e)). or-iff (not (wellFormed d c q)) (not (isSome (stepOf n))) .1 (not-iff (wellFormed d c q) .1 w, not-iff (isSome (stepOf n)) .1 (ap isSome e))),
+pub limits-iff : (g : Settings) (c : CacheState) (n : ℕ) (q : Call) → (outsideLimits g c n q ≡ false) ↔ ((wellFormed g c q ≡ true) × ((step : Step) × (stepOf n ≡ some step)))
+limits-iff g c n q = (
+  (λ e. let h = or-iff (not (wellFormed g c q)) (not (isSome (stepOf n))) .0 e in
+      (not-iff (wellFormed g c q) .0 (h .0), some-iff (stepOf n) .0 (not-iff (isSome (stepOf n)) .0 (h .1)))),
+  (λ (w, (step, e)). or-iff (not (wellFormed g c q)) (not (isSome (stepOf n))) .1 (not-iff (wellFormed g c q) .1 w, not-iff (isSome (stepOf n)) .1 (ap isSome e))),
 )
 
-pub call-accepted-iff : (d : ℕ) (c : CacheState) (n : ℕ) (q : Call) → (answer (cacheRows d c n q) ≡ 0) ↔ Accepted d c n q
-call-accepted-iff d c n q =
-    let a = accepted-iff (cacheRows d c n q) (rows-ascending d c n q) in (
-      (λ e. let k = a .0 e in let l = limits-iff d c n q .0 (k .0) in
-          record { form = well-formed-iff d c q .0 (l .0); step = l .1 .0; is = l .1 .1; clear = rw (l .1 .1) at (k .1) }),
-      (λ x. a .1 (limits-iff d c n q .1 (well-formed-iff d c q .1 (x .form), (x .step, x .is)), rw (x .is) (x .clear))),
+pub call-accepted-iff : (g : Settings) (c : CacheState) (n : ℕ) (q : Call) → (answer (cacheRows g c n q) ≡ 0) ↔ Accepted g c n q
+call-accepted-iff g c n q =
+    let a = accepted-iff (cacheRows g c n q) (rows-ascending g c n q) in (
+      (λ e. let k = a .0 e in let l = limits-iff g c n q .0 (k .0) in
+          record { form = well-formed-iff g c q .0 (l .0); step = l .1 .0; is = l .1 .1; clear = rw (l .1 .1) at (k .1) }),
+      (λ x. a .1 (limits-iff g c n q .1 (well-formed-iff g c q .1 (x .form), (x .step, x .is)), rw (x .is) (x .clear))),
     )

@@ -1,5 +1,4 @@
 -- Steps 12 to 14 and 18: accepted exactly where upstream allows them, but for NoOp's narrowing. Assumes nothing.
-use Prim.Native.Nat.{ℕ}
 use mathlib.Core.Bool.{false}
 use mathlib.Core.Path.{_≡_, refl}
 use Rattle.base.proofs.Flagged.{flagged-is-iff, flagged-none-iff}
@@ -17,25 +16,26 @@ use Rattle.blockcache.specs.Steps.{cleanUpStep, crashStep, freezeStep, n
 use Rattle.blockcache.specs.Upstream.{CleanUp, Freeze}
 use Rattle.blockcache.specs.declared.CacheState.{CacheState}
 use Rattle.blockcache.specs.declared.Call.{Call}
+use Rattle.blockcache.specs.declared.Settings.{Settings}
 use Rattle.sectortype.specs.Abstract.{indirectionTable}
 
-module _ (d : ℕ) (c : CacheState) (q : Call) (w : WellFormed d c q) where
+module _ (g : Settings) (c : CacheState) (q : Call) (w : WellFormed g c q) where
   -- Freeze
 
-  freeze-sound : Sound d c q freezeStep
+  freeze-sound : Sound g c q freezeStep
   freeze-sound taken k =
       on-ready-iff (stepNext c q freezeStep) (λ y. Freeze (readyVars c) y) .1
       (taken .2, record { no-table-write = flagged-none-iff (c .awaited .waiting) (c .awaited .id) .0 (k .0); next = refl })
 
-  freeze-complete : Complete d c q freezeStep
-  freeze-complete s' ns (y, e, p) = (flagged-none-iff (c .awaited .waiting) (c .awaited .id) .1 (p .no-table-write), tt)
+  freeze-complete : Complete g c q freezeStep
+  freeze-complete s' ns (y, e, p) = (flagged-none-iff (c .awaited .waiting) (c .awaited .id) .1 (p .no-table-write), (ns, tt))
 
-  pub freeze-exact : Exact d c q freezeStep
-  freeze-exact = record { sound = freeze-sound; complete = freeze-complete; free = λ k. refl }
+  pub freeze-exact : Exact g c q freezeStep
+  freeze-exact = record { sound = freeze-sound; complete = freeze-complete; free = λ k. k .1 .0 }
 
   -- CleanUp
 
-  clean-up-sound : Sound d c q cleanUpStep
+  clean-up-sound : Sound g c q cleanUpStep
   clean-up-sound taken k =
       let h = simp (not-iff, or-iff) at k in
       let there = h .1 .0 in
@@ -51,7 +51,7 @@ module _ (d : ℕ) (c : CacheState) (q : Call) (w : WellFormed d c q) where
         },
       )
 
-  clean-up-complete : Complete d c q cleanUpStep
+  clean-up-complete : Complete g c q cleanUpStep
   clean-up-complete s' ns (y, e, p) =
       simp (not-iff, or-iff) (
         flagged-none-iff (c .awaited .waiting) (c .awaited .id) .1 (p .no-table-write),
@@ -64,31 +64,31 @@ module _ (d : ℕ) (c : CacheState) (q : Call) (w : WellFormed d c q) where
         ),
       )
 
-  pub clean-up-exact : Exact d c q cleanUpStep
+  pub clean-up-exact : Exact g c q cleanUpStep
   clean-up-exact = record { sound = clean-up-sound; complete = clean-up-complete; free = λ k. refl }
 
   -- NoOp
 
-  no-op-sound : Sound d c q noOpStep
+  no-op-sound : Sound g c q noOpStep
   no-op-sound taken k = record { op = idle-op c (q .node) (q .table) (q .dop) (taken .1) (k .0); next = refl }
 
   -- what it takes is no awaited read's answer
-  no-op-free : Clear (ownRows d c q noOpStep) → stepNarrowed c q noOpStep ≡ false
+  no-op-free : Clear (ownRows g c q noOpStep) → stepNarrowed g c q noOpStep ≡ false
   no-op-free k = k .1 .0
 
-  no-op-complete : Complete d c q noOpStep
+  no-op-complete : Complete g c q noOpStep
   no-op-complete s' ns p = (idle-kind c (q .node) (q .table) (q .dop) (p .op) .1, (ns, tt))
 
-  pub no-op-exact : Exact d c q noOpStep
+  pub no-op-exact : Exact g c q noOpStep
   no-op-exact = record { sound = no-op-sound; complete = no-op-complete; free = no-op-free }
 
   -- Crash, the cache's half
 
-  crash-sound : Sound d c q crashStep
+  crash-sound : Sound g c q crashStep
   crash-sound taken k = refl
 
-  crash-complete : Complete d c q crashStep
+  crash-complete : Complete g c q crashStep
   crash-complete s' ns i = tt
 
-  pub crash-exact : Exact d c q crashStep
+  pub crash-exact : Exact g c q crashStep
   crash-exact = record { sound = crash-sound; complete = crash-complete; free = λ k. refl }

@@ -23,6 +23,7 @@ use Rattle.blockcache.specs.Steps.{pageInIndirectionTableReqStep, pageIn
 use Rattle.blockcache.specs.Upstream.{AllLocationsForDifferentRefsDontOverlap, PageInNodeReq, PageInNodeResp, SameSuccs, WFCompleteIndirectionTable, setCache, setReads}
 use Rattle.blockcache.specs.declared.CacheState.{CacheState}
 use Rattle.blockcache.specs.declared.Call.{Call}
+use Rattle.blockcache.specs.declared.Settings.{Settings}
 use Rattle.blockdisk.specs.Ops.{somethingIn}
 use Rattle.blockdisk.specs.declared.Brought.{Brought}
 use Rattle.disklayout.specs.Device.{deviceOf, made}
@@ -40,7 +41,7 @@ use Rattle.sectortype.specs.declared.Entry.{Entry}
 use Rattle.sectortype.specs.declared.Node.{Node}
 use Rattle.sectortype.specs.declared.Table.{Table}
 
-module _ (d : ℕ) (c : CacheState) (q : Call) (w : WellFormed d c q) where
+module _ (g : Settings) (c : CacheState) (q : Call) (w : WellFormed g c q) where
   abbrev r : ℕ
   r = q .reference
 
@@ -70,7 +71,7 @@ module _ (d : ℕ) (c : CacheState) (q : Call) (w : WellFormed d c q) where
 
   -- PageInNodeReq
 
-  page-in-node-req-sound : Sound d c q pageInNodeReqStep
+  page-in-node-req-sound : Sound g c q pageInNodeReqStep
   page-in-node-req-sound taken k =
       let h = simp (not-iff, or-iff) at k in
       let ok = taken .2 in
@@ -88,7 +89,7 @@ module _ (d : ℕ) (c : CacheState) (q : Call) (w : WellFormed d c q) where
         },
       )
 
-  page-in-node-req-complete : Complete d c q pageInNodeReqStep
+  page-in-node-req-complete : Complete g c q pageInNodeReqStep
   page-in-node-req-complete s' ns (y, e, p) =
       let n = simp or-iff at ns in
       let l = locs-some table r (p .located) in
@@ -103,10 +104,10 @@ module _ (d : ℕ) (c : CacheState) (q : Call) (w : WellFormed d c q) where
         ),
       )
 
-  page-in-node-req-free : Clear (ownRows d c q pageInNodeReqStep) → stepNarrowed c q pageInNodeReqStep ≡ false
+  page-in-node-req-free : Clear (ownRows g c q pageInNodeReqStep) → stepNarrowed g c q pageInNodeReqStep ≡ false
   page-in-node-req-free k = or-iff _ _ .1 (k .0, k .1 .1 .1 .1 .0)
 
-  pub page-in-node-req-exact : Exact d c q pageInNodeReqStep
+  pub page-in-node-req-exact : Exact g c q pageInNodeReqStep
   page-in-node-req-exact = record { sound = page-in-node-req-sound; complete = page-in-node-req-complete; free = page-in-node-req-free }
 
   -- PageInNodeResp
@@ -124,7 +125,7 @@ module _ (d : ℕ) (c : CacheState) (q : Call) (w : WellFormed d c q) where
   abbrev unwanted : Bool
   unwanted = slotAt (c .nodes) ref .present || not (wanted .allocated)
 
-  page-in-node-resp-sound : Sound d c q pageInNodeRespStep
+  page-in-node-resp-sound : Sound g c q pageInNodeRespStep
   page-in-node-resp-sound taken k =
       let h = simp not-iff at k in
       let ok = taken .2 in
@@ -150,7 +151,7 @@ module _ (d : ℕ) (c : CacheState) (q : Call) (w : WellFormed d c q) where
         },
       )
 
-  page-in-node-resp-complete : Complete d c q pageInNodeRespStep
+  page-in-node-resp-complete : Complete g c q pageInNodeRespStep
   page-in-node-resp-complete s' ns (y, e, p) =
       let there : known ≡ true = sym (reads-has reading id) ∙ ap isSome (p .there) in
       let one : some (p .ref) ≡ some ref = sym (p .there) ∙ reads-at reading id there in
@@ -167,12 +168,12 @@ module _ (d : ℕ) (c : CacheState) (q : Call) (w : WellFormed d c q) where
         ),
       )
 
-  pub page-in-node-resp-exact : Exact d c q pageInNodeRespStep
+  pub page-in-node-resp-exact : Exact g c q pageInNodeRespStep
   page-in-node-resp-exact = record { sound = page-in-node-resp-sound; complete = page-in-node-resp-complete; free = λ k. refl }
 
   -- PageInIndirectionTableReq
 
-  page-in-table-req-sound : Sound d c q pageInIndirectionTableReqStep
+  page-in-table-req-sound : Sound g c q pageInIndirectionTableReqStep
   page-in-table-req-sound taken k =
       let h = simp not-iff at k in
       record {
@@ -181,20 +182,20 @@ module _ (d : ℕ) (c : CacheState) (q : Call) (w : WellFormed d c q) where
         next = loading-is (stepNext c q pageInIndirectionTableReqStep) (taken .2);
       }
 
-  page-in-table-req-complete : Complete d c q pageInIndirectionTableReqStep
+  page-in-table-req-complete : Complete g c q pageInIndirectionTableReqStep
   page-in-table-req-complete s' ns p =
       simp not-iff
       (same-loc-iff loc (c .places .persistent) .1 (p .place), (flagged-none-iff (c .awaited .waiting) (c .awaited .id) .1 (p .no-read), tt))
 
-  pub page-in-table-req-exact : Exact d c q pageInIndirectionTableReqStep
+  pub page-in-table-req-exact : Exact g c q pageInIndirectionTableReqStep
   page-in-table-req-exact = record { sound = page-in-table-req-sound; complete = page-in-table-req-complete; free = λ k. refl }
 
   -- PageInIndirectionTableResp
 
-  page-in-table-resp-sound : Sound d c q pageInIndirectionTableRespStep
+  page-in-table-resp-sound : Sound g c q pageInIndirectionTableRespStep
   page-in-table-resp-sound taken k =
       let h = simp not-iff at k in
-      let w = table-rejected-iff d (w .on) brings (q .table) (w .call .table) .0 (h .1 .0) in
+      let w = table-rejected-iff (g .device) (w .on) brings (q .table) (w .call .table) .0 (h .1 .0) in
       let i = loading-idle c (f .phase) (taken .2) in (
         readyVars (stepNext c q pageInIndirectionTableRespStep),
         refl,
@@ -216,33 +217,33 @@ module _ (d : ℕ) (c : CacheState) (q : Call) (w : WellFormed d c q) where
         },
       )
 
-  page-in-table-resp-complete : Complete d c q pageInIndirectionTableRespStep
+  page-in-table-resp-complete : Complete g c q pageInIndirectionTableRespStep
   page-in-table-resp-complete s' ns (y, e, p) =
       let something = flagged-is-iff (somethingIn brings) (indirectionTable (q .table)) (p .t) .0 (p .table) in
       let e : indirectionTable (q .table) ≡ p .t = something .1 in
-      let wf : WFCompleteIndirectionTable d (indirectionTable (q .table)) = subst (λ x. WFCompleteIndirectionTable d x) (sym e) (p .wf) in
+      let wf : WFCompleteIndirectionTable (g .device) (indirectionTable (q .table)) = subst (λ x. WFCompleteIndirectionTable (g .device) x) (sym e) (p .wf) in
       let distinct : AllLocationsForDifferentRefsDontOverlap (indirectionTable (q .table)) = subst (λ x. AllLocationsForDifferentRefsDontOverlap x) (sym e) (p .distinct) in
       simp not-iff (
         awaits-iff (c .awaited) id .1 (p .awaited),
-        (table-rejected-iff d (w .on) brings (q .table) (w .call .table) .1 (something .0, (wf, distinct)), tt),
+        (table-rejected-iff (g .device) (w .on) brings (q .table) (w .call .table) .1 (something .0, (wf, distinct)), tt),
       )
 
-  pub page-in-table-resp-exact : Exact d c q pageInIndirectionTableRespStep
+  pub page-in-table-resp-exact : Exact g c q pageInIndirectionTableRespStep
   page-in-table-resp-exact = record { sound = page-in-table-resp-sound; complete = page-in-table-resp-complete; free = λ k. refl }
 
   -- ReceiveLoc
 
-  receive-loc-sound : Sound d c q receiveLocStep
+  receive-loc-sound : Sound g c q receiveLocStep
   receive-loc-sound taken k =
       let h = simp not-iff at k in
       record {
-        valid = and-right (made d) (ValidIndirectionTableLocation (deviceOf d) vloc) (h .0);
+        valid = and-right (made (g .device)) (ValidIndirectionTableLocation (deviceOf (g .device)) vloc) (h .0);
         before = unready-iff c .1 (taken .2);
         next = refl;
       }
 
-  receive-loc-complete : Complete d c q receiveLocStep
+  receive-loc-complete : Complete g c q receiveLocStep
   receive-loc-complete s' ns p = simp not-iff (and-both (w .on) (p .valid), tt)
 
-  pub receive-loc-exact : Exact d c q receiveLocStep
+  pub receive-loc-exact : Exact g c q receiveLocStep
   receive-loc-exact = record { sound = receive-loc-sound; complete = receive-loc-complete; free = λ k. refl }

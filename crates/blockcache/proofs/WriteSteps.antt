@@ -24,6 +24,7 @@ use Rattle.blockcache.specs.Upstream.{NoAddr, ValidAllocation, WriteBack
 use Rattle.blockcache.specs.Upstream.{assignRefToLocation, setWrites}
 use Rattle.blockcache.specs.declared.CacheState.{CacheState}
 use Rattle.blockcache.specs.declared.Call.{Call}
+use Rattle.blockcache.specs.declared.Settings.{Settings}
 use Rattle.disklayout.specs.Device.{deviceOf, made}
 use Rattle.disklayout.specs.Layout.{ValidIndirectionTableLocation, ValidNodeLocation, sameLoc}
 use Rattle.disklayout.specs.declared.Location.{Location}
@@ -36,7 +37,7 @@ use Rattle.sectortype.specs.Form.{nodeForm, slotAt}
 use Rattle.sectortype.specs.declared.Slot.{Slot}
 use Rattle.sectortype.specs.declared.Table.{Table}
 
-module _ (d : ℕ) (c : CacheState) (q : Call) (w : WellFormed d c q) where
+module _ (g : Settings) (c : CacheState) (q : Call) (w : WellFormed g c q) where
   abbrev r : ℕ
   r = q .reference
 
@@ -72,7 +73,7 @@ module _ (d : ℕ) (c : CacheState) (q : Call) (w : WellFormed d c q) where
 
   -- WriteBackNodeReq
 
-  write-back-node-req-sound : Sound d c q writeBackNodeReqStep
+  write-back-node-req-sound : Sound g c q writeBackNodeReqStep
   write-back-node-req-sound taken k =
       let h = simp (not-iff, or-iff, and-false-iff) at k in
       let ready = taken .2 in
@@ -83,11 +84,11 @@ module _ (d : ℕ) (c : CacheState) (q : Call) (w : WellFormed d c q) where
       let same = h .1 .1 .1 .1 .0 present in
       let idle = h .1 .1 .1 .1 .1 .0 in
       let room = h .1 .1 .1 .1 .1 .1 .0 in
-      on-ready-iff (stepNext c q writeBackNodeReqStep) (λ y. WriteBackNodeReq d (readyVars c) y id loc (q .node) r) .1 (
+      on-ready-iff (stepNext c q writeBackNodeReqStep) (λ y. WriteBackNodeReq (g .device) (readyVars c) y id loc (q .node) r) .1 (
         ready,
         record {
           cached = nodes-at (c .nodes) r present ∙ ap some (same-node-iff (slot .node) (q .node) (cached-form present) (w .call .node) .0 same);
-          valid = and-right (made d) (ValidNodeLocation (deviceOf d) loc) valid;
+          valid = and-right (made (g .device)) (ValidNodeLocation (deviceOf (g .device)) loc) valid;
           persistentIndirectionTable' = refl;
           no-table-write = flagged-none-iff (c .awaited .waiting) (c .awaited .id) .0 idle;
           free = allocation-iff .0 free;
@@ -106,7 +107,7 @@ module _ (d : ℕ) (c : CacheState) (q : Call) (w : WellFormed d c q) where
         },
       )
 
-  write-back-node-req-complete : Complete d c q writeBackNodeReqStep
+  write-back-node-req-complete : Complete g c q writeBackNodeReqStep
   write-back-node-req-complete s' ns (y, e, p) =
       let n = simp or-iff at ns in
       let there = nodes-some (c .nodes) r (p .cached) in
@@ -124,15 +125,15 @@ module _ (d : ℕ) (c : CacheState) (q : Call) (w : WellFormed d c q) where
         ),
       )
 
-  write-back-node-req-free : Clear (ownRows d c q writeBackNodeReqStep) → stepNarrowed c q writeBackNodeReqStep ≡ false
+  write-back-node-req-free : Clear (ownRows g c q writeBackNodeReqStep) → stepNarrowed g c q writeBackNodeReqStep ≡ false
   write-back-node-req-free k = let h = simp or-iff at k in or-iff _ _ .1 (or-iff _ _ .1 (h .0, h .1 .0 .1), h .1 .1 .1 .1 .1 .1 .0)
 
-  pub write-back-node-req-exact : Exact d c q writeBackNodeReqStep
+  pub write-back-node-req-exact : Exact g c q writeBackNodeReqStep
   write-back-node-req-exact = record { sound = write-back-node-req-sound; complete = write-back-node-req-complete; free = write-back-node-req-free }
 
   -- WriteBackNodeResp
 
-  write-back-node-resp-sound : Sound d c q writeBackNodeRespStep
+  write-back-node-resp-sound : Sound g c q writeBackNodeRespStep
   write-back-node-resp-sound taken k =
       let h = simp not-iff at k in
       on-ready-iff (stepNext c q writeBackNodeRespStep) (λ y. WriteBackNodeResp (readyVars c) y id) .1 (
@@ -140,25 +141,25 @@ module _ (d : ℕ) (c : CacheState) (q : Call) (w : WellFormed d c q) where
         record { there = writes-has writes id ∙ h .0; next = ap (setWrites (readyVars c)) (writes-remove writes (writes-requests c f) id (h .0)) },
       )
 
-  write-back-node-resp-complete : Complete d c q writeBackNodeRespStep
+  write-back-node-resp-complete : Complete g c q writeBackNodeRespStep
   write-back-node-resp-complete s' ns (y, e, p) = simp not-iff (sym (writes-has writes id) ∙ p .there, tt)
 
-  pub write-back-node-resp-exact : Exact d c q writeBackNodeRespStep
+  pub write-back-node-resp-exact : Exact g c q writeBackNodeRespStep
   write-back-node-resp-exact = record { sound = write-back-node-resp-sound; complete = write-back-node-resp-complete; free = λ k. refl }
 
   -- WriteBackIndirectionTableReq
 
-  write-back-table-req-sound : Sound d c q writeBackIndirectionTableReqStep
+  write-back-table-req-sound : Sound g c q writeBackIndirectionTableReqStep
   write-back-table-req-sound taken k =
       let h = simp (not-iff, or-iff, and-false-iff) at k in
       let ready = taken .2 in
       let place = h .0 in
       let frz = h .1 .1 .1 .0 in
       let same = same-table-iff frozen (q .table) (f .tables .frozen) (w .call .table) .0 (h .1 .0 (frz .0 .0)) in
-      on-ready-iff (stepNext c q writeBackIndirectionTableReqStep) (λ y. WriteBackIndirectionTableReq d (readyVars c) y id loc (indirectionTable (q .table))) .1 (
+      on-ready-iff (stepNext c q writeBackIndirectionTableReqStep) (λ y. WriteBackIndirectionTableReq (g .device) (readyVars c) y id loc (indirectionTable (q .table))) .1 (
         ready,
         record {
-          valid = and-right (made d) (ValidIndirectionTableLocation (deviceOf d) loc) (place .0);
+          valid = and-right (made (g .device)) (ValidIndirectionTableLocation (deviceOf (g .device)) loc) (place .0);
           frozen = flagged-is-iff (c .tables .isfrozen) (indirectionTable frozen) (indirectionTable (q .table)) .1 (frz .0 .0, ap indirectionTable same);
           complete = rw same at (locs-complete-iff frozen (f .tables .frozen) .0 (frz .0 .1));
           no-writes = writes-empty-iff writes (writes-requests c f) .0 (eqb-true (writes .count) 0 (h .1 .1 .0));
@@ -168,7 +169,7 @@ module _ (d : ℕ) (c : CacheState) (q : Call) (w : WellFormed d c q) where
         },
       )
 
-  write-back-table-req-complete : Complete d c q writeBackIndirectionTableReqStep
+  write-back-table-req-complete : Complete g c q writeBackIndirectionTableReqStep
   write-back-table-req-complete s' ns (y, e, p) =
       let z = flagged-is-iff (c .tables .isfrozen) (indirectionTable frozen) (indirectionTable (q .table)) .0 (p .frozen) in
       let same : frozen ≡ q .table = table-abstract frozen (q .table) (f .tables .frozen) (w .call .table) .0 (z .1) in
@@ -183,7 +184,7 @@ module _ (d : ℕ) (c : CacheState) (q : Call) (w : WellFormed d c q) where
         ),
       )
 
-  pub write-back-table-req-exact : Exact d c q writeBackIndirectionTableReqStep
+  pub write-back-table-req-exact : Exact g c q writeBackIndirectionTableReqStep
   write-back-table-req-exact = record { sound = write-back-table-req-sound; complete = write-back-table-req-complete; free = λ k. refl }
 
   -- WriteBackIndirectionTableResp
@@ -191,7 +192,7 @@ module _ (d : ℕ) (c : CacheState) (q : Call) (w : WellFormed d c q) where
   abbrev vloc : Location
   vloc = vopLoc (q .vop)
 
-  write-back-table-resp-sound : Sound d c q writeBackIndirectionTableRespStep
+  write-back-table-resp-sound : Sound g c q writeBackIndirectionTableRespStep
   write-back-table-resp-sound taken k =
       let h = simp not-iff at k in
       let ready = taken .2 in
@@ -205,11 +206,11 @@ module _ (d : ℕ) (c : CacheState) (q : Call) (w : WellFormed d c q) where
         },
       )
 
-  write-back-table-resp-complete : Complete d c q writeBackIndirectionTableRespStep
+  write-back-table-resp-complete : Complete g c q writeBackIndirectionTableRespStep
   write-back-table-resp-complete s' ns (y, e, p) =
       let place = flagged-is-iff (c .places .isfrozen) (c .places .frozen) vloc .0 (sym (p .frozen-loc)) in
       simp not-iff
       (awaits-iff (c .awaited) id .1 (p .awaited), (and-both (place .0) (same-loc-iff (c .places .frozen) vloc .1 (place .1)), tt))
 
-  pub write-back-table-resp-exact : Exact d c q writeBackIndirectionTableRespStep
+  pub write-back-table-resp-exact : Exact g c q writeBackIndirectionTableRespStep
   write-back-table-resp-exact = record { sound = write-back-table-resp-sound; complete = write-back-table-resp-complete; free = λ k. refl }

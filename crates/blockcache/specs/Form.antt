@@ -9,7 +9,10 @@ use Rattle.blockcache.specs.declared.Outstanding.{Outstanding}
 use Rattle.blockcache.specs.declared.Phase.{Phase}
 use Rattle.blockcache.specs.declared.Phase.the-variants.{Loading, Ready, Unready}
 use Rattle.blockcache.specs.declared.Places.{Places}
+use Rattle.blockcache.specs.declared.Settings.{Settings}
 use Rattle.blockcache.specs.declared.Tables.{Tables}
+use Rattle.blockdisk.specs.Form.{isRule}
+use Rattle.disklayout.specs.Device.{made}
 use Rattle.disklayout.specs.declared.Location.{Location}
 use Rattle.queue.specs.Queue.{emptyRequests, requestAt, requestsForm}
 use Rattle.queue.specs.declared.Request.{Request}
@@ -80,6 +83,10 @@ phaseForm c = formIn (c .phase) c
 unfoldable pub cacheForm : CacheState → Bool
 cacheForm c =
     tablesForm (c .tables) && placesForm (c .places) && awaitedForm (c .awaited) && outstandingForm (c .outstanding) && nodesForm (c .nodes) && phaseForm c
+
+-- a device that is made, and a freeze rule
+abbrev pub settingsForm : Settings → Bool
+settingsForm g = made (g .device) && isRule (g .rule)
 
 -- the reference is one, node and table are in their written form
 abbrev pub callForm : Call → Bool

@@ -1,14 +1,15 @@
--- The narrowings of the cache, document 01's and, for NoOp, document 02's: what is refused although upstream would allow it.
+-- The narrowings of the cache, document 01's and, for NoOp and Freeze, document 02's: what is refused although upstream would allow it.
 use Prim.Native.Nat.{ℕ}
 use mathlib.Core.Bool.{Bool, _||_, cond, false}
 use mathlib.Core.Option.{Option, none, some}
 use lib.Dec.{eqb, leb}
 use Rattle.blockcache.specs.Ops.{dopId, dopLoc}
-use Rattle.blockcache.specs.Rows.{awaitsRead}
+use Rattle.blockcache.specs.Rows.{awaitsRead, frozenHeld}
 use Rattle.blockcache.specs.Step.{outsideLimits}
-use Rattle.blockcache.specs.Steps.{Step, noOpStep, numberOf, pageInNodeReqStep, stepOf, writeBackNodeReqStep}
+use Rattle.blockcache.specs.Steps.{Step, freezeStep, noOpStep, numberOf, pageInNodeReqStep, stepOf, writeBackNodeReqStep}
 use Rattle.blockcache.specs.declared.CacheState.{CacheState}
 use Rattle.blockcache.specs.declared.Call.{Call}
+use Rattle.blockcache.specs.declared.Settings.{Settings}
 use Rattle.queue.specs.Queue.{hasOf}
 
 abbrev isStep : Step → Step → Bool
@@ -27,18 +28,24 @@ module _ (c : CacheState) (q : Call) where
   abbrev pub idleNarrowed : Bool
   idleNarrowed = awaitsRead c (q .dop)
 
+module _ (g : Settings) (c : CacheState) (q : Call) where
+  -- Freeze: under rule 2, a frozen place is set (25)
+  abbrev pub freezeNarrowed : Bool
+  freezeNarrowed = frozenHeld g c
+
   -- no other step has one, beside 1
   abbrev pub stepNarrowed : Step → Bool
   stepNarrowed step =
-      cond (isStep writeBackNodeReqStep step) writeNarrowed
-      (cond (isStep pageInNodeReqStep step) readNarrowed
-      (cond (isStep noOpStep step) idleNarrowed
-      false))
+      cond (isStep writeBackNodeReqStep step) (writeNarrowed c q)
+      (cond (isStep pageInNodeReqStep step) (readNarrowed c q)
+      (cond (isStep noOpStep step) (idleNarrowed c q)
+      (cond (isStep freezeStep step) freezeNarrowed
+      false)))
 
   abbrev pub narrowedOf : Option Step → Bool
   narrowedOf none = false
   narrowedOf (some step) = stepNarrowed step
 
 -- 1, which well-formed-iff (proofs/Forms.antt) and step-number (proofs/Numbers.antt) say part by part, and those of the step
-unfoldable pub narrowed : ℕ → CacheState → ℕ → Call → Bool
-narrowed d c n q = outsideLimits d c n q || narrowedOf c q (stepOf n)
+unfoldable pub narrowed : Settings → CacheState → ℕ → Call → Bool
+narrowed g c n q = outsideLimits g c n q || narrowedOf g c q (stepOf n)

@@ -15,6 +15,7 @@ use Rattle.blockcache.specs.declared.Awaited.{Awaited}
 use Rattle.blockcache.specs.declared.CacheState.{CacheState}
 use Rattle.blockcache.specs.declared.Call.{Call}
 use Rattle.blockcache.specs.declared.Phase.{Phase}
+use Rattle.blockcache.specs.declared.Settings.{Settings}
 use Rattle.blockcache.specs.declared.VersionOp.{VersionOp}
 use Rattle.blockdisk.specs.declared.DiskOp.{DiskOp}
 use Rattle.disklayout.specs.Calls.{flag}
@@ -44,6 +45,12 @@ unfoldable pub awaitsRead : CacheState → DiskOp → Bool
 awaitsRead c o =
     answerPhase (c .phase) o
     && ((isD nodeReadResp o && hasOf (c .outstanding .reads) (dopId o)) || (isD tableReadResp o && awaitsTable (c .awaited) (dopId o)))
+
+-- THE FREEZE RULE
+
+-- under rule 2 a frozen place that is set is held: no Freeze drops it
+abbrev pub frozenHeld : Settings → CacheState → Bool
+frozenHeld g c = eqb (g .rule) 2 && c .places .isfrozen
 
 -- V, D AND THE PHASE
 
@@ -89,7 +96,10 @@ gate t rest =
 
 -- A STEP'S OWN CONDITIONS
 
-module _ (d : ℕ) (c : CacheState) (q : Call) where
+module _ (g : Settings) (c : CacheState) (q : Call) where
+  abbrev d : ℕ
+  d = g .device
+
   abbrev r : ℕ
   r = q .reference
 
@@ -180,6 +190,7 @@ module _ (d : ℕ) (c : CacheState) (q : Call) where
       []
   ownRows freezeStep =
       (10 when c .awaited .waiting) ∷
+      (25 when frozenHeld g c) ∷
       []
   ownRows cleanUpStep =
       (10 when c .awaited .waiting) ∷  -- the frozen table's write

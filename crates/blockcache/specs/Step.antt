@@ -6,7 +6,7 @@ use mathlib.Core.Option.{Option, none, some}
 use lib.Dec.{eqb}
 use Rattle.base.specs.Maps.{isSome}
 use Rattle.base.specs.Refusals.{Row, _when_, answer}
-use Rattle.blockcache.specs.Form.{cacheForm, callForm}
+use Rattle.blockcache.specs.Form.{cacheForm, callForm, settingsForm}
 use Rattle.blockcache.specs.Next.{stepNext}
 use Rattle.blockcache.specs.Rows.{gate, ownRows, stepRows, takes}
 use Rattle.blockcache.specs.Steps.{Step, isRead, numberOf, stepOf}
@@ -14,32 +14,32 @@ use Rattle.blockcache.specs.declared.CacheOutcome.{CacheOutcome}
 use Rattle.blockcache.specs.declared.CacheState.{CacheState}
 use Rattle.blockcache.specs.declared.Call.{Call}
 use Rattle.blockcache.specs.declared.Phase.{Phase}
+use Rattle.blockcache.specs.declared.Settings.{Settings}
 use Rattle.blockcache.specs.declared.VersionOp.{VersionOp}
 use Rattle.blockdisk.specs.declared.DiskOp.{DiskOp}
-use Rattle.disklayout.specs.Device.{made}
 use Rattle.sectortype.specs.Form.{slotAt, zeroNode}
 use Rattle.sectortype.specs.declared.Node.{Node}
 
 -- THE ROWS AND THE NEXT CACHE OF A NUMBER
 
--- device, cache and call are within the limits and in their one written form
-abbrev pub wellFormed : ℕ → CacheState → Call → Bool
-wellFormed d c q = made d && cacheForm c && callForm q
+-- settings, cache and call are within the limits and in their one written form
+abbrev pub wellFormed : Settings → CacheState → Call → Bool
+wellFormed g c q = settingsForm g && cacheForm c && callForm q
 
 -- 1: they are not, or there is no such step
-abbrev pub outsideLimits : ℕ → CacheState → ℕ → Call → Bool
-outsideLimits d c n q = not (wellFormed d c q) || not (isSome (stepOf n))
+abbrev pub outsideLimits : Settings → CacheState → ℕ → Call → Bool
+outsideLimits g c n q = not (wellFormed g c q) || not (isSome (stepOf n))
 
-abbrev pub rowsOf : ℕ → CacheState → Call → Option Step → List Row
-rowsOf d c q none = []
-rowsOf d c q (some step) = stepRows d c q step
+abbrev pub rowsOf : Settings → CacheState → Call → Option Step → List Row
+rowsOf g c q none = []
+rowsOf g c q (some step) = stepRows g c q step
 
 abbrev pub nextOf : CacheState → Call → Option Step → CacheState
 nextOf c q none = c
 nextOf c q (some step) = stepNext c q step
 
-abbrev pub cacheRows : ℕ → CacheState → ℕ → Call → List Row
-cacheRows d c n q = (1 when outsideLimits d c n q) ∷ rowsOf d c q (stepOf n)
+abbrev pub cacheRows : Settings → CacheState → ℕ → Call → List Row
+cacheRows g c n q = (1 when outsideLimits g c n q) ∷ rowsOf g c q (stepOf n)
 
 abbrev pub cacheNext : CacheState → ℕ → Call → CacheState
 cacheNext c n q = nextOf c q (stepOf n)
@@ -54,8 +54,8 @@ nodeOf c n q = cond (isRead n) (slotAt (c .nodes) (q .reference) .node) zeroNode
 abbrev pub outcome : ℕ → Node → CacheState → CacheState → CacheOutcome
 outcome n node next c = record { answer = n; node = cond (eqb n 0) node zeroNode; cache = cond (eqb n 0) next c }
 
-unfoldable pub cacheStep : ℕ → CacheState → ℕ → Call → CacheOutcome
-cacheStep d c n q = outcome (answer (cacheRows d c n q)) (nodeOf c n q) (cacheNext c n q) c
+unfoldable pub cacheStep : Settings → CacheState → ℕ → Call → CacheOutcome
+cacheStep g c n q = outcome (answer (cacheRows g c n q)) (nodeOf c n q) (cacheNext c n q) c
 
 -- ITS TWO HALVES, for the code: what V, D and phase refuse, and what the step itself does
 
@@ -67,9 +67,9 @@ unfoldable pub gated : Phase → VersionOp → DiskOp → Option Step → ℕ
 gated p v o none = 1
 gated p v o (some step) = answer (gate (takes p v o step) [])
 
-unfoldable pub pastGate : ℕ → CacheState → Call → Step → CacheOutcome
-pastGate d c q step = outcome (answer (ownRows d c q step)) (nodeOf c (numberOf step) q) (stepNext c q step) c
+unfoldable pub pastGate : Settings → CacheState → Call → Step → CacheOutcome
+pastGate g c q step = outcome (answer (ownRows g c q step)) (nodeOf c (numberOf step) q) (stepNext c q step) c
 
-abbrev pub dispatched : ℕ → CacheState → Call → Option Step → CacheOutcome
-dispatched d c q none = answered 1 c
-dispatched d c q (some step) = pastGate d c q step
+abbrev pub dispatched : Settings → CacheState → Call → Option Step → CacheOutcome
+dispatched g c q none = answered 1 c
+dispatched g c q (some step) = pastGate g c q step

@@ -92,6 +92,10 @@ isRead n = eqb n (numberOf readStep)
 abbrev pub isCrash : ℕ → Bool
 isCrash n = eqb n (numberOf crashStep)
 
+-- after a clean-up only the frozen place is named
+abbrev pub isCleanUp : ℕ → Bool
+isCleanUp n = eqb n (numberOf cleanUpStep)
+
 -- document 02's steps, which upstream doesn't have: demand 2's first sentence leaves them out
 abbrev pub isNew : ℕ → Bool
 isNew n = eqb n (numberOf letGoStep)

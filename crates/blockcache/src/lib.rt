@@ -49,6 +49,12 @@ pub struct CacheState {
     pub nodes: Nodes,
 }
 
+// What a call of the cache names beside the cache: the device, and its freeze rule (document 02, Q-8), 1 or 2. A later setting is a field here.
+pub struct Settings {
+    pub device: u64,
+    pub rule: u64,
+}
+
 // Upstream's VOp. An AdvanceOp tells whether its uiop is NoOp; the two Send operations carry a location.
 pub enum VersionOp {
     StatesInternalOp,

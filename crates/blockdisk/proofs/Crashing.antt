@@ -17,7 +17,7 @@ use Rattle.blockdisk.proofs.Outstanding.{queue-iff, written-iff}
 use Rattle.blockdisk.proofs.RecordArrays.{node-laws, nodeArray, nodes-are-formed, nodes-are-placed, nodes-read, table-laws, tableArray, tables-are-formed, tables-are-placed}
 use Rattle.blockdisk.proofs.RecordArrays.{tables-read, upstream-laws, upstream-read, upstreamArray}
 use Rattle.blockdisk.specs.Crash.{crashRows, crashed, keptNode, keptTable, nodesKept, recordsKept, tablesKept}
-use Rattle.blockdisk.specs.Form.{diskForm, nodeQueueForm, nodeRecordChecked, nodeRequestOk, recordsChecked, tableQueueForm, tableRecordChecked, tableRequestOk}
+use Rattle.blockdisk.specs.Form.{diskForm, isRule, nodeQueueForm, nodeRecordChecked, nodeRequestOk, recordsChecked, tableQueueForm, tableRecordChecked, tableRequestOk}
 use Rattle.blockdisk.specs.Records.{emptyRecords, defaultNodeRecord, defaultTableRecord, nodeRecordAt, tableRecordAt, zeroNodeRecord, zeroTableRecord}
 use Rattle.blockdisk.specs.Upstream.{havocMap, nodesStored, places, tablesStored, upstreamTables}
 use Rattle.blockdisk.specs.declared.DiskState.{DiskState}
@@ -60,11 +60,12 @@ unfolding nodeQueueForm
 empty-node-queue d = queue-iff (nodeRequestOk d) emptyRequests .1 (none-form, (λ id w e. never (rw none-map at e)))
 
 -- records in form and place, and nothing outstanding
-pub crashed-form : (d : ℕ) (s : DiskState) (o : Records) → made d ≡ true → recordsChecked d o .form ≡ true → recordsChecked d o .placed ≡ true → diskForm d (crashed s o) ≡ true
-crashed-form d s o on form placed =
+pub crashed-form : (d : ℕ) (s : DiskState) (o : Records) → made d ≡ true → isRule (s .rule) ≡ true → recordsChecked d o .form ≡ true → recordsChecked d o .placed ≡ true → diskForm d (crashed s o) ≡ true
+crashed-form d s o on rule form placed =
     disk-form-iff d (crashed s o) .1
     (record {
       on = on;
+      rule = rule;
       form = form;
       placed = placed;
       tablereads = empty-table-queue d;
@@ -101,7 +102,7 @@ empty-records-placed d =
     })
 
 pub crash-form-kept : (d : ℕ) (s : DiskState) (o : Records) → answer (crashRows d s o) ≡ 0 → diskForm d (crashed s o) ≡ true
-crash-form-kept d s o e = let c = crash-ok-iff d s o .0 e in crashed-form d s o (c .disk .on) (c .form) (c .placed)
+crash-form-kept d s o e = let c = crash-ok-iff d s o .0 e in crashed-form d s o (c .disk .on) (c .disk .rule) (c .form) (c .placed)
 
 -- WHAT IS KEPT
 

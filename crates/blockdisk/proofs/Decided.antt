@@ -1,4 +1,4 @@
--- One meaning, one written form: a disk in its written form is decided by its upstream variables. A queue by `queue`'s law; an area or
+-- One meaning, one written form: a disk in its written form is decided by its upstream variables and its rule. A queue by `queue`'s law; an area or
 -- block, where it is, by reading at its record's own place, and an absent record is zeros. Assumes nothing.
 use Prim.Native.Nat.{_<_, ℕ}
 use mathlib.Core.Bool.{Bool, _&&_, _||_, false, true}
@@ -135,8 +135,8 @@ node-queue-decided d q p f g =
 
 -- THE DISK
 
-pub disk-decided : (d : ℕ) (s t : DiskState) → diskForm d s ≡ true → diskForm d t ≡ true → diskVars d s ≡ diskVars d t → s ≡ t
-disk-decided d s t e h same =
+pub disk-decided : (d : ℕ) (s t : DiskState) → diskForm d s ≡ true → diskForm d t ≡ true → diskVars d s ≡ diskVars d t → s .rule ≡ t .rule → s ≡ t
+disk-decided d s t e h same rule =
     let f = disk-form-iff d s .0 e in
     let g = disk-form-iff d t .0 h in
     let tr = table-queue-decided d (s .queues .tablereads) (t .queues .tablereads) (f .tablereads) (g .tablereads) (ap (λ v. v .reqReadIndirectionTables) same) in
@@ -146,6 +146,7 @@ disk-decided d s t e h same =
     let ts = tables-decided d s t f g (ap (λ v. v .indirectionTables) same) in
     let ns = nodes-decided d s t f g (ap (λ v. v .nodes) same) in
     λ i. record {
+      rule = rule i;
       records = record { tables = ts i; nodes = ns i };
       queues = record { tablereads = tr i; nodereads = nr i; tablewrites = tw i; nodewrites = nw i };
     }

@@ -10,7 +10,7 @@ use lib.ListN.{length}
 use Rattle.base.proofs.Scan.{all-at, all-of}
 use Rattle.base.proofs.Tests.{and-iff, and-left, eqb-iff, not-iff, or-true-iff}
 use Rattle.blockdisk.proofs.Outstanding.{places-some, queue-iff}
-use Rattle.blockdisk.specs.Form.{diskForm, nodeQueueForm, nodeRecordChecked, nodeRequestOk, nodesChecked, queuesForm, recordsChecked, tableQueueForm, tableRecordChecked}
+use Rattle.blockdisk.specs.Form.{diskForm, isRule, nodeQueueForm, nodeRecordChecked, nodeRequestOk, nodesChecked, queuesForm, recordsChecked, tableQueueForm, tableRecordChecked}
 use Rattle.blockdisk.specs.Form.{tableRequestOk, tablesChecked}
 use Rattle.blockdisk.specs.Records.{nodeRecordAt, tableRecordAt}
 use Rattle.blockdisk.specs.Upstream.{places}
@@ -106,6 +106,7 @@ records-placed-iff d r = (
 
 pub record DiskForm (d : ℕ) (s : DiskState) : Type 0 where
   pub on : made d ≡ true
+  pub rule : isRule (s .rule) ≡ true
   pub form : recordsChecked d (s .records) .form ≡ true
   pub placed : recordsChecked d (s .records) .placed ≡ true
   pub tablereads : tableQueueForm d (s .queues .tablereads) ≡ true
@@ -118,7 +119,8 @@ unfolding diskForm queuesForm
 disk-form-iff d s = (
   (λ e. let h = simp and-iff at e in
       record {
-        on = h .0 .0 .0;
+        on = h .0 .0 .0 .0;
+        rule = h .0 .0 .0 .1;
         form = h .0 .0 .1;
         placed = h .0 .1;
         tablereads = h .1 .0 .0 .0;
@@ -126,7 +128,7 @@ disk-form-iff d s = (
         tablewrites = h .1 .0 .1;
         nodewrites = h .1 .1;
       }),
-  (λ f. simp and-iff (((f .on, f .form), f .placed), (((f .tablereads, f .nodereads), f .tablewrites), f .nodewrites))),
+  (λ f. simp and-iff ((((f .on, f .rule), f .form), f .placed), (((f .tablereads, f .nodereads), f .tablewrites), f .nodewrites))),
 )
 
 -- THE QUEUES

@@ -12,3 +12,4 @@ pub mod Outstanding
 pub mod Reading
 pub mod RecordArray
 pub mod RecordArrays
+pub mod Rules

@@ -51,7 +51,7 @@ crashRows d s o =
     (19 when not (recordsChecked d o .placed && recordsKept (s .queues) (s .records) o)) ∷
     []
 
--- the records offered, and nothing outstanding
+-- the records offered, and nothing outstanding; the rule stays, as records don't carry one
 abbrev pub crashed : DiskState → Records → DiskState
 crashed s o = withQueues (withRecords s o) emptyQueues
 

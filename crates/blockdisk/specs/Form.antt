@@ -84,5 +84,9 @@ unfoldable pub queuesForm : ℕ → Queues → Bool
 queuesForm d qs =
     tableQueueForm d (qs .tablereads) && nodeQueueForm d (qs .nodereads) && tableQueueForm d (qs .tablewrites) && nodeQueueForm d (qs .nodewrites)
 
+-- a freeze rule (document 02, Q-8): 1, which is document 01's, or 2
+abbrev pub isRule : ℕ → Bool
+isRule r = eqb r 1 || eqb r 2
+
 unfoldable pub diskForm : ℕ → DiskState → Bool
-diskForm d s = made d && recordsChecked d (s .records) .form && recordsChecked d (s .records) .placed && queuesForm d (s .queues)
+diskForm d s = made d && isRule (s .rule) && recordsChecked d (s .records) .form && recordsChecked d (s .records) .placed && queuesForm d (s .queues)

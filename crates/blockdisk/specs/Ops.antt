@@ -90,10 +90,10 @@ opRows d s NoDiskOp n t = []
 -- there is no record update: a setter for each group of fields, and for each queue of its group
 
 abbrev pub withRecords : DiskState → Records → DiskState
-withRecords s r = record { records = r; queues = s .queues }
+withRecords s r = record { rule = s .rule; records = r; queues = s .queues }
 
 abbrev pub withQueues : DiskState → Queues → DiskState
-withQueues s qs = record { records = s .records; queues = qs }
+withQueues s qs = record { rule = s .rule; records = s .records; queues = qs }
 
 abbrev pub withTableReads : Queues → Requests → Queues
 withTableReads qs q = record { tablereads = q; nodereads = qs .nodereads; tablewrites = qs .tablewrites; nodewrites = qs .nodewrites }

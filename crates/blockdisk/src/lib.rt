@@ -33,7 +33,9 @@ pub struct Queues {
     pub nodewrites: Requests,
 }
 
+// The freeze rule that the device was formatted with (document 02, Q-8), 1 or 2, beside all that upstream's disk has. No transition changes it.
 pub struct DiskState {
+    pub rule: u64,
     pub records: Records,
     pub queues: Queues,
 }

@@ -24,7 +24,7 @@ use Rattle.blockdisk.specs.declared.Records.{Records}
 use Rattle.queue.specs.Queue.{emptyRequests}
 use Rattle.blocksystem.proofs.Invariant.{NoneQueued}
 use Rattle.blocksystem.proofs.KeepQueues.{Survives}
-use Rattle.blocksystem.specs.Joined.{diskAsked, diskCall, joined, joinedAnswer, startRows}
+use Rattle.blocksystem.specs.Joined.{diskAsked, diskCall, joined, joinedAnswer, settingsOf, startRows}
 
 -- THE DISK'S HALF
 
@@ -66,25 +66,25 @@ survives d s o e =
 
 module _ (d : ℕ) (n : ℕ) (q : Call) (o : Records) (c : CacheState) (s : DiskState) where
   -- accepted exactly where cache, disk and the row of a start accept
-  pub joined-zero : (joinedAnswer d n q o c s ≡ 0) ↔ ((answer (cacheRows d c n q) ≡ 0) × (diskAsked d n q o s .answer ≡ 0) × (answer (startRows d n q s) ≡ 0))
+  pub joined-zero : (joinedAnswer d n q o c s ≡ 0) ↔ ((answer (cacheRows (settingsOf d s) c n q) ≡ 0) × (diskAsked d n q o s .answer ≡ 0) × (answer (startRows d n q s) ≡ 0))
   unfolding joinedAnswer
   joined-zero =
-      let a = cacheStep d c n q .answer in
+      let a = cacheStep (settingsOf d s) c n q .answer in
       let b = diskAsked d n q o s .answer in
       let z = answer (startRows d n q s) in (
-        (λ e. let h = lowest-zero (lowest a b) z .0 e in let g = lowest-zero a b .0 (h .0) in (sym (step-answer d c n q) ∙ g .0, g .1, h .1)),
-        (λ h. lowest-zero (lowest a b) z .1 (lowest-zero a b .1 (step-answer d c n q ∙ h .0, h .1), h .2)),
+        (λ e. let h = lowest-zero (lowest a b) z .0 e in let g = lowest-zero a b .0 (h .0) in (sym (step-answer (settingsOf d s) c n q) ∙ g .0, g .1, h .1)),
+        (λ h. lowest-zero (lowest a b) z .1 (lowest-zero a b .1 (step-answer (settingsOf d s) c n q ∙ h .0, h .1), h .2)),
       )
 
   module _ (e : joinedAnswer d n q o c s ≡ 0) where
     pub joined-cache : joined d n q o c s .cache ≡ cacheNext c n q
     unfolding joined
-    joined-cache = rw (eq-eqb _ _ e) (step-taken d c n q (joined-zero .0 e .0))
+    joined-cache = rw (eq-eqb _ _ e) (step-taken (settingsOf d s) c n q (joined-zero .0 e .0))
 
     pub joined-disk : joined d n q o c s .disk ≡ diskAsked d n q o s .disk
     unfolding joined
     joined-disk = rw (eq-eqb _ _ e)
 
-    pub joined-node : joined d n q o c s .node ≡ cacheStep d c n q .node
+    pub joined-node : joined d n q o c s .node ≡ cacheStep (settingsOf d s) c n q .node
     unfolding joined
     joined-node = rw (eq-eqb _ _ e)

@@ -81,6 +81,15 @@ each-named d (k ∷ ks) s =
     let both = and-iff (startNamed d s k) (startsNamed d (moved d s k) ks) in
     let rest = each-named d ks (moved d s k) in ((λ h. (both .0 h .0, rest .0 (both .0 h .1))), (λ h. both .1 (h .0, rest .1 (h .1))))
 
+-- of the two parts of a list, of the second in the state after the first
+pub starts-cut : (d : ℕ) (front back : List JoinedCall) (s : State) → startsNamed d s (front ++ back) ≡ true → (startsNamed d s front ≡ true) × (startsNamed d (after d s front) back ≡ true)
+unfolding startsNamed after
+starts-cut d [] back s h = (refl, h)
+starts-cut d (k ∷ ks) back s h =
+    let both = and-iff (startNamed d s k) (startsNamed d (moved d s k) (ks ++ back)) .0 h in
+    let rest = starts-cut d ks back (moved d s k) (both .1) in
+    (and-iff (startNamed d s k) (startsNamed d (moved d s k) ks) .1 (both .0, rest .0), rest .1)
+
 at-named : (d : ℕ) (s : State) (k : JoinedCall) →
     ((n : ℕ) (q : Call) (o : Records) → k ≡ step n q o → asked d s n q o .answer ≡ 0 → isStart n ≡ true → isNamed (s .pictures) (vopLoc (q .vop)) ≡ true) → CallNamed d s k
 at-named d s (step n q o) h = step-named-iff d s n q o .1 (λ t. h n q o refl (eqb-true _ _ t))

@@ -16,6 +16,7 @@ use Rattle.blockcache.specs.Step.{cacheRows}
 use Rattle.blockcache.specs.Steps.{isCrash}
 use Rattle.blockcache.specs.declared.CacheState.{CacheState}
 use Rattle.blockcache.specs.declared.Call.{Call}
+use Rattle.blockcache.specs.declared.Settings.{Settings}
 use Rattle.blockdisk.proofs.Accepting.{disk-ascending}
 use Rattle.blockdisk.proofs.Crashing.{crash-ascending}
 use Rattle.blockdisk.specs.Crash.{crashRows}
@@ -23,7 +24,7 @@ use Rattle.blockdisk.specs.declared.Records.{Records}
 use Rattle.blockdisk.specs.Ops.{diskRows}
 use Rattle.blocksystem.proofs.Accepting.{crash-answer, disk-answer}
 use Rattle.blocksystem.proofs.After.{every-iff}
-use Rattle.blocksystem.specs.Joined.{diskAsked, diskCall, joined, joinedAnswer, startRows}
+use Rattle.blocksystem.specs.Joined.{diskAsked, diskCall, joined, joinedAnswer, settingsOf, startRows}
 use Rattle.blocksystem.specs.Run.{Answered, AnsweredAs, JoinedCall, State, StepAnswered, after, conditions, diskSide, step}
 
 -- a is the lowest number of which P holds; 0 where P holds of none
@@ -69,8 +70,8 @@ lowest-of a b P Q x y =
 pub rows-lowest : (rs : List Row) → ascending rs ≡ true → Lowest (answer rs) (λ k. holds k rs)
 rows-lowest rs up = record { none = λ z k. clear-holds rs (accepted-iff rs up .0 z) k; own = answer-holds rs; least = answer-lowest 0 rs up }
 
-pub cache-lowest : (d : ℕ) (c : CacheState) (n : ℕ) (q : Call) → Lowest (answer (cacheRows d c n q)) (λ k. holds k (cacheRows d c n q))
-cache-lowest d c n q = rows-lowest (cacheRows d c n q) (rows-ascending d c n q)
+pub cache-lowest : (g : Settings) (c : CacheState) (n : ℕ) (q : Call) → Lowest (answer (cacheRows g c n q)) (λ k. holds k (cacheRows g c n q))
+cache-lowest g c n q = rows-lowest (cacheRows g c n q) (rows-ascending g c n q)
 
 module _ (d : ℕ) (s : State) (n : ℕ) (q : Call) (o : Records) where
   abbrev a : ℕ
@@ -85,12 +86,12 @@ module _ (d : ℕ) (s : State) (n : ℕ) (q : Call) (o : Records) where
   pub joined-lowest : Lowest a (conditions d s n q o)
   unfolding joinedAnswer conditions
   joined-lowest =
-      let c = cacheRows d (s .cache) n q in
+      let c = cacheRows (settingsOf d (s .disk)) (s .cache) n q in
       let start = startRows d n q (s .disk) in
       let disk = diskAsked d n q o (s .disk) .answer in
-      rw (step-answer d (s .cache) n q)
+      rw (step-answer (settingsOf d (s .disk)) (s .cache) n q)
       (lowest-of (lowest (answer c) disk) (answer start) (λ k. holds k c || holds k (diskSide d s n q o)) (λ k. holds k start)
-      (lowest-of (answer c) disk (λ k. holds k c) (λ k. holds k (diskSide d s n q o)) (cache-lowest d (s .cache) n q) disk-lowest)
+      (lowest-of (answer c) disk (λ k. holds k c) (λ k. holds k (diskSide d s n q o)) (cache-lowest (settingsOf d (s .disk)) (s .cache) n q) disk-lowest)
       (rows-lowest start refl))
 
   step-answered : StepAnswered d s n q o

@@ -33,7 +33,7 @@ use Rattle.blocksystem.proofs.Accepting.{crash-answer, crash-next, disk
 use Rattle.blocksystem.proofs.EveryStep.{sent-by}
 use Rattle.blocksystem.proofs.Starting.{wf-succs-iff}
 use Rattle.blocksystem.specs.Allowed.{handedBack, joinedOp, joinedVop, MachineTo, NoNarrowing, SystemAllows, SystemMoves}
-use Rattle.blocksystem.specs.Joined.{diskCall, joined, joinedAnswer, startRows}
+use Rattle.blocksystem.specs.Joined.{diskCall, joined, joinedAnswer, settingsOf, startRows}
 use Rattle.blocksystem.specs.Start.{WFSuccs as wholeGraph}
 use Rattle.blocksystem.specs.Upstream.{Crash, Next, crashStep as systemCrash, machineStep, systemVars, Variables}
 use Rattle.disklayout.specs.declared.Location.{Location}
@@ -82,7 +82,7 @@ module _ (d n : ℕ) (q : Call) (o : Records) (c : CacheState) (s : DiskState) w
     machine-to e =
         let z = joined-zero d n q o c s .0 e in
         let a : answer (diskRows d s (diskCall n q)) ≡ 0 = sym (disk-answer d n q o s ne) ∙ z .1 in
-        let x = cache-allowed d c n q old (z .0) in
+        let x = cache-allowed (settingsOf d s) c n q old (z .0) in
         let m = next-joined d (cacheVars c) (after .machine) q n (x .0) (x .1) .0 (x .2) in (
           x .0,
           x .1,
@@ -103,7 +103,7 @@ module _ (d n : ℕ) (q : Call) (o : Records) (c : CacheState) (s : DiskState) w
         let m = x .2 in
         let a = disk-accepted d s (diskCall n q) .1 (h .disk ne, (s' .disk, m .disk)) in
         joined-zero d n q o c s .1 (
-          cache-accepted d c n q old .1 (h .cache, (x .0, x .1, (s' .machine, next-joined d (cacheVars c) (s' .machine) q n (x .0) (x .1) .1 (m .machine)))),
+          cache-accepted (settingsOf d s) c n q old .1 (h .cache, (x .0, x .1, (s' .machine, next-joined d (cacheVars c) (s' .machine) q n (x .0) (x .1) .1 (m .machine)))),
           disk-answer d n q o s ne ∙ a,
           start-iff d n q s .1
               (λ t. let u = sends d (cacheVars c) (s' .machine) q n (x .0) (x .1) t (m .machine) in
@@ -121,13 +121,13 @@ module _ (d : ℕ) (q : Call) (o : Records) (c : CacheState) (s : DiskState) whe
   crash-to e =
       let z = joined-zero d 18 q o c s .0 e in
       let a : answer (crashRows d s o) ≡ 0 = sym (crash-answer d 18 q o s refl) ∙ z .1 in
-      (a, record { op = crash-op (cacheVars (cacheNext c 18 q)) (cache-allowed d c 18 q refl (z .0)); machine = refl; disk = crash-accepted d s o .0 a .1 })
+      (a, record { op = crash-op (cacheVars (cacheNext c 18 q)) (cache-allowed (settingsOf d s) c 18 q refl (z .0)); machine = refl; disk = crash-accepted d s o .0 a .1 })
 
   crash-from : NoNarrowing d 18 q o c s → (m : MVariables) → Crash (systemVars d c s) (record { machine = m; disk = diskVars d (crashed s o) }) (q .vop) → joinedAnswer d 18 q o c s ≡ 0
   unfolding stepOf steps
   crash-from h m x =
       joined-zero d 18 q o c s .1 (
-        cache-accepted d c 18 q refl .1 (h .cache, (crashStep, refl, (m, (x .op, x .machine)))),
+        cache-accepted (settingsOf d s) c 18 q refl .1 (h .cache, (crashStep, refl, (m, (x .op, x .machine)))),
         crash-answer d 18 q o s refl ∙ crash-accepted d s o .1 (h .crash refl, x .disk),
         start-iff d 18 q s .1 (λ t. clash t refl),
       )
@@ -142,7 +142,7 @@ module _ (d n : ℕ) (q : Call) (o : Records) (c : CacheState) (s : DiskState) (
       to e =
           let z = joined-zero d n q o c s .0 e in (
             record {
-              cache = cache-accepted d c n q old .0 (z .0) .0;
+              cache = cache-accepted (settingsOf d s) c n q old .0 (z .0) .0;
               disk = λ ne. disk-accepted d s (diskCall n q) .0 (sym (disk-answer d n q o s ne) ∙ z .1) .0;
               crash = λ t. crash-accepted d s o .0 (sym (crash-answer d n q o s t) ∙ z .1) .0;
             },

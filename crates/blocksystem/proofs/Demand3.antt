@@ -6,11 +6,13 @@ use Prim.Native.Nat.{ℕ}
 use mathlib.Core.Bool.{true}
 use mathlib.Core.List.{List}
 use mathlib.Core.Path.{_≡_}
+use Rattle.blockdisk.specs.Form.{isRule}
 use Rattle.disklayout.specs.Device.{made}
 use Rattle.sectortype.specs.declared.Contents.{Contents}
 use Rattle.blocksystem.proofs.Answering.{all-answered}
 use Rattle.blocksystem.proofs.Counting.{none-counted}
 use Rattle.blocksystem.proofs.Formatted.{formatted-holds}
+use Rattle.blocksystem.proofs.Frozen.{frozen-stays, run-keeps-rule}
 use Rattle.blocksystem.proofs.Invariant.{Invariant}
 use Rattle.blocksystem.proofs.Keep.{run-keeps}
 use Rattle.blocksystem.proofs.Restart.{starts-whole}
@@ -26,10 +28,10 @@ holds-nothing-lost d s v = (
   (λ e. none-counted d (s .disk) (s .pictures .second) (v .whole .second (s .pictures .second .place) (rw e)) (v .pictures-form .second)),
 )
 
-pub nothing-lost : (d : ℕ) → made d ≡ true → (x : Contents) (calls : List JoinedCall) → startsNamed d (start d x) calls ≡ true → Promised d (start d x) calls
-nothing-lost d on x calls n =
-    let s = start d x in
-    let at-first = formatted-holds d x on in
+pub nothing-lost : (d r : ℕ) → made d ≡ true → isRule r ≡ true → (x : Contents) (calls : List JoinedCall) → startsNamed d (start d x r) calls ≡ true → Promised d (start d x r) calls
+nothing-lost d r on rule x calls n =
+    let s = start d x r in
+    let at-first = formatted-holds d x on r rule in
     let v = run-keeps d calls s at-first n in
     record {
       answered = all-answered d calls s;
@@ -38,5 +40,7 @@ nothing-lost d on x calls n =
       starts = starts-whole d (after d s calls) v;
       reads = none-differ d calls s at-first n;
       shown = ready-shown d (after d s calls) v;
+      rule = run-keeps-rule d calls s;
+      frozen = frozen-stays d calls s at-first n;
       waits = waits-end d (after d s calls) v;
     }

@@ -5,7 +5,7 @@ use mathlib.Core.Bool.{false, true}
 use mathlib.Core.Logic.{inl, inr, ⊎-elim}
 use mathlib.Core.Option.{none, Option, some}
 use mathlib.Core.Path.{_∙_, _≡_, ap, refl, subst, sym}
-use borrow.Author.Tests.{eq-eqb, eqb-false}
+use borrow.Author.Tests.{eq-eqb, eqb-false, eqb-true}
 use lib.Dec.{eqb}
 use Rattle.base.proofs.Maps.{flagged-some}
 use Rattle.base.proofs.Tests.{and-both, and-iff, clash, split}
@@ -17,7 +17,7 @@ use Rattle.blockcache.specs.Next.{cachedSlot}
 use Rattle.blockcache.specs.NextStep.{IdleVop, NextStep}
 use Rattle.blockcache.specs.Ops.{vopKind, vopLoc}
 use Rattle.blockcache.specs.Steps.{allocStep, cleanUpStep, crashStep, dirtyStep, evictStep, freezeStep, isCrash, isStart, letGoStep, noOpStep, numberOf, pageInIndirectionTableReqStep}
-use Rattle.blockcache.specs.Steps.{pageInIndirectionTableRespStep, pageInNodeReqStep, pageInNodeRespStep, readStep, receiveLocStep, Step, stepOf, unallocStep}
+use Rattle.blockcache.specs.Steps.{pageInIndirectionTableRespStep, pageInNodeReqStep, pageInNodeRespStep, readStep, receiveLocStep, Step, stepOf, steps, unallocStep}
 use Rattle.blockcache.specs.Steps.{writeBackIndirectionTableReqStep, writeBackIndirectionTableRespStep, writeBackNodeReqStep, writeBackNodeRespStep}
 use Rattle.blockcache.specs.Upstream.{Variables}
 use Rattle.blockcache.specs.UpstreamInv.{Inv}
@@ -224,6 +224,22 @@ module _ (n : ℕ) (q : Call) (t : Pictures) (not4 : n ≡ 4 → ⊥) (not5 : n 
   pub pictures-same : picturesAfter n q t ≡ t
   unfolding picturesAfter
   pictures-same = of-number (stepOf n) refl
+
+-- and all but four of these leave the frozen name as it is
+module _ (n : ℕ) (q : Call) (t : Pictures) (not4 : n ≡ 4 → ⊥) (not10 : n ≡ 10 → ⊥) (not12 : n ≡ 12 → ⊥) (not13 : n ≡ 13 → ⊥) where
+  abbrev same-name : ℕ → Type 0
+  same-name m = picturesAfter m q t .second ≡ t .second
+
+  works : (m : ℕ) → n ≡ m → same-name m → same-name n
+  works m e h = subst same-name (sym e) h
+
+  pub second-same : same-name n
+  unfolding picturesAfter stepOf steps
+  second-same =
+      split (eqb n 5) (λ a. works 5 (eqb-true n 5 a) refl)
+      (λ a. split (eqb n 15) (λ b. works 15 (eqb-true n 15 b) refl)
+      (λ b. split (eqb n 16) (λ e. works 16 (eqb-true n 16 e) refl)
+      (λ e. ap (λ x. x .second) (pictures-same n q t not4 (eqb-false n 5 a) not10 not12 not13 (eqb-false n 15 b) (eqb-false n 16 e)))))
 
 -- WHICH STEP SENDS A PERSISTENT PLACE
 

@@ -1,7 +1,8 @@
--- A newly formatted device: its root is read at its place through the table stored at the place that is named, and the invariant holds. Assumes nothing.
-use Prim.Native.Nat.{suc, zero, ℕ}
-use mathlib.Core.Bool.{Bool, _&&_, cond, false, false≢true, true}
-use mathlib.Core.Logic.{⊎-elim}
+-- A newly formatted device: its root is read at its place through the table stored at the place that is named, and the invariant holds. And which
+-- formattings are accepted. Assumes nothing.
+use Prim.Native.Nat.{_≤_, suc, zero, ℕ}
+use mathlib.Core.Bool.{_&&_, false, true}
+use mathlib.Core.Logic.{_↔_, _⊎_, ⊎-elim}
 use mathlib.Core.Option.{some}
 use mathlib.Core.Path.{_∙_, _≡_, ap, refl, sym}
 use native.Mathlib.Omega.{arith}
@@ -14,14 +15,15 @@ use Rattle.blockcache.specs.Upstream.{AllLocationsForDifferentRefsDontOverlap, 
 use Rattle.sectortype.specs.Graph.{hasSucc}
 use Rattle.sectortype.specs.declared.Succs.{Succs}
 use Rattle.base.proofs.Maps.{in-put-same, put-none, put-other, put-same, put-some}
-use Rattle.base.proofs.Tests.{and-iff, clash, never}
+use Rattle.base.proofs.Tests.{and-iff, clash, leb-iff, never, split}
 use Rattle.base.specs.Maps.{empty, put}
 use Rattle.blockcache.proofs.FormLaws.{empty-cache-form}
 use Rattle.blockcache.proofs.Forms.{cache-form-iff}
 use Rattle.blockdisk.proofs.Crashing.{crashed-form, empty-records-form, empty-records-placed}
 use Rattle.blockdisk.proofs.Kept.{with-node-form, with-node-placed, with-table-form, with-table-placed}
+use Rattle.blockdisk.proofs.Rules.{rule-iff}
 use Rattle.blockdisk.proofs.Reading.{node-written, table-leaves-nodes, table-written, upstream-of, with-node-is, with-table-is}
-use Rattle.blockdisk.specs.Form.{diskForm, recordsChecked}
+use Rattle.blockdisk.specs.Form.{diskForm, isRule, recordsChecked}
 use Rattle.blockdisk.specs.Records.{emptyRecords, withNode, withTable}
 use Rattle.blockdisk.specs.Upstream.{diskVars, nodesStored, upstreamTables}
 use Rattle.blockdisk.specs.declared.Records.{Records}
@@ -150,10 +152,10 @@ module _ (d : ℕ) (x : Contents) (on : made d ≡ true) where
   rooted-placed : recordsChecked d rooted .placed ≡ true
   rooted-placed = with-node-placed d emptyRecords on (empty-records-form d) (empty-records-placed d) l (rootNode x) (root-place d on)
 
-  pub formatted-form : diskForm d (formattedDisk d x) ≡ true
-  formatted-form =
+  pub formatted-form : (r : ℕ) → isRule r ≡ true → diskForm d (formattedDisk d x r) ≡ true
+  formatted-form r rule =
       rw records-are
-      (crashed-form d (formattedDisk d x) (withTable d rooted k (rootTable l)) on
+      (crashed-form d (formattedDisk d x r) (withTable d rooted k (rootTable l)) on rule
       (with-table-form d rooted on rooted-form rooted-placed k (rootTable l) (table-place d on) (root-table-form l))
       (with-table-placed d rooted on rooted-form rooted-placed k (rootTable l) (table-place d on)))
 
@@ -190,8 +192,8 @@ module _ (d : ℕ) (x : Contents) (on : made d ≡ true) where
       (λ z. never (z .1))
       (put-some empty 0 zeroSuccs ref (rw (root-graph l) at a))
 
-  pub formatted-kept : KeptOn d (diskVars d (formattedDisk d x)) k (nodesMap (withRoot x))
-  formatted-kept =
+  pub formatted-kept : (r : ℕ) → KeptOn d (diskVars d (formattedDisk d x r)) k (nodesMap (withRoot x))
+  formatted-kept r =
       record {
         table = indirectionTable (rootTable l);
         stored = formatted-table;
@@ -208,31 +210,55 @@ module _ (d : ℕ) (x : Contents) (on : made d ≡ true) where
         none-at-nodes = λ ref m e id n h a. none-queued id n h;
       }
 
-  chosen : {A : Type 0} (b : Bool) (y z : A) → b ≡ true → cond b y z ≡ y
-  chosen true y z e = refl
-  chosen false y z e = absurd (false≢true e)
-
   -- what formatting returns
-  pub formatted-is : formatted d x ≡ record { answer = 0; node = zeroNode; cache = emptyCache; disk = formattedDisk d x }
-  unfolding formatted
-  formatted-is =
-      chosen (made d) (record { answer = 0; node = zeroNode; cache = emptyCache; disk = formattedDisk d x }) (record { answer = 1; node = zeroNode; cache = emptyCache; disk = emptyDisk }) on
+  module _ (r : ℕ) (rule : isRule r ≡ true) where
+    pub formatted-is : formatted d x r ≡ record { answer = 0; node = zeroNode; cache = emptyCache; disk = formattedDisk d x r }
+    unfolding formatted
+    formatted-is = rw (on, rule)
 
-  pub formatted-holds : Invariant d (start d x)
-  unfolding firstPictures
-  formatted-holds =
-      rw formatted-is
-      (record {
-        made-device = on;
-        cache-form = cache-form-iff emptyCache .1 empty-cache-form;
-        disk-form = formatted-form;
-        pictures-form = first-forms d x;
-        first-named = refl;
-        whole = record {
-          inv = tt;
-          first = formatted-kept;
-          second = λ m h. never h;
-          apart = λ m h. never h;
-          phase = record { no-table-reads = none-queued; no-node-reads = none-queued; no-table-writes = none-queued; no-node-writes = none-queued };
-        };
-      })
+    pub formatted-holds : Invariant d (start d x r)
+    unfolding firstPictures
+    formatted-holds =
+        rw formatted-is
+        (record {
+          made-device = on;
+          cache-form = cache-form-iff emptyCache .1 empty-cache-form;
+          disk-form = formatted-form r rule;
+          pictures-form = first-forms d x;
+          first-named = refl;
+          whole = record {
+            inv = tt;
+            first = formatted-kept r;
+            second = λ m h. never h;
+            apart = λ m h. never h;
+            phase = record { no-table-reads = none-queued; no-node-reads = none-queued; no-table-writes = none-queued; no-node-writes = none-queued };
+          };
+        })
+
+-- WHICH FORMATTINGS ARE ACCEPTED
+
+module _ (d : ℕ) (x : Contents) (r : ℕ) where
+  refused-is : (made d && isRule r) ≡ false → formatted d x r ≡ record { answer = 1; node = zeroNode; cache = emptyCache; disk = emptyDisk }
+  unfolding formatted
+  refused-is e = rw e
+
+  accepted-by : formatted d x r .answer ≡ 0 → (made d && isRule r) ≡ true
+  accepted-by e = split (made d && isRule r) (λ t. t) (λ t. absurd (let w : _≡_ {A = ℕ} 1 0 = sym (ap (λ o. o .answer) (refused-is t)) ∙ e in omega arith))
+
+  -- those of the three devices under one of the two rules
+  pub formatted-iff : (formatted d x r .answer ≡ 0) ↔ ((d ≤ 2) × ((r ≡ 1) ⊎ (r ≡ 2)))
+  formatted-iff = (
+    (λ e. let h = and-iff (made d) (isRule r) .0 (accepted-by e) in (leb-iff d 2 .0 (h .0), rule-iff r .0 (h .1))),
+    (λ (on, rule). ap (λ o. o .answer) (formatted-is d x (leb-iff d 2 .1 on) r (rule-iff r .1 rule))),
+  )
+
+  -- the disk then carries the rule that was named
+  pub formatted-rule : formatted d x r .answer ≡ 0 → formatted d x r .disk .rule ≡ r
+  formatted-rule e = let h = and-iff (made d) (isRule r) .0 (accepted-by e) in ap (λ o. o .disk .rule) (formatted-is d x (h .0) r (h .1))
+
+  -- else it is 1 and zeros
+  pub formatted-refused : (formatted d x r .answer ≡ 0 → ⊥) → formatted d x r ≡ record { answer = 1; node = zeroNode; cache = emptyCache; disk = emptyDisk }
+  formatted-refused ne =
+      split (made d && isRule r)
+      (λ t. let h = and-iff (made d) (isRule r) .0 t in absurd (ne (ap (λ o. o .answer) (formatted-is d x (h .0) r (h .1)))))
+      refused-is

@@ -11,6 +11,7 @@ use Rattle.base.proofs.Tests.{clash, never, split}
 use Rattle.base.specs.Maps.{empty, isSome, put}
 use Rattle.blockcache.specs.Upstream.{In}
 use Rattle.blockdisk.proofs.Demand2.{disk-init}
+use Rattle.blockdisk.specs.Form.{isRule}
 use Rattle.blockdisk.specs.Upstream.{nodesStored}
 use Rattle.disklayout.specs.Device.{made}
 use Rattle.disklayout.specs.declared.Location.{Location}
@@ -62,12 +63,12 @@ module _ (d : ℕ) (x : Contents) (on : made d ≡ true) where
   closed r1 r2 n e h =
       ⊎-elim (λ (y : (r1 ≡ 0) × (rootNode x ≡ n)). clash (rw (← (y .1)) at h) (no-successor r2)) (λ y. never (y .1)) (put-some empty 0 (rootNode x) r1 e)
 
-  pub formatted-init : Init d (systemVars d (formatted d x .cache) (formatted d x .disk)) (tablePlaceOf d)
-  formatted-init =
-      rw (formatted-is d x on)
+  pub formatted-init : (r : ℕ) → isRule r ≡ true → Init d (systemVars d (formatted d x r .cache) (formatted d x r .disk)) (tablePlaceOf d)
+  formatted-init r rule =
+      rw (formatted-is d x on r rule)
       (record {
         machine = refl;
-        disk = disk-init d (formattedDisk d x) refl;
+        disk = disk-init d (formattedDisk d x r) refl;
         whole = record {
           valid = table-place d on;
           table = indirectionTable (rootTable (rootPlace d));

@@ -30,7 +30,7 @@ use Rattle.blocksystem.proofs.Accepting.{crash-answer, crash-next, disk
 use Rattle.blocksystem.proofs.EveryStep.{number-form, step-kept}
 use Rattle.blocksystem.proofs.Invariant.{Invariant, pictureMaps}
 use Rattle.blocksystem.proofs.KeepQueues.{keep-crash}
-use Rattle.blocksystem.specs.Joined.{diskAsked, diskCall, joined, joinedAnswer}
+use Rattle.blocksystem.specs.Joined.{diskAsked, diskCall, joined, joinedAnswer, settingsOf}
 use Rattle.blocksystem.specs.Names.{isNamed, picturesAfter}
 use Rattle.blocksystem.specs.Run.{acceptsStep, after, afterStep, Every, JoinedCall, moved, startNamed, startsNamed, State, step, stepNamed}
 
@@ -55,7 +55,7 @@ module _ (d : ℕ) (q : Call) (o : Records) (s : State) (v : Invariant d s) wher
       let after : diskAsked d 18 q o (s .disk) .disk ≡ crashed (s .disk) o = crash-next d 18 q o (s .disk) refl a in
       record {
         made-device = v .made-device;
-        cache-form = cache-form-kept d (s .cache) 18 q (z .0);
+        cache-form = cache-form-kept (settingsOf d (s .disk)) (s .cache) 18 q (z .0);
         disk-form = rw after (crash-form-kept d (s .disk) o a);
         pictures-form = v .pictures-form;
         first-named = v .first-named;
@@ -70,14 +70,14 @@ module _ (d : ℕ) (q : Call) (o : Records) (s : State) (v : Invariant d s) wher
       let c = diskCall n q in
       let a : answer (diskRows d (s .disk) c) ≡ 0 = sym (disk-answer d n q o (s .disk) ne) ∙ z .1 in
       let after = disk-next d n q o (s .disk) ne a in
-      let x = call-accepted-iff d (s .cache) n q .0 (z .0) in
+      let x = call-accepted-iff (settingsOf d (s .disk)) (s .cache) n q .0 (z .0) in
       let is = step-of-number n (x .step) (x .is) in
       let next = nextDisk d (s .disk) (c .op) (q .node) (q .table) in
-      let to = store-allowed d (s .cache) n q (z .0) in
+      let to = store-allowed (settingsOf d (s .disk)) (s .cache) n q (z .0) in
       let same : some (x .step) ≡ some (to .0) = sym (x .is) ∙ to .1 in
       let one : to .0 ≡ x .step = cc in
       let s' = cacheVars (cacheNext (s .cache) n q) in
-      let inv = inv-kept d (s .cache) n q (v .whole .inv) (z .0) in
+      let inv = inv-kept (settingsOf d (s .disk)) (s .cache) n q (v .whole .inv) (z .0) in
       let r = step-kept d q (cacheVars (s .cache)) s' (diskVars d (s .disk)) (diskVars d next) (s .pictures) (v .whole) (v .pictures-form) (v .first-named) inv (x .form .call .reference)
       (x .step) (subst (λ m. isCrash m ≡ false) is ne)
       (record {
@@ -86,12 +86,12 @@ module _ (d : ℕ) (q : Call) (o : Records) (s : State) (v : Invariant d s) wher
         move = subst (λ m. diskVars d next ≡ nextVars (diskVars d (s .disk)) (dopOf (diskCall m q))) is (disk-moves d (s .disk) c a);
         unawaited = λ t.
             let k : n ≡ 14 = is ∙ eqb-true (numberOf (x .step)) 14 t in
-            no-op-unawaited d (s .cache) q (subst (λ m. answer (cacheRows d (s .cache) m q) ≡ 0) k (z .0));
+            no-op-unawaited (settingsOf d (s .disk)) (s .cache) q (subst (λ m. answer (cacheRows (settingsOf d (s .disk)) (s .cache) m q) ≡ 0) k (z .0));
         start = subst (λ m. Named m) is named;
       }) in
       record {
         made-device = v .made-device;
-        cache-form = cache-form-kept d (s .cache) n q (z .0);
+        cache-form = cache-form-kept (settingsOf d (s .disk)) (s .cache) n q (z .0);
         disk-form = rw after (disk-form-kept d (s .disk) c a);
         pictures-form = number-form (s .pictures) (v .pictures-form) q (x .form .call .reference) (x .form .call .node) n;
         first-named = rw (x .is) (r .named);
@@ -130,7 +130,7 @@ call-keeps d s (step n q o) v named = step-call-keeps d s n q o v named
 -- ANY LIST
 
 -- after its first call, the rest of a list finds what the list found
-first-keeps : (d : ℕ) (s : State) (k : JoinedCall) (ks : List JoinedCall) → Invariant d s → startsNamed d s (k ∷ ks) ≡ true → Invariant d (moved d s k) × (startsNamed d (moved d s k) ks ≡ true)
+pub first-keeps : (d : ℕ) (s : State) (k : JoinedCall) (ks : List JoinedCall) → Invariant d s → startsNamed d s (k ∷ ks) ≡ true → Invariant d (moved d s k) × (startsNamed d (moved d s k) ks ≡ true)
 unfolding startsNamed
 first-keeps d s k ks v n = let h = and-iff (startNamed d s k) (startsNamed d (moved d s k) ks) .0 n in (call-keeps d s k v (h .0), h .1)
 

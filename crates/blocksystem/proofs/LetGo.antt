@@ -18,7 +18,7 @@ use Rattle.blockdisk.specs.declared.DiskState.{DiskState}
 use Rattle.blockdisk.specs.declared.Records.{Records}
 use Rattle.blocksystem.proofs.Accepting.{disk-answer, disk-next, joined-cache, joined-disk, joined-zero}
 use Rattle.blocksystem.specs.Allowed.{NoNarrowing, SystemLetsGo, handedBack}
-use Rattle.blocksystem.specs.Joined.{diskCall, joinedAnswer}
+use Rattle.blocksystem.specs.Joined.{diskCall, joinedAnswer, settingsOf}
 use Rattle.blocksystem.specs.Upstream.{Variables}
 
 module _ (d : ℕ) (q : Call) (o : Records) (c : CacheState) (s : DiskState) where
@@ -31,7 +31,7 @@ module _ (d : ℕ) (q : Call) (o : Records) (c : CacheState) (s : DiskState) whe
       let z = joined-zero d 19 q o c s .0 e in
       let b = disk-zero e in
       record {
-        machine = rw (joined-cache d 19 q o c s e) (let-go-next d c q (z .0));
+        machine = rw (joined-cache d 19 q o c s e) (let-go-next (settingsOf d s) c q (z .0));
         disk = rw (joined-disk d 19 q o c s e ∙ disk-next d 19 q o s refl b) (disk-allowed d s (diskCall 19 q) b);
       }
 
@@ -40,14 +40,14 @@ module _ (d : ℕ) (q : Call) (o : Records) (c : CacheState) (s : DiskState) whe
   joined-let-go = (
     (λ e. let z = joined-zero d 19 q o c s .0 e in (
       record {
-        cache = or-iff (outsideLimits d c 19 q) false .1 (let-go-accepted d c q .0 (z .0) .0, refl);
+        cache = or-iff (outsideLimits (settingsOf d s) c 19 q) false .1 (let-go-accepted (settingsOf d s) c q .0 (z .0) .0, refl);
         disk = λ ne. disk-accepted d s (diskCall 19 q) .0 (disk-zero e) .0;
         crash = λ t. clash t refl;
       },
       (handedBack d 19 q o c s, joined-let-go-next e),
     )),
     (λ (n, (s', g)). joined-zero d 19 q o c s .1 (
-      let-go-accepted d c q .1 (or-iff (outsideLimits d c 19 q) false .0 (n .cache) .0, (s' .machine, g .machine)),
+      let-go-accepted (settingsOf d s) c q .1 (or-iff (outsideLimits (settingsOf d s) c 19 q) false .0 (n .cache) .0, (s' .machine, g .machine)),
       disk-answer d 19 q o s refl ∙ disk-accepted d s (diskCall 19 q) .1 (n .disk refl, (s' .disk, g .disk)),
       refl,
     )),

@@ -42,7 +42,7 @@ use Rattle.queue.specs.declared.Requests.{Requests}
 use Rattle.sectortype.proofs.Maps.{locs-some}
 use Rattle.blocksystem.proofs.Invariant.{Invariant}
 use Rattle.blocksystem.proofs.WaitLaws.{accepted-of, cache-left, disk-form, disk-left, disk-takes, kept, let-go-accepts, read-queued, whole, within}
-use Rattle.blocksystem.specs.Joined.{diskCall, joinedAnswer}
+use Rattle.blocksystem.specs.Joined.{diskCall, joinedAnswer, settingsOf}
 use Rattle.blocksystem.specs.Run.{State, afterStep}
 use Rattle.blocksystem.specs.Waits.{Asks, locRead, refRead}
 
@@ -120,7 +120,7 @@ module _ (d : ℕ) (s : State) (v : Invariant d s) (id : ℕ) (awaits : awaitsRe
             next = refl;
           })
 
-      cache-pages-in : answer (cacheRows d (s1 .cache) 6 p) ≡ 0
+      cache-pages-in : answer (cacheRows (settingsOf d (s1 .disk)) (s1 .cache) 6 p) ≡ 0
       unfolding narrowed stepOf steps
       cache-pages-in =
           let x = readyVars c1 in
@@ -132,8 +132,8 @@ module _ (d : ℕ) (s : State) (v : Invariant d s) (id : ℕ) (awaits : awaitsRe
           let id-of : dopId (p .dop) ≡ new = rw (b .disk) refl in
           let y = setReads x (put (x .outstandingBlockReads) new (p .reference)) in
           rw cache-after
-          (cache-accepted d c1 6 p refl .1 (
-            or-iff (outsideLimits d c1 6 p) (readNarrowed c1 p) .1
+          (cache-accepted (settingsOf d (s1 .disk)) c1 6 p refl .1 (
+            or-iff (outsideLimits (settingsOf d (s1 .disk)) c1 6 p) (readNarrowed c1 p) .1
                 (rw cache-after at limits, or-iff (hasOf (removeOf reading id) (dopId (p .dop))) (leb 16 (removeOf reading id .count)) .1 (rw id-of (rw cache-after at unread), room)),
             (pageInNodeReqStep, refl, (ready y, (b .internal, (new, locRead s id, op, (x, ready-is c1 ok, (y, refl, page-in)))))),
           ))

@@ -10,7 +10,7 @@ use Rattle.blockdisk.specs.declared.Records.{Records}
 use Rattle.blocksystem.proofs.Accepting.{joined-zero}
 use Rattle.blocksystem.proofs.EveryStep.{number-form}
 use Rattle.blocksystem.proofs.Invariant.{PicturesForm}
-use Rattle.blocksystem.specs.Joined.{joined, joinedAnswer}
+use Rattle.blocksystem.specs.Joined.{joined, joinedAnswer, settingsOf}
 use Rattle.blocksystem.specs.Run.{JoinedCall, State, acceptsStep, after, afterStep, moved, step}
 
 step-call-form : (d : ℕ) (s : State) (n : ℕ) (q : Call) (o : Records) → PicturesForm (s .pictures) → PicturesForm (afterStep d s n q o .pictures)
@@ -18,7 +18,7 @@ unfolding joined
 step-call-form d s n q o f =
     split (acceptsStep d s n q o)
     (λ t. let e : joinedAnswer d n q o (s .cache) (s .disk) ≡ 0 = eqb-true _ _ t in
-    let x = call-accepted-iff d (s .cache) n q .0 (joined-zero d n q o (s .cache) (s .disk) .0 e .0) in
+    let x = call-accepted-iff (settingsOf d (s .disk)) (s .cache) n q .0 (joined-zero d n q o (s .cache) (s .disk) .0 e .0) in
     rw t (number-form (s .pictures) f q (x .form .call .reference) (x .form .call .node) n))
     (λ t. rw t f)
 

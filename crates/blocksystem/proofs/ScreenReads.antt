@@ -34,7 +34,7 @@ use Rattle.blocksystem.proofs.After.{every-iff}
 use Rattle.blocksystem.proofs.Formatted.{first-forms}
 use Rattle.blocksystem.proofs.Invariant.{PicturesForm}
 use Rattle.blocksystem.proofs.PictureForms.{run-form}
-use Rattle.blocksystem.specs.Joined.{joined}
+use Rattle.blocksystem.specs.Joined.{joined, settingsOf}
 use Rattle.blocksystem.specs.Run.{Every, JoinedCall, State, acceptsStep, after, asked, moved, start, step}
 use Rattle.blocksystem.specs.Screen.{differs, isPictured, readsDiffering, stepDiffers}
 
@@ -70,13 +70,13 @@ module _ (d : ℕ) (s : State) (q : Call) (o : Records) where
   unfolding joined
   read-cached e =
       let z = joined-zero d 17 q o (s .cache) (s .disk) .0 e in
-      let r = cache-read d (s .cache) q (z .0) in
-      (r .0, rw (joined-node d 17 q o (s .cache) (s .disk) e, cache-node d (s .cache) q (z .0)) (r .2))
+      let r = cache-read (settingsOf d (s .disk)) (s .cache) q (z .0) in
+      (r .0, rw (joined-node d 17 q o (s .cache) (s .disk) e, cache-node (settingsOf d (s .disk)) (s .cache) q (z .0)) (r .2))
 
   node-read-form : asked d s 17 q o .answer ≡ 0 → nodeForm (asked d s 17 q o .node) ≡ true
   unfolding joined
   node-read-form e =
-      let x = call-accepted-iff d (s .cache) 17 q .0 (joined-zero d 17 q o (s .cache) (s .disk) .0 e .0) in
+      let x = call-accepted-iff (settingsOf d (s .disk)) (s .cache) 17 q .0 (joined-zero d 17 q o (s .cache) (s .disk) .0 e .0) in
       nodes-form-at (s .cache .nodes) (x .form .form .nodes) (q .reference) (asked d s 17 q o .node) (read-cached e .1 .cached)
 
   -- it differs from the picture, or hands out the picture's node
@@ -133,8 +133,8 @@ reads-iff d s calls f =
     )
 
 -- .. so from a newly formatted device, along any list, whatever place its starts are given
-pub run-reads-iff : (d : ℕ) (x : Contents) (calls : List JoinedCall) → (readsDiffering d (start d x) calls ≡ 0) ↔ EveryReadPictured d (start d x) calls
-run-reads-iff d x calls = reads-iff d (start d x) calls (first-forms d x)
+pub run-reads-iff : (d : ℕ) (x : Contents) (r : ℕ) (calls : List JoinedCall) → (readsDiffering d (start d x r) calls ≡ 0) ↔ EveryReadPictured d (start d x r) calls
+run-reads-iff d x r calls = reads-iff d (start d x r) calls (first-forms d x)
 
 -- of one call it is 1 or 0, and of a list cut in two the sum
 pub count-one : (d : ℕ) (s : State) (k : JoinedCall) → readsDiffering d s (k ∷ []) ≡ bit (differs d s k)

@@ -34,7 +34,7 @@ use Rattle.queue.specs.Queue.{entryOf, hasOf, removeOf}
 use Rattle.queue.specs.declared.Requests.{Requests}
 use Rattle.blocksystem.proofs.Invariant.{Invariant}
 use Rattle.blocksystem.proofs.WaitLaws.{accepted-of, cache-left, disk-form, disk-left, disk-takes, kept, let-go-accepts, load-queued, whole-loading, within}
-use Rattle.blocksystem.specs.Joined.{diskCall, joinedAnswer}
+use Rattle.blocksystem.specs.Joined.{diskCall, joinedAnswer, settingsOf}
 use Rattle.blocksystem.specs.Run.{State, afterStep}
 use Rattle.blocksystem.specs.Waits.{Asks, placeRead}
 
@@ -81,15 +81,15 @@ module _ (d : ℕ) (s : State) (v : Invariant d s) (id : ℕ) (awaits : awaitsRe
     table-freed = rw queue-after (remove-gone queue (table-queue-form d queue (disk-form d s v .tablereads)) id queued)
 
     module _ (new : ℕ) (fresh : hasOf (s1 .disk .queues .tablereads) new ≡ false) (p : Call) (u : Records) (b : Asks p (ReqReadIndirectionTableOp new (placeRead s))) where
-      cache-pages-in : answer (cacheRows d (s1 .cache) 8 p) ≡ 0
+      cache-pages-in : answer (cacheRows (settingsOf d (s1 .disk)) (s1 .cache) 8 p) ≡ 0
       unfolding narrowed stepOf steps
       cache-pages-in =
           let l = placeRead s in
           let limits = within d s1 (kept d s v q o) 8 p pageInIndirectionTableReqStep (b .limits) refl in
           let op : callOp p ≡ reqReadIndirectionTable new l = rw (b .disk) refl in
           rw cache-after
-          (cache-accepted d c1 8 p refl .1 (
-            or-iff (outsideLimits d c1 8 p) false .1 (rw cache-after at limits, refl),
+          (cache-accepted (settingsOf d (s1 .disk)) c1 8 p refl .1 (
+            or-iff (outsideLimits (settingsOf d (s1 .disk)) c1 8 p) false .1 (rw cache-after at limits, refl),
             (
               pageInIndirectionTableReqStep,
               refl,

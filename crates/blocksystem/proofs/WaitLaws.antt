@@ -40,14 +40,14 @@ use Rattle.blocksystem.proofs.Accepting.{disk-answer, disk-next, joined
 use Rattle.blocksystem.proofs.Invariant.{InPhase, Invariant, Whole, pictureMaps}
 use Rattle.blocksystem.proofs.After.{step-named-iff}
 use Rattle.blocksystem.proofs.Keep.{call-keeps}
-use Rattle.blocksystem.specs.Joined.{diskCall, joined, joinedAnswer}
+use Rattle.blocksystem.specs.Joined.{diskCall, joined, joinedAnswer, settingsOf}
 use Rattle.blocksystem.specs.Run.{State, acceptsStep, afterStep, step}
 use Rattle.blocksystem.specs.Waits.{Asks}
 
 -- A STEP THAT IS NEITHER START NOR CRASH: accepted where cache and disk accept it
 
 module _ (d : ℕ) (s : State) (n : ℕ) (q : Call) (o : Records) (no-crash : isCrash n ≡ false) (no-start : isStart n ≡ false) where
-  pub accepted-of : answer (cacheRows d (s .cache) n q) ≡ 0 → answer (diskRows d (s .disk) (diskCall n q)) ≡ 0 → joinedAnswer d n q o (s .cache) (s .disk) ≡ 0
+  pub accepted-of : answer (cacheRows (settingsOf d (s .disk)) (s .cache) n q) ≡ 0 → answer (diskRows d (s .disk) (diskCall n q)) ≡ 0 → joinedAnswer d n q o (s .cache) (s .disk) ≡ 0
   unfolding answer
   accepted-of a b = joined-zero d n q o (s .cache) (s .disk) .1 (a, disk-answer d n q o (s .disk) no-crash ∙ b, rw no-start)
 
@@ -62,8 +62,8 @@ module _ (d : ℕ) (s : State) (v : Invariant d s) where
   disk-form = disk-form-iff d (s .disk) .0 (v .disk-form)
 
   -- the cache and a call within the limits
-  pub within : (n : ℕ) (q : Call) (k : Step) → callForm q ≡ true → stepOf n ≡ some k → outsideLimits d (s .cache) n q ≡ false
-  within n q k f e = limits-iff d (s .cache) n q .1 (and-both (and-both (v .made-device) (v .cache-form)) f, (k, e))
+  pub within : (n : ℕ) (q : Call) (k : Step) → callForm q ≡ true → stepOf n ≡ some k → outsideLimits (settingsOf d (s .disk)) (s .cache) n q ≡ false
+  within n q k f e = limits-iff (settingsOf d (s .disk)) (s .cache) n q .1 (and-both (and-both (and-both (v .made-device) (disk-form .rule)) (v .cache-form)) f, (k, e))
 
   -- an operation of the disk, whose rows are clear
   pub disk-takes : (n : ℕ) (q : Call) → callForm q ≡ true → Clear (opRows d (s .disk) (diskCall n q .op) (q .node) (q .table)) → answer (diskRows d (s .disk) (diskCall n q)) ≡ 0
@@ -138,10 +138,10 @@ module _ (d : ℕ) (s : State) (v : Invariant d s) where
 
 module _ (d : ℕ) (s : State) (v : Invariant d s) (q : Call) (o : Records) (op : DiskOp) (a : Asks q op)
     (awaits : awaitsRead (s .cache) op ≡ true) (disk : Clear (opRows d (s .disk) op (q .node) (q .table))) where
-  cache-zero : answer (cacheRows d (s .cache) 19 q) ≡ 0
+  cache-zero : answer (cacheRows (settingsOf d (s .disk)) (s .cache) 19 q) ≡ 0
   unfolding stepOf steps
   cache-zero =
-      let-go-awaited d (s .cache) q .1 (within d s v 19 q letGoStep (a .limits) refl, a .internal, awaits-read-iff d (s .cache) q .0 (rw (a .disk) awaits))
+      let-go-awaited (settingsOf d (s .disk)) (s .cache) q .1 (within d s v 19 q letGoStep (a .limits) refl, a .internal, awaits-read-iff (settingsOf d (s .disk)) (s .cache) q .0 (rw (a .disk) awaits))
 
   disk-zero : answer (diskRows d (s .disk) (diskCall 19 q)) ≡ 0
   disk-zero = disk-takes d s v 19 q (a .limits) (rw (a .disk) disk)

@@ -20,6 +20,7 @@ use Rattle.blocksystem.proofs.Invariant.{Invariant}
 use Rattle.blocksystem.proofs.NodeWait.{let-go-node, node-freed, node-place, page-in-node}
 use Rattle.blocksystem.proofs.TableWait.{let-go-table, load-place, page-in-table, table-freed}
 use Rattle.blocksystem.proofs.WaitLaws.{accepts-of, node-reads-exact, table-reads-exact}
+use Rattle.blocksystem.specs.Joined.{settingsOf}
 use Rattle.blocksystem.specs.Run.{State, acceptsStep, afterStep}
 use Rattle.blocksystem.specs.Waits.{Asks, NoWaitForEver, locRead, placeRead, refRead}
 
@@ -61,7 +62,7 @@ module _ (d : ℕ) (s : State) (v : Invariant d s) (id : ℕ) (o u : Records) wh
       let q = plain 0 (RespReadNodeOp id Nothing) in
       let a = plain-asks 0 (RespReadNodeOp id Nothing) (omega arith) in
       w .again q o a id (w .freed q o a) (plain (refRead s id) (ReqReadNodeOp id (locRead s id))) u
-      (plain-asks (refRead s id) (ReqReadNodeOp id (locRead s id)) (read-reference d (s .cache) q (v .cache-form))) refl
+      (plain-asks (refRead s id) (ReqReadNodeOp id (locRead s id)) (read-reference (settingsOf d (s .disk)) (s .cache) q (v .cache-form))) refl
 
   pub load-again : awaitsRead (s .cache) (RespReadIndirectionTableOp id Nothing) ≡ true →
       acceptsStep d (afterStep d s 19 (plain 0 (RespReadIndirectionTableOp id Nothing)) o) 8 (plain 0 (ReqReadIndirectionTableOp id (placeRead s))) u ≡ true

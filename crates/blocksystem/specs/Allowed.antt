@@ -17,7 +17,7 @@ use Rattle.blockdisk.specs.Narrowings.{crashNarrowed, diskNarrowed}
 use Rattle.blockdisk.specs.Upstream.{Dop, Next as DNext, diskVars, dopOf}
 use Rattle.blockdisk.specs.declared.DiskState.{DiskState}
 use Rattle.blockdisk.specs.declared.Records.{Records}
-use Rattle.blocksystem.specs.Joined.{diskCall, joined}
+use Rattle.blocksystem.specs.Joined.{diskCall, joined, settingsOf}
 use Rattle.blocksystem.specs.Upstream.{Crash, Machine, Variables, systemVars}
 
 -- the operations of a step; a read takes no V and no D
@@ -30,7 +30,7 @@ joinedVop n q = cond (isRead n) StatesInternalOp (q .vop)
 module _ (d n : ℕ) (q : Call) (o : Records) (c : CacheState) (s : DiskState) where
   -- no narrowing of cache or disk applies
   pub record NoNarrowing : Type 0 where
-    pub cache : narrowed d c n q ≡ false
+    pub cache : narrowed (settingsOf d s) c n q ≡ false
     pub disk : isCrash n ≡ false → diskNarrowed d s (diskCall n q) ≡ false
     pub crash : isCrash n ≡ true → crashNarrowed d s o ≡ false
 

@@ -1,9 +1,10 @@
 -- Formatting: the root in the first node block, length 4,096; its table in area 1, length 4,096; all else empty, the cache Unready.
 use Prim.Native.Nat.{ℕ}
-use mathlib.Core.Bool.{cond, true}
+use mathlib.Core.Bool.{_&&_, cond, true}
 use lib.ListN.{set}
 use Rattle.blockcache.specs.Form.{emptyCache}
 use Rattle.blockdisk.specs.Crash.{emptyQueues}
+use Rattle.blockdisk.specs.Form.{isRule}
 use Rattle.blockdisk.specs.Records.{emptyRecords}
 use Rattle.blockdisk.specs.declared.DiskState.{DiskState}
 use Rattle.blockdisk.specs.declared.Records.{Records}
@@ -44,15 +45,16 @@ formattedRecords k l x =
       nodes = set (emptyRecords .nodes) 0 (record { present = true; loc = l; node = rootNode x });
     }
 
-abbrev pub formattedDisk : ℕ → Contents → DiskState
-formattedDisk d x = record { records = formattedRecords (tablePlaceOf d) (rootPlace d) x; queues = emptyQueues }
+abbrev pub formattedDisk : ℕ → Contents → ℕ → DiskState
+formattedDisk d x r = record { rule = r; records = formattedRecords (tablePlaceOf d) (rootPlace d) x; queues = emptyQueues }
 
+-- zeros, the rule too
 abbrev pub emptyDisk : DiskState
-emptyDisk = record { records = emptyRecords; queues = emptyQueues }
+emptyDisk = record { rule = 0; records = emptyRecords; queues = emptyQueues }
 
--- a device above 2 gives 1 and zeros
-unfoldable pub formatted : ℕ → Contents → Outcome
-formatted d x =
-    cond (made d)
-    (record { answer = 0; node = zeroNode; cache = emptyCache; disk = formattedDisk d x })
+-- a device above 2 gives 1 and zeros, and so does a freeze rule that is neither 1 nor 2
+unfoldable pub formatted : ℕ → Contents → ℕ → Outcome
+formatted d x r =
+    cond (made d && isRule r)
+    (record { answer = 0; node = zeroNode; cache = emptyCache; disk = formattedDisk d x r })
     (record { answer = 1; node = zeroNode; cache = emptyCache; disk = emptyDisk })

@@ -9,6 +9,7 @@ use Rattle.blockcache.specs.Step.{cacheStep}
 use Rattle.blockcache.specs.Steps.{isCrash, isRead, isStart}
 use Rattle.blockcache.specs.declared.CacheState.{CacheState}
 use Rattle.blockcache.specs.declared.Call.{Call}
+use Rattle.blockcache.specs.declared.Settings.{Settings}
 use Rattle.blockdisk.specs.Crash.{diskCrash}
 use Rattle.blockdisk.specs.Ops.{diskStep}
 use Rattle.blockdisk.specs.declared.DiskState.{DiskState}
@@ -19,6 +20,10 @@ use Rattle.blockdisk.specs.declared.Records.{Records}
 use Rattle.sectortype.specs.Form.{zeroNode}
 use Rattle.blocksystem.specs.Start.{WFSuccs}
 use Rattle.blocksystem.specs.declared.Outcome.{Outcome}
+
+-- what the cache is asked beside its call: the device, and the rule that the disk carries
+abbrev pub settingsOf : ℕ → DiskState → Settings
+settingsOf d s = record { device = d; rule = s .rule }
 
 -- what the disk is asked: a read takes no disk operation, a crash is offered records
 abbrev pub diskCall : ℕ → Call → DiskCall
@@ -32,13 +37,13 @@ abbrev pub startRows : ℕ → ℕ → Call → DiskState → List Row
 startRows d n q s = (20 when (isStart n && not (WFSuccs d (s .records) (vopLoc (q .vop))))) ∷ []
 
 unfoldable pub joinedAnswer : ℕ → ℕ → Call → Records → CacheState → DiskState → ℕ
-joinedAnswer d n q o c s = lowest (lowest (cacheStep d c n q .answer) (diskAsked d n q o s .answer)) (answer (startRows d n q s))
+joinedAnswer d n q o c s = lowest (lowest (cacheStep (settingsOf d s) c n q .answer) (diskAsked d n q o s .answer)) (answer (startRows d n q s))
 
 unfoldable pub joined : ℕ → ℕ → Call → Records → CacheState → DiskState → Outcome
 joined d n q o c s =
     record {
       answer = joinedAnswer d n q o c s;
-      node = cond (eqb (joinedAnswer d n q o c s) 0) (cacheStep d c n q .node) zeroNode;
-      cache = cond (eqb (joinedAnswer d n q o c s) 0) (cacheStep d c n q .cache) c;
+      node = cond (eqb (joinedAnswer d n q o c s) 0) (cacheStep (settingsOf d s) c n q .node) zeroNode;
+      cache = cond (eqb (joinedAnswer d n q o c s) 0) (cacheStep (settingsOf d s) c n q .cache) c;
       disk = cond (eqb (joinedAnswer d n q o c s) 0) (diskAsked d n q o s .disk) s;
     }

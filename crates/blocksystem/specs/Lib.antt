@@ -2,6 +2,7 @@
 pub mod Allowed
 pub mod Audit
 pub mod Format
+pub mod Frozen
 pub mod Joined
 pub mod Names
 pub mod Promise

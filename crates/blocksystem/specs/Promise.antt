@@ -8,6 +8,7 @@ use Rattle.blockcache.specs.Form.{isReady}
 use Rattle.blockcache.specs.Ops.{vopLoc}
 use Rattle.blockcache.specs.declared.Call.{Call}
 use Rattle.blockdisk.specs.declared.Records.{Records}
+use Rattle.blocksystem.specs.Frozen.{FrozenStays}
 use Rattle.blocksystem.specs.Names.{isNamed}
 use Rattle.blocksystem.specs.Run.{Answered, JoinedCall, State, after, asked, nothingLost}
 use Rattle.blocksystem.specs.Screen.{ReadyShown, readsDiffering}
@@ -31,5 +32,8 @@ pub record Promised (d : ℕ) (s : State) (calls : List JoinedCall) : Type 0 whe
   -- .. and in Ready it has exactly the allocated references; each is cached, or stored on the disk at its ephemeral location; the cache, if it has it, and that
   -- location, if it has one, have the picture's node
   pub shown : isReady (after d s calls .cache) ≡ true → ReadyShown d (after d s calls)
+  -- the disk carries its rule throughout, and under rule 2 a frozen place stays named until a clean-up or a start is accepted
+  pub rule : after d s calls .disk .rule ≡ s .disk .rule
+  pub frozen : s .disk .rule ≡ 2 → FrozenStays d s calls
   -- no wait is for ever
   pub waits : NoWaitForEver d (after d s calls)

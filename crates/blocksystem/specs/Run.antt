@@ -19,7 +19,7 @@ use Rattle.sectortype.specs.Form.{zeroNode}
 use Rattle.sectortype.specs.declared.Contents.{Contents}
 use Rattle.blocksystem.specs.Audit.{counted, noneCounted}
 use Rattle.blocksystem.specs.Format.{formatted}
-use Rattle.blocksystem.specs.Joined.{diskAsked, diskCall, joined, startRows}
+use Rattle.blocksystem.specs.Joined.{diskAsked, diskCall, joined, settingsOf, startRows}
 use Rattle.blocksystem.specs.Names.{firstPictures, isNamed, picturesAfter}
 use Rattle.blocksystem.specs.declared.Outcome.{Outcome}
 use Rattle.blocksystem.specs.declared.Pictures.{Pictures}
@@ -35,8 +35,9 @@ pub record State : Type 0 where
   pub pictures : Pictures
 
 module _ (d : ℕ) where
-  abbrev pub start : Contents → State
-  start x = record { cache = formatted d x .cache; disk = formatted d x .disk; pictures = firstPictures d x }
+  -- a newly formatted device, with its freeze rule
+  abbrev pub start : Contents → ℕ → State
+  start x r = record { cache = formatted d x r .cache; disk = formatted d x r .disk; pictures = firstPictures d x }
 
   -- A STEP
 
@@ -61,7 +62,7 @@ module _ (d : ℕ) where
 
   -- the condition of number k holds: in the rows of the cache, of the disk or of a start
   unfoldable pub conditions : State → ℕ → Call → Records → ℕ → Bool
-  conditions s n q o k = holds k (cacheRows d (s .cache) n q) || holds k (diskSide s n q o) || holds k (startRows d n q (s .disk))
+  conditions s n q o k = holds k (cacheRows (settingsOf d (s .disk)) (s .cache) n q) || holds k (diskSide s n q o) || holds k (startRows d n q (s .disk))
 
   -- it is answered as documents 01 and 02 fix
   pub record StepAnswered (s : State) (n : ℕ) (q : Call) (o : Records) : Type 0 where
@@ -75,9 +76,9 @@ module _ (d : ℕ) where
     pub disk-unchanged : (asked s n q o .answer ≡ 0 → ⊥) → asked s n q o .disk ≡ s .disk
     pub no-node : (asked s n q o .answer ≡ 0 → ⊥) → asked s n q o .node ≡ zeroNode
     -- an accepted one the next cache and disk, and the node of a read
-    pub cache-next : asked s n q o .answer ≡ 0 → asked s n q o .cache ≡ cacheStep d (s .cache) n q .cache
+    pub cache-next : asked s n q o .answer ≡ 0 → asked s n q o .cache ≡ cacheStep (settingsOf d (s .disk)) (s .cache) n q .cache
     pub disk-next : asked s n q o .answer ≡ 0 → asked s n q o .disk ≡ diskAsked d n q o (s .disk) .disk
-    pub node-read : asked s n q o .answer ≡ 0 → asked s n q o .node ≡ cacheStep d (s .cache) n q .node
+    pub node-read : asked s n q o .answer ≡ 0 → asked s n q o .node ≡ cacheStep (settingsOf d (s .disk)) (s .cache) n q .node
 
   -- an accepted start is given a place then named
   abbrev pub stepNamed : State → ℕ → Call → Records → Bool

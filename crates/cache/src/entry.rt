@@ -14,6 +14,7 @@ use crate::answers::is_ready;
 use crate::answers::is_unready;
 use crate::form::cache_form;
 use crate::form::call_form;
+use crate::form::settings_form;
 use crate::letgo::answer_phase;
 use crate::ops::ADVANCE;
 use crate::ops::CLEAN_UP;
@@ -104,13 +105,13 @@ fn gate(number: u64, phase: Phase, version: VersionOp, disk: DiskOp) -> u64
 
 impl Cache {
     pub fn step(self, number: u64, q: Call) -> CacheOutcome
-        ensures { λ o. ⌜ o ≡ cacheStep (self .device) (self .state) number q ⌝ }
+        ensures { λ o. ⌜ o ≡ cacheStep (self .settings) (self .state) number q ⌝ }
     {
         let c = self.state;
         let form = cache_form(c);
         let call = call_form(q);
-        let known = self.device <= 2;
-        let good = known & form & call;
+        let named = settings_form(self.settings);
+        let good = named & form & call;
         if !good {
             return answered(self.state, 1);
         }
@@ -126,8 +127,8 @@ impl Cache {
 
     // The step's own conditions and what it does, on a cache and a call in their written form, past V, D and phase.
     fn dispatch(self, number: u64, q: Call) -> CacheOutcome
-        requires { ⌜ (q .reference < 64) × (readRef (self .device) (self .state) q < 64) ⌝ }
-        ensures { λ o. ⌜ o ≡ dispatched (self .device) (self .state) q (stepOf number) ⌝ }
+        requires { ⌜ (q .reference < 64) × (readRef (self .settings) (self .state) q < 64) ⌝ }
+        ensures { λ o. ⌜ o ≡ dispatched (self .settings) (self .state) q (stepOf number) ⌝ }
     {
         match number {
             1 => self.write_back_node_req(q),

@@ -1,12 +1,13 @@
 // The cache's one written form: what a phase doesn't have is zeros.
 ghost use mathlib.Core.Path.{_≡_};
-ghost use Rattle.blockcache.specs.Form.{writesForm, readsForm, tablesForm, placesForm, awaitedForm, outstandingForm, idle, phaseForm, cacheForm, callForm, emptyCache, loadingAt};
+ghost use Rattle.blockcache.specs.Form.{writesForm, readsForm, tablesForm, placesForm, awaitedForm, outstandingForm, idle, phaseForm, cacheForm, callForm, settingsForm, emptyCache, loadingAt};
 use blockcache::Awaited;
 use blockcache::CacheState;
 use blockcache::Call;
 use blockcache::Outstanding;
 use blockcache::Phase;
 use blockcache::Places;
+use blockcache::Settings;
 use blockcache::Tables;
 use disklayout::Location;
 use queue::Requests;
@@ -63,6 +64,13 @@ fn places_form(ps: Places) -> bool
     let f = ps.frozen;
     let nowhere = sector::loc_zero(f);
     ps.isfrozen | nowhere
+}
+
+// A device above 2, or a rule that is neither 1 nor 2, is refused with 1.
+pub(crate) fn settings_form(g: Settings) -> bool
+    ensures { λ b. ⌜ b ≡ settingsForm g ⌝ }
+{
+    (g.device <= 2) & ((g.rule == 1) | (g.rule == 2))
 }
 
 fn awaited_form(a: Awaited) -> bool

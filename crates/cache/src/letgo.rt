@@ -48,7 +48,7 @@ pub(crate) fn awaits_read(c: CacheState, op: DiskOp) -> bool
 impl Cache {
     // The wait for the answered read ends, whatever was brought; nothing else changes.
     pub(crate) fn let_go(self, q: Call) -> CacheOutcome
-        ensures { λ o. ⌜ o ≡ pastGate (self .device) (self .state) q letGoStep ⌝ }
+        ensures { λ o. ⌜ o ≡ pastGate (self .settings) (self .state) q letGoStep ⌝ }
     {
         let mut c = self.state;
         let d = q.dop;

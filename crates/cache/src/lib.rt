@@ -11,10 +11,12 @@ mod work;
 mod write;
 
 use blockcache::CacheState;
+use blockcache::Settings;
 
-// A cache on its device: the state that `blockcache` defines, and what every call names beside it. Its methods are the steps.
+// A cache on its device, under its freeze rule: the state that `blockcache` defines, and what every call names beside it. Its methods are the
+// steps.
 pub struct Cache {
-    pub device: u64,
+    pub settings: Settings,
     pub state: CacheState,
 }
 

@@ -22,7 +22,7 @@ use layout::TABLE_KIND;
 
 impl Cache {
     pub(crate) fn page_in_indirection_table_req(self, q: Call) -> CacheOutcome
-        ensures { λ o. ⌜ o ≡ pastGate (self .device) (self .state) q pageInIndirectionTableReqStep ⌝ }
+        ensures { λ o. ⌜ o ≡ pastGate (self .settings) (self .state) q pageInIndirectionTableReqStep ⌝ }
     {
         let mut c = self.state;
         let d = q.dop;
@@ -46,7 +46,7 @@ impl Cache {
 
     // The phase is an enum, so the cache is written anew.
     pub(crate) fn page_in_indirection_table_resp(self, q: Call) -> CacheOutcome
-        ensures { λ o. ⌜ o ≡ pastGate (self .device) (self .state) q pageInIndirectionTableRespStep ⌝ }
+        ensures { λ o. ⌜ o ≡ pastGate (self .settings) (self .state) q pageInIndirectionTableRespStep ⌝ }
     {
         let c = self.state;
         let d = q.dop;
@@ -58,7 +58,7 @@ impl Cache {
             return answered(c, 5);
         }
         let t = q.table;
-        let rejected = table_rejected(b, self.device, t);
+        let rejected = table_rejected(b, self.settings.device, t);
         if rejected {
             return answered(c, 9);
         }
@@ -86,11 +86,11 @@ impl Cache {
     }
 
     pub(crate) fn receive_loc(self, q: Call) -> CacheOutcome
-        ensures { λ o. ⌜ o ≡ pastGate (self .device) (self .state) q receiveLocStep ⌝ }
+        ensures { λ o. ⌜ o ≡ pastGate (self .settings) (self .state) q receiveLocStep ⌝ }
     {
         let v = q.vop;
         let vloc = vop_loc(v);
-        let asked = layout::kind_of(self.device, vloc);
+        let asked = layout::kind_of(self.settings.device, vloc);
         let valid = layout::is_kind(asked, TABLE_KIND);
         if !valid {
             return answered(self.state, 6);
@@ -101,7 +101,7 @@ impl Cache {
 
     // The crash's half of step 18: whatever the phase, the cache comes back Unready.
     pub(crate) fn crash(self, q: Call) -> CacheOutcome
-        ensures { λ o. ⌜ o ≡ pastGate (self .device) (self .state) q crashStep ⌝ }
+        ensures { λ o. ⌜ o ≡ pastGate (self .settings) (self .state) q crashStep ⌝ }
     {
         let next = empty_cache();
         answered(next, 0)

@@ -27,7 +27,7 @@ fn index(r: u8) -> usize
 impl Cache {
     fn page_in_node_req_refusal(self, q: Call) -> u64
         requires { ⌜ q .reference < 64 ⌝ }
-        ensures { λ n. ⌜ n ≡ answer (ownRows (self .device) (self .state) q pageInNodeReqStep) ⌝ }
+        ensures { λ n. ⌜ n ≡ answer (ownRows (self .settings) (self .state) q pageInNodeReqStep) ⌝ }
     {
         let c = self.state;
         let r = q.reference as usize;
@@ -54,7 +54,7 @@ impl Cache {
 
     pub(crate) fn page_in_node_req(self, q: Call) -> CacheOutcome
         requires { ⌜ q .reference < 64 ⌝ }
-        ensures { λ o. ⌜ o ≡ pastGate (self .device) (self .state) q pageInNodeReqStep ⌝ }
+        ensures { λ o. ⌜ o ≡ pastGate (self .settings) (self .state) q pageInNodeReqStep ⌝ }
     {
         let n = self.page_in_node_req_refusal(q);
         let mut c = self.state;
@@ -81,8 +81,8 @@ impl Cache {
     }
 
     fn page_in_node_resp_refusal(self, q: Call) -> u64
-        requires { ⌜ readRef (self .device) (self .state) q < 64 ⌝ }
-        ensures { λ n. ⌜ n ≡ answer (ownRows (self .device) (self .state) q pageInNodeRespStep) ⌝ }
+        requires { ⌜ readRef (self .settings) (self .state) q < 64 ⌝ }
+        ensures { λ n. ⌜ n ≡ answer (ownRows (self .settings) (self .state) q pageInNodeRespStep) ⌝ }
     {
         let c = self.state;
         let d = q.dop;
@@ -106,8 +106,8 @@ impl Cache {
     }
 
     pub(crate) fn page_in_node_resp(self, q: Call) -> CacheOutcome
-        requires { ⌜ readRef (self .device) (self .state) q < 64 ⌝ }
-        ensures { λ o. ⌜ o ≡ pastGate (self .device) (self .state) q pageInNodeRespStep ⌝ }
+        requires { ⌜ readRef (self .settings) (self .state) q < 64 ⌝ }
+        ensures { λ o. ⌜ o ≡ pastGate (self .settings) (self .state) q pageInNodeRespStep ⌝ }
     {
         let n = self.page_in_node_resp_refusal(q);
         let mut c = self.state;

@@ -28,7 +28,7 @@ use sectortype::Slot;
 impl Cache {
     fn unalloc_refusal(self, q: Call) -> u64
         requires { ⌜ q .reference < 64 ⌝ }
-        ensures { λ n. ⌜ n ≡ answer (ownRows (self .device) (self .state) q unallocStep) ⌝ }
+        ensures { λ n. ⌜ n ≡ answer (ownRows (self .settings) (self .state) q unallocStep) ⌝ }
     {
         let c = self.state;
         let r = q.reference as usize;
@@ -48,7 +48,7 @@ impl Cache {
 
     pub(crate) fn unalloc(self, q: Call) -> CacheOutcome
         requires { ⌜ q .reference < 64 ⌝ }
-        ensures { λ o. ⌜ o ≡ pastGate (self .device) (self .state) q unallocStep ⌝ }
+        ensures { λ o. ⌜ o ≡ pastGate (self .settings) (self .state) q unallocStep ⌝ }
     {
         let n = self.unalloc_refusal(q);
         let mut c = self.state;
@@ -71,7 +71,7 @@ impl Cache {
 
     fn evict_refusal(self, q: Call) -> u64
         requires { ⌜ q .reference < 64 ⌝ }
-        ensures { λ n. ⌜ n ≡ answer (ownRows (self .device) (self .state) q evictStep) ⌝ }
+        ensures { λ n. ⌜ n ≡ answer (ownRows (self .settings) (self .state) q evictStep) ⌝ }
     {
         let c = self.state;
         let r = q.reference as usize;
@@ -92,7 +92,7 @@ impl Cache {
 
     pub(crate) fn evict(self, q: Call) -> CacheOutcome
         requires { ⌜ q .reference < 64 ⌝ }
-        ensures { λ o. ⌜ o ≡ pastGate (self .device) (self .state) q evictStep ⌝ }
+        ensures { λ o. ⌜ o ≡ pastGate (self .settings) (self .state) q evictStep ⌝ }
     {
         let n = self.evict_refusal(q);
         let mut c = self.state;
@@ -107,9 +107,9 @@ impl Cache {
         answered(c, 0)
     }
 
-    // A frozen place, if set, is dropped.
+    // A frozen place, if set, is dropped under rule 1; under rule 2 it is kept, by 25.
     pub(crate) fn freeze(self, q: Call) -> CacheOutcome
-        ensures { λ o. ⌜ o ≡ pastGate (self .device) (self .state) q freezeStep ⌝ }
+        ensures { λ o. ⌜ o ≡ pastGate (self .settings) (self .state) q freezeStep ⌝ }
     {
         let mut c = self.state;
         let a = c.awaited;
@@ -117,11 +117,16 @@ impl Cache {
         if waiting {
             return answered(c, 10);
         }
+        let rule = self.settings.rule;
+        let mut ps = c.places;
+        let set = ps.isfrozen;
+        if (rule == 2) & set {
+            return answered(c, 25);
+        }
         let mut ts = c.tables;
         let t = ts.ephemeral;
         ts.isfrozen = true;
         ts.frozen = t;
-        let mut ps = c.places;
         let nowhere = sector::zero_loc();
         ps.isfrozen = false;
         ps.frozen = nowhere;
@@ -131,7 +136,7 @@ impl Cache {
     }
 
     pub(crate) fn clean_up(self, q: Call) -> CacheOutcome
-        ensures { λ o. ⌜ o ≡ pastGate (self .device) (self .state) q cleanUpStep ⌝ }
+        ensures { λ o. ⌜ o ≡ pastGate (self .settings) (self .state) q cleanUpStep ⌝ }
     {
         let mut c = self.state;
         let a = c.awaited;
@@ -162,7 +167,7 @@ impl Cache {
 
     // NoOp, in any phase: an answer that the cache awaits is not for it.
     pub(crate) fn no_op(self, q: Call) -> CacheOutcome
-        ensures { λ o. ⌜ o ≡ pastGate (self .device) (self .state) q noOpStep ⌝ }
+        ensures { λ o. ⌜ o ≡ pastGate (self .settings) (self .state) q noOpStep ⌝ }
     {
         let c = self.state;
         let d = q.dop;
@@ -189,7 +194,7 @@ impl Cache {
 
     fn dirty_refusal(self, q: Call) -> u64
         requires { ⌜ q .reference < 64 ⌝ }
-        ensures { λ n. ⌜ n ≡ answer (ownRows (self .device) (self .state) q dirtyStep) ⌝ }
+        ensures { λ n. ⌜ n ≡ answer (ownRows (self .settings) (self .state) q dirtyStep) ⌝ }
     {
         let c = self.state;
         let r = q.reference as usize;
@@ -240,7 +245,7 @@ impl Cache {
 
     pub(crate) fn dirty(self, q: Call) -> CacheOutcome
         requires { ⌜ q .reference < 64 ⌝ }
-        ensures { λ o. ⌜ o ≡ pastGate (self .device) (self .state) q dirtyStep ⌝ }
+        ensures { λ o. ⌜ o ≡ pastGate (self .settings) (self .state) q dirtyStep ⌝ }
     {
         let n = self.dirty_refusal(q);
         if n != 0 {
@@ -251,7 +256,7 @@ impl Cache {
 
     fn alloc_refusal(self, q: Call) -> u64
         requires { ⌜ q .reference < 64 ⌝ }
-        ensures { λ n. ⌜ n ≡ answer (ownRows (self .device) (self .state) q allocStep) ⌝ }
+        ensures { λ n. ⌜ n ≡ answer (ownRows (self .settings) (self .state) q allocStep) ⌝ }
     {
         let c = self.state;
         let r = q.reference as usize;
@@ -269,7 +274,7 @@ impl Cache {
 
     pub(crate) fn alloc(self, q: Call) -> CacheOutcome
         requires { ⌜ q .reference < 64 ⌝ }
-        ensures { λ o. ⌜ o ≡ pastGate (self .device) (self .state) q allocStep ⌝ }
+        ensures { λ o. ⌜ o ≡ pastGate (self .settings) (self .state) q allocStep ⌝ }
     {
         let n = self.alloc_refusal(q);
         if n != 0 {
@@ -281,7 +286,7 @@ impl Cache {
     // Read: the cached node, or zeros if refused; the cache is unchanged.
     pub(crate) fn read_step(self, q: Call) -> CacheOutcome
         requires { ⌜ q .reference < 64 ⌝ }
-        ensures { λ o. ⌜ o ≡ pastGate (self .device) (self .state) q readStep ⌝ }
+        ensures { λ o. ⌜ o ≡ pastGate (self .settings) (self .state) q readStep ⌝ }
     {
         let c = self.state;
         let r = q.reference as usize;

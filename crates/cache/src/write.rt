@@ -47,7 +47,7 @@ fn assign_ref_to_location(t: Table, r: usize, loc: Location) -> Table
 impl Cache {
     fn write_back_node_req_refusal(self, q: Call) -> u64
         requires { ⌜ q .reference < 64 ⌝ }
-        ensures { λ n. ⌜ n ≡ answer (ownRows (self .device) (self .state) q writeBackNodeReqStep) ⌝ }
+        ensures { λ n. ⌜ n ≡ answer (ownRows (self .settings) (self .state) q writeBackNodeReqStep) ⌝ }
     {
         let c = self.state;
         let r = q.reference as usize;
@@ -63,7 +63,7 @@ impl Cache {
         let kept = slot.node;
         let given = q.node;
         let known = queue::has(w, id);
-        let asked = layout::kind_of(self.device, loc);
+        let asked = layout::kind_of(self.settings.device, loc);
         let valid = layout::is_kind(asked, NODE_KIND);
         let used = held(ts, w, loc.addr);
         let same = sector::same_node(kept, given);
@@ -78,7 +78,7 @@ impl Cache {
 
     pub(crate) fn write_back_node_req(self, q: Call) -> CacheOutcome
         requires { ⌜ q .reference < 64 ⌝ }
-        ensures { λ o. ⌜ o ≡ pastGate (self .device) (self .state) q writeBackNodeReqStep ⌝ }
+        ensures { λ o. ⌜ o ≡ pastGate (self .settings) (self .state) q writeBackNodeReqStep ⌝ }
     {
         let n = self.write_back_node_req_refusal(q);
         let mut c = self.state;
@@ -113,7 +113,7 @@ impl Cache {
     }
 
     pub(crate) fn write_back_node_resp(self, q: Call) -> CacheOutcome
-        ensures { λ o. ⌜ o ≡ pastGate (self .device) (self .state) q writeBackNodeRespStep ⌝ }
+        ensures { λ o. ⌜ o ≡ pastGate (self .settings) (self .state) q writeBackNodeRespStep ⌝ }
     {
         let mut c = self.state;
         let d = q.dop;
@@ -131,10 +131,10 @@ impl Cache {
     }
 
     fn write_back_indirection_table_req_refusal(self, q: Call) -> u64
-        ensures { λ n. ⌜ n ≡ answer (ownRows (self .device) (self .state) q writeBackIndirectionTableReqStep) ⌝ }
+        ensures { λ n. ⌜ n ≡ answer (ownRows (self .settings) (self .state) q writeBackIndirectionTableReqStep) ⌝ }
     {
         let c = self.state;
-        let device = self.device;
+        let device = self.settings.device;
         let d = q.dop;
         let loc = dop_loc(d);
         let ts = c.tables;
@@ -156,7 +156,7 @@ impl Cache {
     }
 
     pub(crate) fn write_back_indirection_table_req(self, q: Call) -> CacheOutcome
-        ensures { λ o. ⌜ o ≡ pastGate (self .device) (self .state) q writeBackIndirectionTableReqStep ⌝ }
+        ensures { λ o. ⌜ o ≡ pastGate (self .settings) (self .state) q writeBackIndirectionTableReqStep ⌝ }
     {
         let n = self.write_back_indirection_table_req_refusal(q);
         let mut c = self.state;
@@ -176,7 +176,7 @@ impl Cache {
     }
 
     pub(crate) fn write_back_indirection_table_resp(self, q: Call) -> CacheOutcome
-        ensures { λ o. ⌜ o ≡ pastGate (self .device) (self .state) q writeBackIndirectionTableRespStep ⌝ }
+        ensures { λ o. ⌜ o ≡ pastGate (self .settings) (self .state) q writeBackIndirectionTableRespStep ⌝ }
     {
         let mut c = self.state;
         let v = q.vop;

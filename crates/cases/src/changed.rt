@@ -201,7 +201,7 @@ fn same_disk(a: DiskState, b: DiskState) -> bool {
     let m = r.nodes;
     let n = s.nodes;
     let nodes = same_node_records(m, n);
-    queues & first & second & nodes
+    (a.rule == b.rule) & queues & first & second & nodes
 }
 
 // How many of the two, cache and disk, are not as they were.

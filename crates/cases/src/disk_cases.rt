@@ -18,6 +18,7 @@ use fixtures::show::disk_brings;
 use fixtures::show::line;
 use fixtures::show::pair;
 use fixtures::stored;
+use fixtures::storing;
 use fixtures::two_entries;
 use queue::Request;
 use queue::Requests;
@@ -74,7 +75,9 @@ fn filled(kind: u64, own: u64, others: u64) -> DiskState {
         nodewrites: s,
     };
     let records = disk::empty_records();
-    DiskState { records, queues }
+    let mut disk = storing(records);
+    disk.queues = queues;
+    disk
 }
 
 // A request at a place that 16 allows.
@@ -188,7 +191,9 @@ fn reading() -> DiskState {
     let q = reads_at(BLOCK0);
     queues.tablereads = p;
     queues.nodereads = q;
-    DiskState { records, queues }
+    let mut s = storing(records);
+    s.queues = queues;
+    s
 }
 
 fn node_brought(id: u64, node: Node) -> u64 {

@@ -33,6 +33,7 @@ use fixtures::two_entries;
 use fixtures::with_cached;
 use fixtures::with_ephemeral;
 use fixtures::with_frozen;
+use fixtures::with_frozen_place;
 use fixtures::with_reads;
 use fixtures::with_writes;
 use queue::Requests;
@@ -171,12 +172,9 @@ fn step_3() {
 pub(crate) fn awaiting_table() -> CacheState {
     let c = ready();
     let t = two_entries();
-    let mut next = with_frozen(c, true, t);
+    let frozen = with_frozen(c, true, t);
     let loc = at(AREA2, 4096);
-    let mut ps = next.places;
-    ps.isfrozen = true;
-    ps.frozen = loc;
-    next.places = ps;
+    let mut next = with_frozen_place(frozen, true, loc);
     let a = Awaited {
         waiting: true,
         id: 1,

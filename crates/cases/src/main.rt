@@ -2,7 +2,8 @@
 // disk, where every N is document 01's or 02's, and `case=NAME lost=X added=Y altered=Z` for the counts of demand 3, which are 0 after every
 // list. Then nodes are compared, carried ones among them: `case=NAME equal=1` where the two are equal, else `equal=0`; reads are answered
 // that cache and disk have, or only one of the two; and nodes are compared with a working picture's: `case=NAME picture=same` where it has
-// that node of the reference, else `picture=other`. (`forms` has the written forms that are broken.)
+// that node of the reference, else `picture=other`. Last, the two freeze rules: `case=NAME rule=R` is the rule that a disk carries.
+// (`forms` has the written forms that are broken.)
 mod audit_cases;
 mod cache_cases;
 mod changed;
@@ -11,6 +12,7 @@ mod disk_cases;
 mod joined_cases;
 mod letgo_cases;
 mod node_cases;
+mod rule_cases;
 mod screen_cases;
 
 fn main() {
@@ -22,4 +24,5 @@ fn main() {
     node_cases::run();
     letgo_cases::run();
     screen_cases::run();
+    rule_cases::run();
 }

@@ -2,6 +2,7 @@
 ghost use mathlib.Core.Path.{_≡_};
 ghost use Rattle.blockdisk.specs.Crash.{sameTableRecord, sameNodeRecord, keptTable, keptNode, tablesKept, nodesKept, recordsKept, emptyQueues, diskCrash};
 use crate::Disk;
+use crate::form::is_rule;
 use crate::form::queues_ok;
 use crate::form::records_ok;
 use blockdisk::DiskOutcome;
@@ -112,7 +113,7 @@ pub fn empty_queues() -> Queues
 
 impl Disk {
     // A crash that leaves the records offered: 1 if the disk, or a node or table of these, is not in its written form; 19 if they
-    // are not possible. An offered record's place is judged by 19 alone.
+    // are not possible. An offered record's place is judged by 19 alone. The rule stays: what is offered does not carry one.
     pub fn crash(self, offered: Records) -> DiskOutcome
         ensures { λ o. ⌜ o ≡ diskCrash (self .device) (self .state) offered ⌝ }
     {
@@ -121,8 +122,9 @@ impl Disk {
         let queues = s.queues;
         let stored = records_ok(self.device, old);
         let waiting = queues_ok(self.device, queues);
+        let ruled = is_rule(s.rule);
         let known = self.device <= 2;
-        let form = known & stored.form & stored.placed & waiting;
+        let form = known & ruled & stored.form & stored.placed & waiting;
         let c = records_ok(self.device, offered);
         let good = form & c.form;
         if !good {

@@ -7,7 +7,7 @@ ghost use Rattle.disklayout.specs.Blocks.{TablePlaceIn};
 ghost use Rattle.disklayout.specs.Calls.{flag, runningOn};
 ghost use Rattle.disklayout.specs.Device.{deviceOf};
 ghost use Rattle.sectortype.specs.Form.{locZero};
-ghost use Rattle.blockdisk.specs.Form.{nodeRecordChecked, tablesChecked, nodesChecked, recordsChecked, tableAllowed, tableRequestOk, nodeRequestOk, tableQueueForm, nodeQueueForm, queuesForm};
+ghost use Rattle.blockdisk.specs.Form.{nodeRecordChecked, tablesChecked, nodesChecked, recordsChecked, isRule, tableAllowed, tableRequestOk, nodeRequestOk, tableQueueForm, nodeQueueForm, queuesForm};
 use blockdisk::Checked;
 use blockdisk::NodeRecord;
 use blockdisk::Queues;
@@ -179,6 +179,13 @@ fn node_queue_ok(device: u64, q: Requests) -> bool
         i += 1;
     }
     form & good
+}
+
+// A freeze rule is 1 or 2: a disk that carries any other is refused with 1, and so is a formatting that names one.
+pub fn is_rule(rule: u64) -> bool
+    ensures { λ b. ⌜ b ≡ isRule rule ⌝ }
+{
+    (rule == 1) | (rule == 2)
 }
 
 pub(crate) fn queues_ok(device: u64, qs: Queues) -> bool

@@ -6,6 +6,7 @@ mod read;
 
 use blockdisk::DiskState;
 pub use crashing::empty_queues;
+pub use form::is_rule;
 pub use read::empty_records;
 pub use read::node_at;
 pub use read::table_at;

@@ -2,6 +2,7 @@
 use blockcache::Awaited;
 use blockcache::CacheState;
 use blockcache::Phase;
+use blockcache::Settings;
 use blockdisk::DiskCall;
 use blockdisk::DiskOp;
 use blockdisk::NodeRecord;
@@ -13,6 +14,7 @@ use fixtures::AREA1;
 use fixtures::AREA2;
 use fixtures::BLOCK0;
 use fixtures::BLOCK1;
+use fixtures::RULE;
 use fixtures::absent_node_record;
 use fixtures::at;
 use fixtures::high_leaf;
@@ -37,6 +39,7 @@ use fixtures::two_entries;
 use fixtures::with_cached;
 use fixtures::with_ephemeral;
 use fixtures::with_frozen;
+use fixtures::with_frozen_place;
 use fixtures::with_persistent;
 use fixtures::with_reads;
 use fixtures::with_writes;
@@ -53,15 +56,6 @@ fn with_place(c: CacheState, loc: Location) -> CacheState {
     let mut next = c;
     let mut ps = next.places;
     ps.persistent = loc;
-    next.places = ps;
-    next
-}
-
-fn with_frozen_place(c: CacheState, isfrozen: bool, loc: Location) -> CacheState {
-    let mut next = c;
-    let mut ps = next.places;
-    ps.isfrozen = isfrozen;
-    ps.frozen = loc;
     next.places = ps;
     next
 }
@@ -274,17 +268,22 @@ fn queue_places(name: &[u8], kind: u64, addr: u64) {
     queue_place(name, b"with_a_reference", kind, 1, good);
 }
 
-// A device above 2, a step outside 1 to 19, a reference above 63. Step 19 without an answer gives 3.
-fn devices(name: &[u8], device: u64) {
+// A device above 2; a rule that is neither 1 nor 2, which a step on the cache names and a disk carries.
+fn settings(name: &[u8], device: u64, rule: u64) {
     let c = ready();
     let q = no_op_call();
     let none = disk::empty_records();
-    let s = storing(none);
+    let mut s = storing(none);
+    s.rule = rule;
     let node = sector::zero_node();
     let table = sector::empty_table();
     let op = DiskOp::NoDiskOp;
     let call = DiskCall { op, node, table };
-    let a = Cache { device, state: c }.step(14, q);
+    let named = Settings { device, rule };
+    let a = Cache {
+        settings: named,
+        state: c,
+    }.step(14, q);
     let b = Disk { device, state: s }.next(call);
     let d = Disk { device, state: s }.crash(none);
     pair(b"cache_on", name, a.answer);
@@ -292,6 +291,7 @@ fn devices(name: &[u8], device: u64) {
     pair(b"crash_of_the_disk_on", name, d.answer);
 }
 
+// A step outside 1 to 19, a reference above 63. Step 19 without an answer gives 3.
 fn numbers() {
     let c = ready();
     let q = no_op_call();
@@ -324,7 +324,12 @@ pub(crate) fn run() {
     queue_places(b"node_reads", 2, BLOCK0);
     queue_places(b"table_writes", 3, AREA1);
     queue_places(b"node_writes", 4, BLOCK0);
-    devices(b"device_2", 2);
-    devices(b"device_3", 3);
+    settings(b"device_2", 2, RULE);
+    settings(b"device_3", 3, RULE);
     numbers();
+    settings(b"rule_0", 0, 0);
+    settings(b"rule_1", 0, 1);
+    settings(b"rule_2", 0, 2);
+    settings(b"rule_3", 0, 3);
+    settings(b"rule_18446744073709551615", 0, 18446744073709551615);
 }

@@ -8,7 +8,11 @@ use disk::Disk;
 fn empty() -> DiskState {
     let records = disk::empty_records();
     let queues = disk::empty_queues();
-    DiskState { records, queues }
+    DiskState {
+        rule: 1,
+        records,
+        queues,
+    }
 }
 
 // One call; 1 if it was accepted.

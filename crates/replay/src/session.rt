@@ -44,7 +44,7 @@ fn moved(device: u64, o: Outcome, pictures: Pictures) -> Sequence {
 
 pub fn unstarted() -> Session {
     let contents = sector::zero_contents();
-    let o = Store::format(0, contents);
+    let o = Store::format(0, contents, 1);
     let pictures = system::format_pictures(0, contents);
     let sequence = moved(0, o, pictures);
     Session {
@@ -126,8 +126,8 @@ impl Session {
     }
 
     // A refused `format` leaves the sequence before it as it was.
-    fn format(self, device: u64, contents: Contents) -> Session {
-        let o = Store::format(device, contents);
+    fn format(self, device: u64, contents: Contents, rule: u64) -> Session {
+        let o = Store::format(device, contents, rule);
         let answer = o.answer;
         print::answer(self.tally.lines, answer);
         let mut next = self.counted(answer);
@@ -203,7 +203,7 @@ impl Session {
                 sequence.show(line);
                 self
             }
-            Line::Format(d, c) => self.format(d, c),
+            Line::Format(d, c, r) => self.format(d, c, r),
             Line::Place(d, l) => self.place(d, l),
             Line::Skip => self,
             Line::Bad => self.error(),
@@ -218,7 +218,7 @@ impl Session {
         let kind = words::line::line_of(s);
         match kind {
             Line::Skip => self,
-            Line::Format(d, c) => self.format(d, c),
+            Line::Format(d, c, r) => self.format(d, c, r),
             Line::Place(d, l) => self.place(d, l),
             Line::Step(_) => self.started_line(kind, s),
             Line::Audit => self.started_line(kind, s),

@@ -59,16 +59,23 @@ fn formatted_records(at: Location, place: Location, contents: Contents) -> Recor
 }
 
 impl Store {
-    // A newly formatted device; one above 2 gives 1 and zeros.
-    pub fn format(device: u64, contents: Contents) -> Outcome
-        ensures { λ o. ⌜ o ≡ formatted device contents ⌝ }
+    // A newly formatted device, under the freeze rule named; a device above 2, or a rule that is neither 1 nor 2, gives 1 and zeros.
+    pub fn format(device: u64, contents: Contents, rule: u64) -> Outcome
+        ensures { λ o. ⌜ o ≡ formatted device contents rule ⌝ }
     {
         let node = sector::zero_node();
         let cache = cache::empty_cache();
         let queues = disk::empty_queues();
-        if 2 < device {
+        let ruled = disk::is_rule(rule);
+        let known = device <= 2;
+        let good = known & ruled;
+        if !good {
             let records = disk::empty_records();
-            let disk = DiskState { records, queues };
+            let disk = DiskState {
+                rule: 0,
+                records,
+                queues,
+            };
             return Outcome {
                 answer: 1,
                 node,
@@ -81,7 +88,11 @@ impl Store {
         let at = place_at(t.value);
         let place = place_at(n.value);
         let records = formatted_records(at, place, contents);
-        let disk = DiskState { records, queues };
+        let disk = DiskState {
+            rule,
+            records,
+            queues,
+        };
         Outcome {
             answer: 0,
             node,

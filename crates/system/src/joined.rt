@@ -5,6 +5,7 @@ ghost use Rattle.blocksystem.specs.Joined.{diskCall, joined, startRows};
 use crate::Store;
 use crate::start::wf_succs;
 use blockcache::Call;
+use blockcache::Settings;
 use blockdisk::DiskCall;
 use blockdisk::DiskOp;
 use blockdisk::Records;
@@ -75,10 +76,12 @@ impl Store {
         ensures { λ o. ⌜ o ≡ joined (self .device) number q offered (self .cache) (self .disk) ⌝ }
     {
         let device = self.device;
-        let state = self.cache;
-        let c = Cache { device, state };
         let state = self.disk;
+        let rule = state.rule;
         let d = Disk { device, state };
+        let settings = Settings { device, rule };
+        let state = self.cache;
+        let c = Cache { settings, state };
         let a = c.step(number, q);
         let b = if number == CRASH {
             d.crash(offered)

@@ -25,11 +25,11 @@ use Rattle.words.specs.declared.digits.Pair.the-variants as pair
 use Rattle.words.specs.declared.digits.Place.the-variants as place
 use Rattle.words.specs.declared.line.Line.the-variants as line
 use Rattle.words.specs.declared.text.Keys.the-variants as keys
-use Rattle.words.specs.Bytes.{CONTENTS, DEVICE, findOf}
+use Rattle.words.specs.Bytes.{CONTENTS, DEVICE, RULE, findOf}
 use Rattle.words.specs.Cut.{fitOf, numberWord, wordOf}
 use Rattle.words.specs.ContentsText.{contentsFrom, contentsOf, lowAlone}
 use Rattle.words.specs.Numbers.{digit, locationOf, numberOf, numeral, sidesFrom, sidesOf, valueOf}
-use Rattle.words.specs.Parsed.{bothOf, formatOf, listOf, nodeOf}
+use Rattle.words.specs.Parsed.{bothOf, formatOf, listOf, nodeOf, ruleWord}
 
 -- THE TWO SIDES OF A BYTE THAT IS NO DIGIT
 
@@ -142,20 +142,34 @@ unfolding nodeOf
 node-read w c h e f = rw (ne-eqb _ _ h, e, f)
 
 -- and a format line those behind its key
-pub format-read : (r : List ℕ) (d : ℕ) (c : Contents) → bothOf r keys.Format DEVICE CONTENTS ≡ true → numberWord r DEVICE ≡ Value d → contentsOf (drop 9 (wordOf r CONTENTS)) ≡ contents.Value c →
-    formatOf r ≡ line.Format d c
+pub format-read : (r : List ℕ) (d : ℕ) (c : Contents) (k : ℕ) → bothOf r keys.Format DEVICE CONTENTS ≡ true → numberWord r DEVICE ≡ Value d →
+    contentsOf (drop 9 (wordOf r CONTENTS)) ≡ contents.Value c → ruleWord r ≡ Value k →
+    formatOf r ≡ line.Format d c k
 unfolding formatOf
-format-read r d c h e f = rw (h, e, f)
+format-read r d c k h e f g = rw (h, e, f, g)
+
+-- THE RULE OF A FORMAT LINE
+
+-- the number behind its key
+pub rule-read : (r : List ℕ) (k : ℕ) → (length (wordOf r RULE) ≡ 0 → ⊥) → numberOf (drop 5 (wordOf r RULE)) ≡ Value k → ruleWord r ≡ Value k
+unfolding ruleWord numberWord
+rule-read r k h e = rw (ne-eqb _ _ h, e)
+
+-- without the word it is 1
+pub rule-absent : (r : List ℕ) → length (wordOf r RULE) ≡ 0 → ruleWord r ≡ Value 1
+unfolding ruleWord
+rule-absent r h = rw (h)
 
 -- A SCRIPT OF BEFORE, WHERE CONTENTS WERE ONE NUMBER
 
--- a format line whose word had a number has the contents that it is carried to
+-- a format line whose word had a number has the contents that it is carried to; it had no rule, and means rule 1
 pub format-carried : (r : List ℕ) (d n : ℕ) → bothOf r keys.Format DEVICE CONTENTS ≡ true → numberWord r DEVICE ≡ Value d → numberWord r CONTENTS ≡ Value n →
-    formatOf r ≡ line.Format d (carriedContents n)
+    length (wordOf r RULE) ≡ 0 →
+    formatOf r ≡ line.Format d (carriedContents n) 1
 unfolding numberWord bothOf
-format-carried r d n h e f =
+format-carried r d n h e f a =
     let t : eqb (length (wordOf r CONTENTS)) 0 ≡ false = not-true-iff _ .0 (and-right (fitOf r keys.Format && not (eqb (length (wordOf r DEVICE)) 0)) _ h) in
-    format-read r d (carriedContents n) h e (number-carried (drop 9 (wordOf r CONTENTS)) n (rw t at f))
+    format-read r d (carriedContents n) 1 h e (number-carried (drop 9 (wordOf r CONTENTS)) n (rw t at f)) (rule-absent r a)
 
 -- a node that was written with a number is the older node carried over
 pub node-carried : (w : List ℕ) (n : ℕ) → (findOf w 58 ≡ length w → ⊥) → numberOf (take (findOf w 58) w) ≡ Value n → listOf (drop (findOf w 58 + 1) w) .ok ≡ true →

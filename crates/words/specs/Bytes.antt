@@ -19,17 +19,20 @@ startsOf s p = leb (length p) (length s) && allBelow (λ k. eqb (getD s k 0) (ge
 unfoldable pub sameOf : List ℕ → List ℕ → Bool
 sameOf s p = startsOf s p && eqb (length s) (length p)
 
--- the keys that a line is asked for by name: device=, contents=, loc=
+-- the keys that a line is asked for by name: device=, contents=, rule=, loc=
 abbrev pub DEVICE : List ℕ
 DEVICE = 100 ∷ 101 ∷ 118 ∷ 105 ∷ 99 ∷ 101 ∷ 61 ∷ []
 
 abbrev pub CONTENTS : List ℕ
 CONTENTS = 99 ∷ 111 ∷ 110 ∷ 116 ∷ 101 ∷ 110 ∷ 116 ∷ 115 ∷ 61 ∷ []
 
+abbrev pub RULE : List ℕ
+RULE = 114 ∷ 117 ∷ 108 ∷ 101 ∷ 61 ∷ []
+
 abbrev pub LOC : List ℕ
 LOC = 108 ∷ 111 ∷ 99 ∷ 61 ∷ []
 
--- table1=, table2=, block=, device=, contents=
+-- table1=, table2=, block=, device=, contents=, rule=
 unfoldable pub rareKeyOf : List ℕ → ℕ
 rareKeyOf w =
     cond (startsOf w (116 ∷ 97 ∷ 98 ∷ 108 ∷ 101 ∷ 49 ∷ 61 ∷ [])) 10
@@ -37,7 +40,8 @@ rareKeyOf w =
     (cond (startsOf w (98 ∷ 108 ∷ 111 ∷ 99 ∷ 107 ∷ 61 ∷ [])) 12
     (cond (startsOf w DEVICE) 13
     (cond (startsOf w CONTENTS) 14
-    0))))
+    (cond (startsOf w RULE) 15
+    0)))))
 
 -- ref=, v=, vloc=, uiop=, d=, id=, loc=, node=, table=
 unfoldable pub keyOf : List ℕ → ℕ
@@ -53,9 +57,9 @@ keyOf w =
     (cond (startsOf w (116 ∷ 97 ∷ 98 ∷ 108 ∷ 101 ∷ 61 ∷ [])) 9
     (rareKeyOf w)))))))))
 
--- the keys that a line may have: any step's, a crash's, those of format (device=, contents=) and of place (loc=, device=)
+-- the keys that a line may have: any step's, a crash's, those of format (device=, contents=, rule=) and of place (loc=, device=)
 unfoldable pub keysOf : Keys → ℕ → Bool
 keysOf Step k = leb 1 k && leb k 9
 keysOf Crash k = leb 1 k && leb k 12
-keysOf Format k = leb 13 k && leb k 14
+keysOf Format k = leb 13 k && leb k 15
 keysOf Place k = eqb k 7 || eqb k 13

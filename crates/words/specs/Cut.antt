@@ -44,7 +44,7 @@ fitFrom seen ks (w ∷ ws) = keyFits seen ks (keyOf w) && fitFrom (set seen (key
 
 -- each word of a rest has a key that the line may have, and each but block at most once
 unfoldable pub fitOf : List ℕ → Keys → Bool
-fitOf r ks = fitFrom (replicate 15 false) ks (wordsOf r)
+fitOf r ks = fitFrom (replicate 16 false) ks (wordsOf r)
 
 -- what the word with a key has behind it; a default where there is no such word
 unfoldable pub numberWord : List ℕ → List ℕ → Digits

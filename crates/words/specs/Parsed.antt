@@ -23,7 +23,7 @@ use Rattle.words.specs.declared.tables.Head.the-variants as head
 use Rattle.words.specs.declared.line.Line.the-variants as line
 use Rattle.words.specs.declared.text.Keys.{Keys}
 use Rattle.words.specs.declared.text.Keys.the-variants as keys
-use Rattle.words.specs.Bytes.{findOf, startsOf, sameOf, DEVICE, CONTENTS, LOC}
+use Rattle.words.specs.Bytes.{findOf, startsOf, sameOf, DEVICE, CONTENTS, RULE, LOC}
 use Rattle.words.specs.ContentsText.{contentsOf, contentsWord}
 use Rattle.words.specs.Numbers.{numberOf, smallOf, locationOf}
 use Rattle.words.specs.Cut.{wordOf, fitOf, numberWord, placeWord, piecesOf, foldFrom}
@@ -132,16 +132,21 @@ tableReadOf w = foldFrom tableOk extendedOf noTable startTable (piecesOf 59 w)
 unfoldable pub bothOf : List ℕ → Keys → List ℕ → List ℕ → Bool
 bothOf r ks one two = (fitOf r ks && not (eqb (length (wordOf r one)) 0)) && not (eqb (length (wordOf r two)) 0)
 
-abbrev pub formatFrom : Digits → ContentsText → Line
-formatFrom (Value d) (contents.Value c) = line.Format d c
-formatFrom (Value d) contents.Bad = line.Bad
-formatFrom Bad c = line.Bad
+-- the freeze rule that a format names; without the word it is 1
+unfoldable pub ruleWord : List ℕ → Digits
+ruleWord r = cond (eqb (length (wordOf r RULE)) 0) (Value 1) (numberWord r RULE)
 
--- device= and contents=, in either order
+abbrev pub formatFrom : Digits → ContentsText → Digits → Line
+formatFrom (Value d) (contents.Value c) (Value r) = line.Format d c r
+formatFrom (Value d) (contents.Value c) Bad = line.Bad
+formatFrom (Value d) contents.Bad r = line.Bad
+formatFrom Bad c r = line.Bad
+
+-- device= and contents=, perhaps rule=, in any order
 unfoldable pub formatOf : List ℕ → Line
 formatOf r =
     cond (not (bothOf r keys.Format DEVICE CONTENTS)) line.Bad
-    (formatFrom (numberWord r DEVICE) (contentsWord r CONTENTS))
+    (formatFrom (numberWord r DEVICE) (contentsWord r CONTENTS) (ruleWord r))
 
 abbrev pub placeLineFrom : Digits → Place → Line
 placeLineFrom (Value d) (place.At l) = line.Place d l

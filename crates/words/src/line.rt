@@ -1,7 +1,7 @@
 // What kind of line it is.
 ghost use mathlib.Core.Path.{_≡_};
 ghost use Rattle.words.specs.Cut.{restOf};
-ghost use Rattle.words.specs.Parsed.{bothOf, formatOf, placeOf, aloneOf, lineOf};
+ghost use Rattle.words.specs.Parsed.{bothOf, ruleWord, formatOf, placeOf, aloneOf, lineOf};
 use crate::contents::ContentsText;
 use crate::contents::contents_word;
 use crate::digits::Digits;
@@ -26,8 +26,8 @@ pub const MOST: usize = 4096;
 pub enum Line {
     // Empty, or a comment.
     Skip,
-    // `format`, with the device and the root's contents.
-    Format(u64, Contents),
+    // `format`, with the device, the root's contents and the freeze rule.
+    Format(u64, Contents, u64),
     // `step`, with its number; its words are yet to be read.
     Step(u64),
     Audit,
@@ -56,7 +56,18 @@ fn words_both<'a, 'b>(rest: &'a [u8], keys: Keys, one: &'b [u8], two: &'b [u8]) 
     fit & !(a.len() == 0) & !(b.len() == 0)
 }
 
-// A `format` line, from what follows its first word: both words, in either order.
+// The freeze rule that a `format` names: any number, which the store judges; 1 where there is no such word.
+fn rule_word(rest: &[u8]) -> Digits
+    ensures { λ r. ⌜ r ≡ ruleWord (now (rest .entry)) ⌝ }
+{
+    let w = word(rest, b"rule=");
+    if w.len() == 0 {
+        return Digits::Value(1);
+    }
+    number_word(rest, b"rule=")
+}
+
+// A `format` line, from what follows its first word: the device and the contents, perhaps a rule, in any order.
 fn format_of(rest: &[u8]) -> Line
     ensures { λ r. ⌜ r ≡ formatOf (now (rest .entry)) ⌝ }
 {
@@ -69,7 +80,10 @@ fn format_of(rest: &[u8]) -> Line
     let ContentsText::Value(c) = contents_word(rest, b"contents=") else {
         return Line::Bad;
     };
-    Line::Format(d, c)
+    let Digits::Value(r) = rule_word(rest) else {
+        return Line::Bad;
+    };
+    Line::Format(d, c, r)
 }
 
 // A `place` line, from its first word and what follows it: both words, in either order.

@@ -15,7 +15,7 @@ pub enum Keys {
     Place,
 }
 
-// Keys by number, as `key_of` gives them: 1 to 9 may stand on any step, 10 to 12 on a crash beside them, 13 and 14 on a `format`, and two of
+// Keys by number, as `key_of` gives them: 1 to 9 may stand on any step, 10 to 12 on a crash beside them, 13 to 15 on a `format`, and two of
 // these on a `place`; 0 is none.
 const LOC: usize = 7;
 
@@ -23,6 +23,8 @@ const LOC: usize = 7;
 const BLOCK: usize = 12;
 
 const DEVICE: usize = 13;
+
+const RULE: usize = 15;
 
 // Where b first stands in s; the length of s where it does not.
 pub fn find(s: &[u8], b: u8) -> usize
@@ -99,7 +101,7 @@ pub fn word<'a, 'b>(rest: &'a [u8], key: &'b [u8]) -> &'a [u8]
 // The number of a word's key.
 pub fn key_of(w: &[u8]) -> usize
     ensures { λ r. ⌜ r ≡ keyOf (now (w .entry)) ⌝ }
-    ensures within { λ r. ⌜ r < 15 ⌝ }
+    ensures within { λ r. ⌜ r < 16 ⌝ }
 {
     if starts(w, b"ref=") {
         return 1;
@@ -134,7 +136,7 @@ pub fn key_of(w: &[u8]) -> usize
 // The same for the keys that stand on a crash, on `format` and on `place` alone.
 fn key_of_rare(w: &[u8]) -> usize
     ensures { λ r. ⌜ r ≡ rareKeyOf (now (w .entry)) ⌝ }
-    ensures within { λ r. ⌜ r < 15 ⌝ }
+    ensures within { λ r. ⌜ r < 16 ⌝ }
 {
     if starts(w, b"table1=") {
         return 10;
@@ -151,6 +153,9 @@ fn key_of_rare(w: &[u8]) -> usize
     if starts(w, b"contents=") {
         return 14;
     }
+    if starts(w, b"rule=") {
+        return RULE;
+    }
     0
 }
 
@@ -161,7 +166,7 @@ fn allowed(keys: Keys, k: usize) -> bool
     match keys {
         Keys::Step => (1 <= k) & (k <= 9),
         Keys::Crash => (1 <= k) & (k <= BLOCK),
-        Keys::Format => (DEVICE <= k) & (k <= 14),
+        Keys::Format => (DEVICE <= k) & (k <= RULE),
         Keys::Place => (k == LOC) | (k == DEVICE),
     }
 }
@@ -170,7 +175,7 @@ fn allowed(keys: Keys, k: usize) -> bool
 pub fn words_fit(rest: &[u8], keys: Keys) -> bool
     ensures { λ r. ⌜ r ≡ fitOf (now (rest .entry)) keys ⌝ }
 {
-    let mut seen = [false; 15];
+    let mut seen = [false; 16];
     let mut good = true;
     let mut at: usize = 0;
     while at < rest.len() {

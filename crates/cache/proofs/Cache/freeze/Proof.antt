@@ -10,12 +10,7 @@ answered-requires c κs = search needs
 
 returns : tie.Need-returns
 unfolding pastGate answer
-returns c =
-    let c1 = c .before in
-    simp (c1 .if1 .taken, c .answered .ensures)
-
-zero-loc-requires : tie.Need-zero-loc-requires
-zero-loc-requires c κs = search needs
+returns c = simp (c .before .if1 .taken, c .answered .ensures)
 
 answered-requires-2 : tie.Need-answered-requires-2
 answered-requires-2 c κs = search needs
@@ -24,9 +19,22 @@ returns-2 : tie.Need-returns-2
 unfolding pastGate answer
 returns-2 c =
     let c1 = c .before in
-    let c2 = c1 .before .before .before .before in
-    simp (c2 .if1 .left, c .answered2 .ensures, c1 .zero-loc .ensures)
+    simp (c1 .if2 .taken, c1 .before .before .if1 .left, c .answered2 .ensures)
+
+zero-loc-requires : tie.Need-zero-loc-requires
+zero-loc-requires c κs = search needs
+
+answered-requires-3 : tie.Need-answered-requires-3
+answered-requires-3 c κs = search needs
+
+returns-3 : tie.Need-returns-3
+unfolding pastGate answer
+returns-3 c =
+    let c1 = c .before in
+    let c2 = c1 .before .before .before in
+    simp (c2 .if2 .left, c2 .before .before .if1 .left, c .answered3 .ensures, c1 .zero-loc .ensures)
 
 pub freeze-spec : {M : Type 1} → statement M
 freeze-spec =
-    tie.close (tie.spec answered-requires returns zero-loc-requires answered-requires-2 returns-2)
+    tie.close
+    (tie.spec answered-requires returns answered-requires-2 returns-2 zero-loc-requires answered-requires-3 returns-3)

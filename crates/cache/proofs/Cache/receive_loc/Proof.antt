@@ -25,7 +25,7 @@ returns c =
     let c2 = c1 .before in
     let c3 = c2 .before in
     let c4 = c3 .before in
-    let table = table-told (c4 .before .args .self .device) (c4 .vop-loc .result) (c3 .kind-of .ensures) (c2 .is-kind .ensures) in
+    let table = table-told (c4 .before .args .self .settings .device) (c4 .vop-loc .result) (c3 .kind-of .ensures) (c2 .is-kind .ensures) in
     let invalid = rw (table, c4 .vop-loc .ensures) at (c1 .if1 .taken) in
     simp (invalid, c .answered .ensures)
 
@@ -43,7 +43,7 @@ returns-2 c =
     let c3 = c2 .before in
     let c4 = c3 .before in
     let c5 = c4 .before in
-    let table = table-told (c5 .before .args .self .device) (c5 .vop-loc .result) (c4 .kind-of .ensures) (c3 .is-kind .ensures) in
+    let table = table-told (c5 .before .args .self .settings .device) (c5 .vop-loc .result) (c4 .kind-of .ensures) (c3 .is-kind .ensures) in
     let valid = rw (table, c5 .vop-loc .ensures) at (c2 .if1 .left) in
     simp (valid, c .answered2 .ensures, c1 .loading .ensures, c5 .vop-loc .ensures)
 

@@ -51,7 +51,7 @@ returns c =
     let c9 = c8 .before .before .before .before .before .before .before .before in
     let a = c9 .before .before .args in
     let over = rw (c9 .dop-loc .ensures) at (c6 .overlap .ensures) in
-    let table = rw (c9 .dop-loc .ensures) at (table-told (a .self .device) (c9 .dop-loc .result) (c8 .kind-of .ensures) (c7 .is-kind .ensures)) in
+    let table = rw (c9 .dop-loc .ensures) at (table-told (a .self .settings .device) (c9 .dop-loc .result) (c8 .kind-of .ensures) (c7 .is-kind .ensures)) in
     simp (c .first-of4 .ensures, c1 .first-of3 .ensures, c2 .first-of2 .ensures, c3 .first-of .ensures, c4 .locs-complete .ensures, c5 .same-table .ensures, over, table, c9 .dop-loc .ensures)
 
 pub write-back-indirection-table-req-refusal-spec : {M : Type 1} → statement M

@@ -70,7 +70,7 @@ returns c =
     let c12 = c11 .before .before .before .before .before .before .before .before .before in
     let c13 = c12 .before in
     let a = c13 .before .before .args in
-    let node = rw (c12 .dop-loc .ensures) at (node-told (a .self .device) (c12 .dop-loc .result) (c10 .kind-of .ensures) (c9 .is-kind .ensures)) in
+    let node = rw (c12 .dop-loc .ensures) at (node-told (a .self .settings .device) (c12 .dop-loc .result) (c10 .kind-of .ensures) (c9 .is-kind .ensures)) in
     simp (
       c .first-of7 .ensures,
       c1 .first-of6 .ensures,

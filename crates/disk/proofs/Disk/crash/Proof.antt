@@ -13,6 +13,9 @@ records-ok-requires c κs = search needs
 queues-ok-requires : tie.Need-queues-ok-requires
 queues-ok-requires c κs = search needs
 
+is-rule-requires : tie.Need-is-rule-requires
+is-rule-requires c κs = search needs
+
 records-ok-requires-2 : tie.Need-records-ok-requires-2
 records-ok-requires-2 c κs = search needs
 
@@ -20,8 +23,9 @@ returns : tie.Need-returns
 unfolding diskForm diskCrash answer
 returns c =
     let o = c .before .before in
-    let q = o .before .before .before .before in
-    simp (rw (o .records-ok2 .ensures, q .queues-ok .ensures, q .before .records-ok .ensures) at (c .if1 .taken))
+    let u = o .before .before .before .before in
+    let q = u .before in
+    simp (rw (o .records-ok2 .ensures, u .is-rule .ensures, q .queues-ok .ensures, q .before .records-ok .ensures) at (c .if1 .taken))
 
 records-kept-requires : tie.Need-records-kept-requires
 records-kept-requires c κs = search needs
@@ -31,8 +35,9 @@ unfolding diskForm diskCrash answer
 returns-2 c =
     let k = c .before .before in
     let o = k .before .before .before in
-    let q = o .before .before .before .before in
-    let e = rw (o .records-ok2 .ensures, q .queues-ok .ensures, q .before .records-ok .ensures) at (k .before .if1 .left) in
+    let u = o .before .before .before .before in
+    let q = u .before in
+    let e = rw (o .records-ok2 .ensures, u .is-rule .ensures, q .queues-ok .ensures, q .before .records-ok .ensures) at (k .before .if1 .left) in
     let f = rw (o .records-ok2 .ensures, k .records-kept .ensures) at (c .if2 .taken) in
     simp (e, f)
 
@@ -44,8 +49,9 @@ unfolding diskForm diskCrash answer
 returns-3 c =
     let k = c .before .before .before in
     let o = k .before .before .before in
-    let q = o .before .before .before .before in
-    let e = rw (o .records-ok2 .ensures, q .queues-ok .ensures, q .before .records-ok .ensures) at (k .before .if1 .left) in
+    let u = o .before .before .before .before in
+    let q = u .before in
+    let e = rw (o .records-ok2 .ensures, u .is-rule .ensures, q .queues-ok .ensures, q .before .records-ok .ensures) at (k .before .if1 .left) in
     let f = rw (o .records-ok2 .ensures, k .records-kept .ensures) at (c .before .if2 .left) in
     simp (e, f, c .empty-queues .ensures)
 
@@ -55,6 +61,7 @@ crash-spec =
     (tie.spec
     records-ok-requires
     queues-ok-requires
+    is-rule-requires
     records-ok-requires-2
     returns
     records-kept-requires

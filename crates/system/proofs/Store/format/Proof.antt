@@ -1,6 +1,10 @@
--- A device that is not made, and one that is. Assumes nothing.
+-- A device that is not made or a rule that is none, and the rest. Assumes nothing.
+use mathlib.Core.Bool.{_&&_, false, true}
+use mathlib.Core.Path.{_≡_}
 use borrow.Author.Needs.{needs}
-use borrow.Author.Tests.{le-leb, lt-leb}
+use Rattle.base.proofs.Tests.{not-iff, not-true-iff}
+use Rattle.blockdisk.specs.Form.{isRule}
+use Rattle.disklayout.specs.Device.{made}
 use Rattle.system.proofs.Store.format.Statement.{statement}
 use Rattle.blocksystem.specs.Format.{formatted}
 use Rattle.system.proofs.Store.format.Tie as tie
@@ -14,6 +18,9 @@ empty-cache-requires c κs = search needs
 empty-queues-requires : tie.Need-empty-queues-requires
 empty-queues-requires c κs = search needs
 
+is-rule-requires : tie.Need-is-rule-requires
+is-rule-requires c κs = search needs
+
 empty-records-requires : tie.Need-empty-records-requires
 empty-records-requires c κs = search needs
 
@@ -24,7 +31,10 @@ returns c =
     let c2 = c1 .before in
     let c3 = c2 .before in
     let c4 = c3 .before in
-    simp (lt-leb _ _ (c1 .if1 .taken), c .empty-records .ensures, c2 .empty-queues .ensures, c3 .empty-cache .ensures, c4 .zero-node .ensures)
+    let c5 = c4 .before in
+    let a = c5 .before .args in
+    let e : made (a .device) && isRule (a .rule) ≡ false = not-true-iff _ .0 (rw (c2 .is-rule .ensures) at (c1 .if1 .taken)) in
+    simp (e, c .empty-records .ensures, c3 .empty-queues .ensures, c4 .empty-cache .ensures, c5 .zero-node .ensures)
 
 indirection-table1-addr-requires : tie.Need-indirection-table1-addr-requires
 indirection-table1-addr-requires c κs = search needs
@@ -52,16 +62,19 @@ returns-2 c =
     let c6 = c5 .before in
     let c7 = c6 .before in
     let c8 = c7 .before in
+    let c9 = c8 .before in
+    let a = c9 .before .args in
+    let e : made (a .device) && isRule (a .rule) ≡ true = not-iff _ .0 (rw (c6 .is-rule .ensures) at (c5 .if1 .left)) in
     simp (
-      le-leb _ _ (c5 .if1 .left),
+      e,
       c .formatted-records .ensures,
       c1 .place-at2 .ensures,
       c2 .place-at .ensures,
       c3 .first-node-addr .ensures,
       c4 .indirection-table1-addr .ensures,
-      c6 .empty-queues .ensures,
-      c7 .empty-cache .ensures,
-      c8 .zero-node .ensures,
+      c7 .empty-queues .ensures,
+      c8 .empty-cache .ensures,
+      c9 .zero-node .ensures,
     )
 
 pub format-spec : {M : Type 1} → statement M
@@ -71,6 +84,7 @@ format-spec =
     zero-node-requires
     empty-cache-requires
     empty-queues-requires
+    is-rule-requires
     empty-records-requires
     returns
     indirection-table1-addr-requires

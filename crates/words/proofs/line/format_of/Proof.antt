@@ -64,19 +64,46 @@ returns-3 c =
       sym (c2 .contents-word .ensures) ∙ c .enum-told2 .given .1,
     )
 
+rule-word-requires : tie.Need-rule-word-requires
+rule-word-requires c κs = search needs
+
+enum-known-r : tie.Need-enum-known-r
+enum-known-r c = search needs
+
+enum-told-3 : tie.Need-enum-told-3
+enum-told-3 c = search needs
+
 returns-4 : tie.Need-returns-4
 unfolding formatOf
 returns-4 c =
+    let c2 = c .before .before in
+    let c4 = c2 .before .before in
+    let c6 = c4 .before .before in
+    let c9 = c6 .before .before .before in
+    let c11 = c9 .before .before in
+    let c13 = c11 .before .before in
+    simp (
+      rw (c13 .before .words-both .ensures) at (c13 .if1 .left),
+      sym (c11 .number-word .ensures) ∙ c9 .d .given .1,
+      sym (c6 .contents-word .ensures) ∙ c4 .c .given .1,
+      sym (c2 .rule-word .ensures) ∙ c .enum-told3 .given .1,
+    )
+
+returns-5 : tie.Need-returns-5
+unfolding formatOf
+returns-5 c =
     let c1 = c .before in
     let c3 = c1 .before .before in
-    let c6 = c3 .before .before .before in
-    let c8 = c6 .before .before in
-    let c10 = c8 .before .before in
-    let c11 = c10 .before in
+    let c5 = c3 .before .before in
+    let c7 = c5 .before .before in
+    let c10 = c7 .before .before .before in
+    let c12 = c10 .before .before in
+    let c14 = c12 .before .before in
     simp (
-      rw (c11 .words-both .ensures) at (c10 .if1 .left),
-      sym (c8 .number-word .ensures) ∙ c6 .d .given .1,
-      sym (c3 .contents-word .ensures) ∙ c1 .c .given .1,
+      rw (c14 .before .words-both .ensures) at (c14 .if1 .left),
+      sym (c12 .number-word .ensures) ∙ c10 .d .given .1,
+      sym (c7 .contents-word .ensures) ∙ c5 .c .given .1,
+      sym (c3 .rule-word .ensures) ∙ c1 .r .given .1,
     )
 
 pub format-of-spec : {M : Type 1} → statement M
@@ -97,4 +124,8 @@ format-of-spec =
     enum-known-c
     enum-told-2
     returns-3
-    returns-4)
+    rule-word-requires
+    enum-known-r
+    enum-told-3
+    returns-4
+    returns-5)

@@ -87,6 +87,12 @@ returns-5 c =
       search needs,
     )
 
+slice-aggregate-starts-6 : tie.Need-slice-aggregate-starts-6
+slice-aggregate-starts-6 c = search needs
+
+starts-requires-6 : tie.Need-starts-requires-6
+starts-requires-6 c κs = search needs
+
 returns-6 : tie.Need-returns-6
 unfolding rareKeyOf
 returns-6 c =
@@ -98,13 +104,41 @@ returns-6 c =
     let c6 = c5 .before .before in
     let c7 = c6 .before in
     let c8 = c7 .before .before in
-    let c9 = c8 .before in (
+    let c9 = c8 .before in
+    let c10 = c9 .before .before in
+    let c11 = c10 .before in (
       simp (
-        sym (c1 .starts5 .ensures) ∙ c .if5 .left,
-        sym (c3 .starts4 .ensures) ∙ c2 .if4 .left,
-        sym (c5 .starts3 .ensures) ∙ c4 .if3 .left,
-        sym (c7 .starts2 .ensures) ∙ c6 .if2 .left,
-        sym (c9 .starts .ensures) ∙ c8 .if1 .left,
+        sym (c1 .starts6 .ensures) ∙ c .if6 .taken,
+        sym (c3 .starts5 .ensures) ∙ c2 .if5 .left,
+        sym (c5 .starts4 .ensures) ∙ c4 .if4 .left,
+        sym (c7 .starts3 .ensures) ∙ c6 .if3 .left,
+        sym (c9 .starts2 .ensures) ∙ c8 .if2 .left,
+        sym (c11 .starts .ensures) ∙ c10 .if1 .left,
+      ),
+      search needs,
+    )
+
+returns-7 : tie.Need-returns-7
+unfolding rareKeyOf
+returns-7 c =
+    let c1 = c .before in
+    let c2 = c1 .before .before in
+    let c3 = c2 .before in
+    let c4 = c3 .before .before in
+    let c5 = c4 .before in
+    let c6 = c5 .before .before in
+    let c7 = c6 .before in
+    let c8 = c7 .before .before in
+    let c9 = c8 .before in
+    let c10 = c9 .before .before in
+    let c11 = c10 .before in (
+      simp (
+        sym (c1 .starts6 .ensures) ∙ c .if6 .left,
+        sym (c3 .starts5 .ensures) ∙ c2 .if5 .left,
+        sym (c5 .starts4 .ensures) ∙ c4 .if4 .left,
+        sym (c7 .starts3 .ensures) ∙ c6 .if3 .left,
+        sym (c9 .starts2 .ensures) ∙ c8 .if2 .left,
+        sym (c11 .starts .ensures) ∙ c10 .if1 .left,
       ),
       search needs,
     )
@@ -128,4 +162,7 @@ key-of-rare-spec =
     slice-aggregate-starts-5
     starts-requires-5
     returns-5
-    returns-6)
+    slice-aggregate-starts-6
+    starts-requires-6
+    returns-6
+    returns-7)

@@ -1,0 +1,137 @@
+-- Every joined call keeps the disk's rule; and under rule 2 a frozen place stays named until a clean-up or a start is accepted. Assumes nothing.
+use Prim.Native.Nat.{ℕ}
+use mathlib.Core.Bool.{_||_, false, true}
+use mathlib.Core.List.{List, [], _∷_}
+use mathlib.Core.Logic.{_↔_, _⊎_, inl, inr, ⊎-elim}
+use mathlib.Core.Option.{some}
+use mathlib.Core.Path.{_∙_, _≡_, ap, refl, subst, sym}
+use borrow.Author.Tests.{eq-eqb, eqb-false, eqb-true}
+use lib.Dec.{eqb}
+use Rattle.base.proofs.Maps.{flagged-some}
+use Rattle.base.proofs.Tests.{and-both, and-false-iff, and-iff, clash, never, or-cases, or-iff, or-inl, or-inr, split}
+use Rattle.blockcache.proofs.Demand2.{store-accepted, store-allowed}
+use Rattle.blockcache.proofs.Numbers.{number-decides}
+use Rattle.blockcache.proofs.OpKinds.{on-ready-iff}
+use Rattle.blockcache.specs.Abstract.{cacheVars}
+use Rattle.blockcache.specs.Narrowings.{narrowed}
+use Rattle.blockcache.specs.Rows.{frozenHeld}
+use Rattle.blockcache.specs.Step.{outsideLimits}
+use Rattle.blockcache.specs.Steps.{freezeStep, isCleanUp, isCrash, isStart, stepOf, steps, writeBackIndirectionTableRespStep}
+use Rattle.blockcache.specs.Upstream.{Ready, ready}
+use Rattle.blockcache.specs.declared.Call.{Call}
+use Rattle.blockcache.specs.declared.Settings.{Settings}
+use Rattle.blockdisk.proofs.Rules.{crash-keeps-rule, step-keeps-rule}
+use Rattle.blockdisk.specs.Upstream.{diskVars}
+use Rattle.blockdisk.specs.declared.Records.{Records}
+use Rattle.disklayout.specs.declared.Location.{Location}
+use Rattle.blocksystem.proofs.Accepting.{joined-zero}
+use Rattle.blocksystem.proofs.After.{run-cut, starts-cut}
+use Rattle.blocksystem.proofs.EveryStep.{second-same}
+use Rattle.blocksystem.proofs.Invariant.{InPhase, Invariant, pictureMaps}
+use Rattle.blocksystem.proofs.Keep.{first-keeps, run-keeps}
+use Rattle.blocksystem.specs.Frozen.{FrozenStays, renames}
+use Rattle.blocksystem.specs.Joined.{diskAsked, diskCall, joined, joinedAnswer, settingsOf}
+use Rattle.blocksystem.specs.Names.{picturesAfter}
+use Rattle.blocksystem.specs.Run.{acceptsStep, after, asked, Every, JoinedCall, moved, startsNamed, State, step}
+use Rattle.blocksystem.specs.Upstream.{unlessWriting}
+
+-- THE RULE STAYS
+
+module _ (d : ℕ) where
+  pub call-keeps-rule : (s : State) (k : JoinedCall) → moved d s k .disk .rule ≡ s .disk .rule
+  unfolding joined diskAsked
+  call-keeps-rule s (step n q o) =
+      split (eqb (joinedAnswer d n q o (s .cache) (s .disk)) 0)
+      (λ t. rw t (split (isCrash n) (λ x. rw x (crash-keeps-rule d (s .disk) o)) (λ x. rw x (step-keeps-rule d (s .disk) (diskCall n q)))))
+      (λ t. rw t refl)
+
+  pub run-keeps-rule : (calls : List JoinedCall) (s : State) → after d s calls .disk .rule ≡ s .disk .rule
+  unfolding after
+  run-keeps-rule [] s = refl
+  run-keeps-rule (k ∷ ks) s = run-keeps-rule ks (moved d s k) ∙ call-keeps-rule s k
+
+-- AN ACCEPTED STEP WHILE A FROZEN PLACE IS NAMED
+
+module _ (d : ℕ) (s : State) (v : Invariant d s) (there : s .pictures .second .present ≡ true) (q : Call) (o : Records) where
+  abbrev g : Settings
+  g = settingsOf d (s .disk)
+
+  abbrev place : Location
+  place = s .pictures .second .place
+
+  abbrev Accepted : ℕ → Type 0
+  Accepted n = joinedAnswer d n q o (s .cache) (s .disk) ≡ 0
+
+  -- in Ready it is the cache's, and no table write is outstanding
+  in-ready : (x : Ready) → cacheVars (s .cache) ≡ ready x → unlessWriting (x .outstandingIndirectionTableWrite) (x .frozenIndirectionTableLoc) ≡ some place
+  in-ready x e =
+      let r = subst (λ y. InPhase y (diskVars d (s .disk)) (pictureMaps (s .pictures))) e (v .whole .phase) in
+      sym (r .frozen-place .place-is) ∙ rw there refl
+
+  -- so no answer to its write is accepted
+  not-4 : Accepted 4 → ⊥
+  unfolding stepOf steps
+  not-4 e =
+      let to = store-allowed g (s .cache) 4 q (joined-zero d 4 q o (s .cache) (s .disk) .0 e .0) in
+      let k = rw (number-decides 4 (to .0) writeBackIndirectionTableRespStep (to .1) refl) at (to .2) in
+      let on = k .2 .2 in
+      never (rw (on .2 .2 .awaited) at (in-ready (on .0) (on .1)))
+
+  -- nor, under rule 2, a Freeze, by the narrowing
+  unset : s .disk .rule ≡ 2 → Accepted 12 → s .cache .places .isfrozen ≡ false
+  unfolding narrowed stepOf steps
+  unset two e =
+      let n = store-accepted g (s .cache) 12 q .0 (joined-zero d 12 q o (s .cache) (s .disk) .0 e .0) .0 in
+      and-false-iff (eqb (s .disk .rule) 2) (s .cache .places .isfrozen) .0 (or-iff (outsideLimits g (s .cache) 12 q) (frozenHeld g (s .cache)) .0 n .1) (eq-eqb _ _ two)
+
+  not-12 : s .disk .rule ≡ 2 → Accepted 12 → ⊥
+  unfolding stepOf steps
+  not-12 two e =
+      let to = store-allowed g (s .cache) 12 q (joined-zero d 12 q o (s .cache) (s .disk) .0 e .0) in
+      let k = rw (number-decides 12 (to .0) freezeStep (to .1) refl) at (to .2) in
+      let on = k .2 in
+      let l = rw (on .2 .2 .no-table-write) at (in-ready (on .0) (on .1)) in
+      let r = on-ready-iff (s .cache) (λ x. x .frozenIndirectionTableLoc ≡ some place) .0 (on .0, on .1, l) in
+      clash (flagged-some (s .cache .places .isfrozen) (s .cache .places .frozen) (r .1) .0) (unset two e)
+
+  step-stays : (n : ℕ) → s .disk .rule ≡ 2 → Accepted n → (isCleanUp n || isStart n) ≡ false → picturesAfter n q (s .pictures) .second ≡ s .pictures .second
+  step-stays n two e h =
+      let b = or-iff (isCleanUp n) (isStart n) .0 h in
+      second-same n q (s .pictures) (λ x. not-4 (rw x at e)) (eqb-false n 10 (b .1)) (λ x. not-12 two (rw x at e)) (eqb-false n 13 (b .0))
+
+-- ANY CALL
+
+-- accepted, and a clean-up or a start
+pub renames-iff : (d : ℕ) (s : State) (n : ℕ) (q : Call) (o : Records) → (renames d s (step n q o) ≡ true) ↔ ((asked d s n q o .answer ≡ 0) × ((n ≡ 13) ⊎ (n ≡ 10)))
+renames-iff d s n q o = (
+  (λ h. let b = and-iff (acceptsStep d s n q o) (isCleanUp n || isStart n) .0 h in
+      (eqb-true _ _ (b .0), ⊎-elim (λ x. inl (eqb-true n 13 x)) (λ x. inr (eqb-true n 10 x)) (or-cases (isCleanUp n) (isStart n) (b .1)))),
+  (λ (a, u). and-both (eq-eqb _ _ a) (⊎-elim (λ x. or-inl (isStart n) (eq-eqb n 13 x)) (λ x. or-inr (isCleanUp n) (eq-eqb n 10 x)) u)),
+)
+
+module _ (d : ℕ) where
+  call-stays : (s : State) (k : JoinedCall) → Invariant d s → s .disk .rule ≡ 2 → s .pictures .second .present ≡ true → renames d s k ≡ false →
+      moved d s k .pictures .second ≡ s .pictures .second
+  unfolding joined
+  call-stays s (step n q o) v two there h =
+      split (acceptsStep d s n q o)
+      (λ t. rw t (step-stays d s v there q o n two (eqb-true _ _ t) (and-false-iff (acceptsStep d s n q o) (isCleanUp n || isStart n) .0 h t)))
+      (λ t. rw t refl)
+
+  -- ANY LIST
+
+  run-stays : (calls : List JoinedCall) (s : State) → Invariant d s → startsNamed d s calls ≡ true → s .disk .rule ≡ 2 → s .pictures .second .present ≡ true →
+      Every d (λ t k. renames d t k ≡ false) s calls → after d s calls .pictures .second ≡ s .pictures .second
+  unfolding after
+  run-stays [] s v n two there none = refl
+  run-stays (k ∷ ks) s v n two there none =
+      let same = call-stays s k v two there (none .0) in
+      let rest = first-keeps d s k ks v n in
+      run-stays ks (moved d s k) (rest .0) (rest .1) (call-keeps-rule d s k ∙ two) (ap (λ m. m .present) same ∙ there) (none .1) ∙ same
+
+  pub frozen-stays : (calls : List JoinedCall) (s : State) → Invariant d s → startsNamed d s calls ≡ true → s .disk .rule ≡ 2 → FrozenStays d s calls
+  frozen-stays calls s v n two front back e there none =
+      let cut = starts-cut d front back s (subst (λ l. startsNamed d s l ≡ true) e n) in
+      let f = after d s front in
+      ap (λ l. after d s l .pictures .second) e ∙ ap (λ x. x .pictures .second) (run-cut d front back s)
+      ∙ run-stays back f (run-keeps d front s v (cut .0)) (cut .1) (run-keeps-rule d front s ∙ two) there none
