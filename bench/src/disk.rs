@@ -1,4 +1,4 @@
-//! The disk: two table areas, 128 node blocks, four queues.
+//! The disk: two table areas, 128 node blocks, four queues, the freeze rule.
 
 use crate::layout::{self, Location};
 use crate::sector::{Node, Request, Requests, Table};

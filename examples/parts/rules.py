@@ -1,6 +1,5 @@
 # The freeze rules (Q-8): the example's script, and the rows of 25 and of `rule=`.
 from parts.lines import *
-from parts.steps import write
 from parts.stories import xpaged,xtable
 
 # THE EXAMPLE
@@ -56,7 +55,7 @@ def rules():
 
 # THE ROWS
 def named(areas): l('audit',*['place=%s %s'%(p,OK) for p in areas])
-# a change of the root to block k, frozen, its table at a place that is named then (the device's table places and node addresses)
+# the root changed and written at an address, frozen, its table written to a place, which is named then
 def to_named(place,at,low):
     a('step=15 v=AdvanceOp node=%d:'%low,0)
     a('step=1 d=ReqWriteNodeOp id=2 loc=%d+4096 node=cached'%at,0)
@@ -97,11 +96,24 @@ def before_25():
         a('step=12 v=FreezeOp d=ReqReadNodeOp id=9 loc='+block(0),3)
         named([AREA1,AREA2])
     a('step=12 v=FreezeOp',25); a('step=12 v=FreezeOp',25)
+def not_ended():
+    c(b'A clean-up that is refused ends no frozen name, nor does a formatting that is refused: its rule is not taken.')
+    a('step=13 v=FreezeOp',2); a('step=13 v=CleanUpOp ref=64',1); a('format device=0 contents=5 rule=3',1); a('format device=3 contents=5 rule=1',1)
+    named([AREA1,AREA2])
+    a('step=12 v=FreezeOp',25)
     a('step=12 v=FreezeOp ref=63 node=7:63 table=63:',25)
     a('step=14',0); a('step=15 v=AdvanceOp node=9:',0); a('step=12 v=FreezeOp',25)
+def through_crashes():
     c(b'A crash keeps the rule, and the frozen place stays named until a start; there 4 comes first.')
     a('step=18 v=CrashOp',0)
     named([AREA1,AREA2])
+    a('step=12 v=FreezeOp',4)
+    a('step=18 v=CrashOp',0)
+    c(b'No refused start ends it: at another length nothing is stored, and one byte further is no place of a table.')
+    a('step=10 v=SendPersistentLocOp vloc=139264+8192',20); a('step=10 v=SendPersistentLocOp vloc=139265+4096',6)
+    named([AREA1,AREA2])
+    a('step=10 v=SendPersistentLocOp vloc='+AREA1,0)
+    named([AREA1])
     a('step=12 v=FreezeOp',4)
     a('step=18 v=CrashOp',0)
     page_root(AREA1,262144)
@@ -113,21 +125,34 @@ def before_25():
     a('step=12 v=FreezeOp',0)
     named([AREA2])
     a('step=13 v=CleanUpOp',11)
+def not_reported():
+    c(b'A place that is set and not reported yet is not named: after a crash while its table is being written a freeze is taken.')
+    a('step=3 d=ReqWriteIndirectionTableOp id=3 loc=%s table=frozen'%AREA1,0)
+    a('step=12 v=FreezeOp',10)
+    named([AREA2])
+    a('step=18 v=CrashOp table1=none',0)
+    named([AREA2])
+    page_root(AREA2,393216)
+    a('step=12 v=FreezeOp',0)
 def rule_words():
     c(b'Any 64-bit number may be written; what is neither 1 nor 2 is refused with 1, and the sequence before it stays.')
     for r in ['0','3','4','257','4294967297','9223372036854775810',M]: a('format device=0 contents=5 rule='+r,1)
     for d,r in [(3,1),(3,2),(3,3)]: a('format device=%d contents=5 rule=%d'%(d,r),1)
     named([AREA2])
     c(b'The three words in any order.')
-    for s in ['device=0 contents=5 rule=2','device=0 rule=2 contents=5','rule=2 contents=5 device=0','contents=3.4 rule=1 device=0','rule=1 device=0 contents=5']: a('format '+s,0)
+    for s,answer in [('device=0 rule=2 contents=5',25),('rule=2 contents=5 device=0',25),('contents=5 rule=1 device=0',0),('rule=1 device=0 contents=5',0)]:
+        a('format '+s,0)
+        page_root(AREA1,262144); to_named(AREA2,327680,8)
+        a('step=12 v=FreezeOp',answer)
     c(b'What is not of the form.')
     for r in ['','x','+1','-1','01','1.','.1','0.1','1.0','1,2','1x','0x1','18446744073709551616','20000000000000000000']: e('format device=0 contents=5 rule='+r)
     for s in [
-        'format device=0 rule=1','format contents=5 rule=1','format rule=1','format device=0 contents=5 rule=1 rule=1','format device=0 contents=5 rule=1 rule=2','format device=0 contents=5 rule',
-        'format device=0 contents=5  rule=1','format device=0 contents=5 rule=1 ','format device=0 contents=5 Rule=1','format device=0 contents=5 rules=1','step=14 rule=1','step=12 v=FreezeOp rule=2',
-        'step=18 v=CrashOp rule=1','place device=0 loc=0+4096 rule=1','audit rule=1','show rule=1','rule=2','rule=2 device=0 contents=5'
+        'format device=0 rule=1','format contents=5 rule=1','format rule=1','format device=0 contents=5 rule=1 rule=1','format device=0 contents=5 rule=1 rule=2',
+        'format device=0 contents=5 rule','format device=0 contents=5  rule=1','format device=0 contents=5 rule=1 ','format device=0 contents=5 Rule=1',
+        'format device=0 contents=5 rules=1','step=14 rule=1','step=12 v=FreezeOp rule=2','step=18 v=CrashOp rule=1','place device=0 loc=0+4096 rule=1','audit rule=1','show rule=1','rule=2',
+        'rule=2 device=0 contents=5'
     ]: e(s)
     named([AREA1])
     c(b'')
 def rule_rows():
-    each_device(); before_25(); rule_words()
+    each_device(); before_25(); not_ended(); through_crashes(); not_reported(); rule_words()

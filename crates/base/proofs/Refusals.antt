@@ -3,9 +3,9 @@ use Prim.Native.Nat.{_<_, _≤_, ℕ}
 use mathlib.Core.Bool.{Bool, _&&_, _||_, and-false, cond, false, false≢true, true}
 use mathlib.Core.List.{List, [], _∷_}
 use mathlib.Core.Logic.{_↔_}
-use mathlib.Core.Path.{_≡_, refl}
+use mathlib.Core.Path.{_≡_, refl, sym}
 use native.Mathlib.Omega.{arith}
-use borrow.Author.Tests.{eq-eqb, eqb-true, leb-false, leb-true, ltb-true, ne-eqb}
+use borrow.Author.Tests.{eq-eqb, eqb-false, eqb-true, le-leb, leb-false, leb-true, ltb-true, ne-eqb}
 use lib.Dec.{eqb, leb, ltb}
 use Rattle.base.proofs.Tests.{and-left, and-right, clash, or-inr, split}
 use Rattle.base.specs.Refusals.{Row, _when_, answer, ascending, ascendingFrom, holds, lowest}
@@ -92,3 +92,22 @@ lowest-zero a b = (to, (λ h. rw (eq-eqb a 0 (h .0)) (h .1)))
         split (eqb a 0) (λ t. (eqb-true a 0 t, rw t at e))
         (λ f. split (eqb b 0) (λ t. let z : a ≡ 0 = rw (f, t) at e in clash (eq-eqb a 0 z) f)
         (λ g. split (leb a b) (λ t. let z : a ≡ 0 = rw (f, g, t) at e in clash (eq-eqb a 0 z) f) (λ t. let z : b ≡ 0 = rw (f, g, t) at e in clash (eq-eqb b 0 z) g)))
+
+-- of an answer and 0 it is that answer
+pub lowest-right : (a : ℕ) → lowest a 0 ≡ a
+lowest-right a = split (eqb a 0) (λ t. rw t (sym (eqb-true a 0 t))) (λ t. rw t refl)
+
+-- where either is 1 it is 1
+pub lowest-one-left : (b : ℕ) → lowest 1 b ≡ 1
+lowest-one-left b =
+    split (eqb b 0)
+    (λ t. rw t refl)
+    (λ t. let ne = eqb-false b 0 t in let le : leb 1 b ≡ true = le-leb 1 b (omega (arith, ne)) in rw (t, le) refl)
+
+pub lowest-one-right : (a : ℕ) → lowest a 1 ≡ 1
+lowest-one-right a =
+    split (eqb a 0)
+    (λ t. rw t refl)
+    (λ t. split (leb a 1)
+    (λ l. let ne = eqb-false a 0 t in let le = leb-true a 1 l in let e : a ≡ 1 = omega (arith, ne, le) in rw (t, l) e)
+    (λ l. rw (t, l) refl))

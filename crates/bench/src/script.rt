@@ -32,7 +32,7 @@ use sectortype::Node;
 use system::Store;
 
 // Under rule 2 the freeze of call 59 is refused, and the frozen place is there for the clean-up after it.
-const RULE: u64 = 2;
+const RULE_2: u64 = 2;
 
 // Reference r as the script first writes it: it names the one before it, and the root.
 fn leaf(base: u64, r: u8) -> Node {
@@ -209,7 +209,7 @@ fn again(s: State) -> State {
 // The store newly formatted on this device, under rule 2, for the round of this number; counts and checksum as they were.
 fn formatted(s: State, device: u64, base: u64) -> State {
     let x = contents(base, 0);
-    let o = Store::format(device, x, RULE);
+    let o = Store::format(device, x, RULE_2);
     State {
         device,
         base,
@@ -234,7 +234,7 @@ pub fn round(s: State, i: u64) -> State {
 // Nothing called yet.
 pub fn start() -> State {
     let x = sector::zero_contents();
-    let o = Store::format(0, x, RULE);
+    let o = Store::format(0, x, RULE_2);
     State {
         device: 0,
         base: 0,

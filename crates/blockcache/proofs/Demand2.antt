@@ -1,5 +1,5 @@
 -- Demand 2 for the cache: a call is accepted exactly where upstream's NextStep allows some next state and no narrowing refuses it, and then the
--- state handed back is one that upstream allows. For any device, cache, call and step number but those of document 02's steps, which upstream
+-- state handed back is one that upstream allows. For any settings, cache, call and step number but those of document 02's steps, which upstream
 -- doesn't have: LetGo.antt has their laws, from the same theorem over every step of the store. Assumes nothing.
 use Prim.Native.Nat.{_≤_, ℕ}
 use mathlib.Core.Bool.{false, true}

@@ -27,6 +27,7 @@ use Rattle.blockcache.proofs.ReadAnswers.{awaits-read-is, table-not-nod
 use Rattle.blockcache.proofs.ReadSteps.{page-in-node-req-exact, page-in-node-resp-exact, page-in-table-req-exact, page-in-table-resp-exact, receive-loc-exact}
 use Rattle.blockcache.proofs.WriteSteps.{write-back-node-req-exact, write-back-node-resp-exact, write-back-table-req-exact, write-back-table-resp-exact}
 use Rattle.blockcache.specs.Form.{awaitedForm, isReady, loadingPhase, notWaiting}
+use Rattle.blockcache.specs.Freezing.{withRule}
 use Rattle.blockcache.specs.LetGo.{LetNodeGo, StoreStep}
 use Rattle.blockcache.specs.Next.{assigned, cachedSlot, nodeSet, stepNext, unlocated, waitingFor, withAwaited, withEphemeral, withNodes, withPlaces, withTables, withWrites}
 use Rattle.blockcache.specs.NextStep.{OnBoth}
@@ -107,13 +108,9 @@ module _ (g : Settings) (c : CacheState) (q : Call) (b : Bool) where
 
 -- THE FREEZE RULE
 
--- a device under a rule
-abbrev pub under : ℕ → ℕ → Settings
-under d r = record { device = d; rule = r }
-
-module _ (d : ℕ) (c : CacheState) (q : Call) where
+module _ (g : Settings) (c : CacheState) (q : Call) where
   -- a step other than Freeze has the same rows under both rules
-  pub rows-of-rule : (step : Step) → (numberOf step ≡ 12 → ⊥) → stepRows (under d 2) c q step ≡ stepRows (under d 1) c q step
+  pub rows-of-rule : (step : Step) → (numberOf step ≡ 12 → ⊥) → stepRows (withRule g 2) c q step ≡ stepRows (withRule g 1) c q step
   rows-of-rule writeBackNodeReqStep ne = refl
   rows-of-rule writeBackNodeRespStep ne = refl
   rows-of-rule writeBackIndirectionTableReqStep ne = refl

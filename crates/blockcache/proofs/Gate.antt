@@ -49,7 +49,7 @@ module _ (g : Settings) (c : CacheState) (n : ℕ) (q : Call) where
   unfolding cacheStep
   step-is = refl
 
-  -- not in its written form, or on no such device
+  -- not in its written form, on no such device or under no such rule
   pub step-unformed : wellFormed g c q ≡ false → cacheStep g c n q ≡ answered 1 c
   unfolding answer
   step-unformed w = step-is ∙ rw w

@@ -1,4 +1,4 @@
--- Step 19 over any device, cache and call, in demand 2's manner; and what NoOp leaves to it. Assumes nothing.
+-- Step 19 over any settings, cache and call, in demand 2's manner; and what NoOp leaves to it. Assumes nothing.
 use Prim.Native.Nat.{_<_, ℕ}
 use mathlib.Core.Bool.{_||_, and-false, false, or-false, true}
 use mathlib.Core.Logic.{_↔_, inl, inr, ⊎-elim}

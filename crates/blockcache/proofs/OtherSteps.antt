@@ -1,4 +1,4 @@
--- Steps 12 to 14 and 18: accepted exactly where upstream allows them, but for NoOp's narrowing. Assumes nothing.
+-- Steps 12 to 14 and 18: accepted exactly where upstream allows them, but for Freeze's narrowing, under rule 2, and NoOp's. Assumes nothing.
 use mathlib.Core.Bool.{false}
 use mathlib.Core.Path.{_≡_, refl}
 use Rattle.base.proofs.Flagged.{flagged-is-iff, flagged-none-iff}

@@ -60,7 +60,8 @@ unfolding nodeQueueForm
 empty-node-queue d = queue-iff (nodeRequestOk d) emptyRequests .1 (none-form, (λ id w e. never (rw none-map at e)))
 
 -- records in form and place, and nothing outstanding
-pub crashed-form : (d : ℕ) (s : DiskState) (o : Records) → made d ≡ true → isRule (s .rule) ≡ true → recordsChecked d o .form ≡ true → recordsChecked d o .placed ≡ true → diskForm d (crashed s o) ≡ true
+pub crashed-form : (d : ℕ) (s : DiskState) (o : Records) → made d ≡ true → isRule (s .rule) ≡ true → recordsChecked d o .form ≡ true → recordsChecked d o .placed ≡ true →
+    diskForm d (crashed s o) ≡ true
 crashed-form d s o on rule form placed =
     disk-form-iff d (crashed s o) .1
     (record {

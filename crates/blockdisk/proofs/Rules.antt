@@ -1,6 +1,6 @@
--- The freeze rule is 1 or 2, and every transition of the disk keeps it: any call and any crash, accepted or refused. Assumes nothing.
+-- The freeze rule is 1 or 2: a disk that carries another is refused with 1 by any call and any crash; and these keep it, accepted or refused. Assumes nothing.
 use Prim.Native.Nat.{ℕ}
-use mathlib.Core.Bool.{Bool, cond, false, true}
+use mathlib.Core.Bool.{and-false, Bool, cond, false, true}
 use mathlib.Core.Logic.{_↔_, _⊎_, ⊎-elim, inl, inr}
 use mathlib.Core.Path.{_≡_, refl}
 use borrow.Author.Tests.{eqb-true}
@@ -8,7 +8,7 @@ use lib.Dec.{eqb}
 use Rattle.base.proofs.Tests.{or-cases}
 use Rattle.base.specs.Refusals.{answer}
 use Rattle.blockdisk.specs.Crash.{crashed, crashRows, diskCrash}
-use Rattle.blockdisk.specs.Form.{isRule}
+use Rattle.blockdisk.specs.Form.{diskForm, isRule}
 use Rattle.blockdisk.specs.Ops.{diskRows, diskStep, nextDisk}
 use Rattle.blockdisk.specs.declared.DiskCall.{DiskCall}
 use Rattle.blockdisk.specs.declared.DiskOp.{DiskOp}
@@ -25,6 +25,23 @@ rule-iff r = (
   (λ e. ⊎-elim (λ x. inl (eqb-true r 1 x)) (λ x. inr (eqb-true r 2 x)) (or-cases (eqb r 1) (eqb r 2) e)),
   (λ h. ⊎-elim (λ e. rw e refl) (λ e. rw e refl) h),
 )
+
+-- ANOTHER IS REFUSED
+
+module _ (d : ℕ) (s : DiskState) (e : isRule (s .rule) ≡ false) where
+  unformed : diskForm d s ≡ false
+  unfolding diskForm
+  unformed = rw (e, and-false) refl
+
+  pub no-rule-refused : (c : DiskCall) → diskStep d s c ≡ record { answer = 1; disk = s }
+  unfolding diskStep answer
+  no-rule-refused c = rw unformed refl
+
+  pub no-rule-crash : (o : Records) → diskCrash d s o ≡ record { answer = 1; disk = s }
+  unfolding diskCrash answer
+  no-rule-crash o = rw unformed refl
+
+-- IT IS KEPT
 
 next-rule : (d : ℕ) (s : DiskState) (op : DiskOp) (n : Node) (t : Table) → nextDisk d s op n t .rule ≡ s .rule
 next-rule d s (ReqReadIndirectionTableOp id l) n t = refl

@@ -1,4 +1,4 @@
-// Upstream's BlockDisk as definitions: two table areas, 128 node blocks and four queues of what is outstanding; what each call and a
+// Upstream's BlockDisk as definitions: two table areas, 128 node blocks, four queues of what is outstanding, the freeze rule; what each call and a
 // crash answers and leaves, upstream's predicates, and the theorem of demand 2. No code: `disk` has the calls.
 use disklayout::Location;
 use queue::Requests;
@@ -33,8 +33,9 @@ pub struct Queues {
     pub nodewrites: Requests,
 }
 
-// The freeze rule that the device was formatted with (document 02, Q-8), 1 or 2, beside all that upstream's disk has. No transition changes it.
+// All that upstream's disk has, and the freeze rule.
 pub struct DiskState {
+    // The rule that the device was formatted with (document 02, Q-8), 1 or 2: no transition changes it.
     pub rule: u64,
     pub records: Records,
     pub queues: Queues,

@@ -1,6 +1,7 @@
 -- DEMAND 3, and all else that is promised of a list: along every list of joined calls, crashes between any two included, from a newly formatted device,
 -- each call is answered as documents 01 and 02 fix, no accepted read differs from the working picture, and afterwards a place is named, no reference is
--- lost, added or altered at a named place, no start there is refused with 20, the cache in Ready agrees with the working picture, and no wait is for ever.
+-- lost, added or altered at a named place, no start there is refused with 20, the cache in Ready agrees with the working picture, the disk has its rule
+-- still, under rule 2 a frozen place stayed named until a clean-up or a start was accepted, and no wait is for ever. The rule is a variable throughout.
 -- Assumes nothing.
 use Prim.Native.Nat.{ℕ}
 use mathlib.Core.Bool.{true}

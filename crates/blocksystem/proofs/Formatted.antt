@@ -23,6 +23,7 @@ use Rattle.blockdisk.proofs.Crashing.{crashed-form, empty-records-form, empty-r
 use Rattle.blockdisk.proofs.Kept.{with-node-form, with-node-placed, with-table-form, with-table-placed}
 use Rattle.blockdisk.proofs.Rules.{rule-iff}
 use Rattle.blockdisk.proofs.Reading.{node-written, table-leaves-nodes, table-written, upstream-of, with-node-is, with-table-is}
+use Rattle.blockdisk.specs.Crash.{emptyQueues}
 use Rattle.blockdisk.specs.Form.{diskForm, isRule, recordsChecked}
 use Rattle.blockdisk.specs.Records.{emptyRecords, withNode, withTable}
 use Rattle.blockdisk.specs.Upstream.{diskVars, nodesStored, upstreamTables}
@@ -256,8 +257,9 @@ module _ (d : ℕ) (x : Contents) (r : ℕ) where
   pub formatted-rule : formatted d x r .answer ≡ 0 → formatted d x r .disk .rule ≡ r
   formatted-rule e = let h = and-iff (made d) (isRule r) .0 (accepted-by e) in ap (λ o. o .disk .rule) (formatted-is d x (h .0) r (h .1))
 
-  -- else it is 1 and zeros
-  pub formatted-refused : (formatted d x r .answer ≡ 0 → ⊥) → formatted d x r ≡ record { answer = 1; node = zeroNode; cache = emptyCache; disk = emptyDisk }
+  -- else it is 1 and zeros, the rule too
+  pub formatted-refused : (formatted d x r .answer ≡ 0 → ⊥) →
+      formatted d x r ≡ record { answer = 1; node = zeroNode; cache = emptyCache; disk = record { rule = 0; records = emptyRecords; queues = emptyQueues } }
   formatted-refused ne =
       split (made d && isRule r)
       (λ t. let h = and-iff (made d) (isRule r) .0 t in absurd (ne (ap (λ o. o .answer) (formatted-is d x (h .0) r (h .1)))))

@@ -1,21 +1,17 @@
 -- Every joined call keeps the disk's rule; and under rule 2 a frozen place stays named until a clean-up or a start is accepted. Assumes nothing.
 use Prim.Native.Nat.{ℕ}
 use mathlib.Core.Bool.{_||_, false, true}
-use mathlib.Core.List.{List, [], _∷_}
+use mathlib.Core.List.{List, [], _++_, _∷_}
 use mathlib.Core.Logic.{_↔_, _⊎_, inl, inr, ⊎-elim}
 use mathlib.Core.Option.{some}
 use mathlib.Core.Path.{_∙_, _≡_, ap, refl, subst, sym}
+use native.Mathlib.Omega.{arith}
 use borrow.Author.Tests.{eq-eqb, eqb-false, eqb-true}
 use lib.Dec.{eqb}
-use Rattle.base.proofs.Maps.{flagged-some}
-use Rattle.base.proofs.Tests.{and-both, and-false-iff, and-iff, clash, never, or-cases, or-iff, or-inl, or-inr, split}
-use Rattle.blockcache.proofs.Demand2.{store-accepted, store-allowed}
+use Rattle.base.proofs.Tests.{and-both, and-false-iff, and-iff, never, or-cases, or-iff, or-inl, or-inr, split}
+use Rattle.blockcache.proofs.Demand2.{cache-accepted, store-allowed}
 use Rattle.blockcache.proofs.Numbers.{number-decides}
-use Rattle.blockcache.proofs.OpKinds.{on-ready-iff}
 use Rattle.blockcache.specs.Abstract.{cacheVars}
-use Rattle.blockcache.specs.Narrowings.{narrowed}
-use Rattle.blockcache.specs.Rows.{frozenHeld}
-use Rattle.blockcache.specs.Step.{outsideLimits}
 use Rattle.blockcache.specs.Steps.{freezeStep, isCleanUp, isCrash, isStart, stepOf, steps, writeBackIndirectionTableRespStep}
 use Rattle.blockcache.specs.Upstream.{Ready, ready}
 use Rattle.blockcache.specs.declared.Call.{Call}
@@ -25,14 +21,15 @@ use Rattle.blockdisk.specs.Upstream.{diskVars}
 use Rattle.blockdisk.specs.declared.Records.{Records}
 use Rattle.disklayout.specs.declared.Location.{Location}
 use Rattle.blocksystem.proofs.Accepting.{joined-zero}
-use Rattle.blocksystem.proofs.After.{run-cut, starts-cut}
+use Rattle.blocksystem.proofs.After.{run-cut, run-one, starts-cut}
 use Rattle.blocksystem.proofs.EveryStep.{second-same}
+use Rattle.blocksystem.proofs.Freezing.{accepted-form, joined-25-iff}
 use Rattle.blocksystem.proofs.Invariant.{InPhase, Invariant, pictureMaps}
 use Rattle.blocksystem.proofs.Keep.{first-keeps, run-keeps}
-use Rattle.blocksystem.specs.Frozen.{FrozenStays, renames}
+use Rattle.blocksystem.specs.Frozen.{FrozenStays, endsFrozen}
 use Rattle.blocksystem.specs.Joined.{diskAsked, diskCall, joined, joinedAnswer, settingsOf}
 use Rattle.blocksystem.specs.Names.{picturesAfter}
-use Rattle.blocksystem.specs.Run.{acceptsStep, after, asked, Every, JoinedCall, moved, startsNamed, State, step}
+use Rattle.blocksystem.specs.Run.{acceptsStep, after, afterStep, asked, Every, JoinedCall, moved, startsNamed, State, step}
 use Rattle.blocksystem.specs.Upstream.{unlessWriting}
 
 -- THE RULE STAYS
@@ -77,22 +74,16 @@ module _ (d : ℕ) (s : State) (v : Invariant d s) (there : s .pictures .second 
       let on = k .2 .2 in
       never (rw (on .2 .2 .awaited) at (in-ready (on .0) (on .1)))
 
-  -- nor, under rule 2, a Freeze, by the narrowing
-  unset : s .disk .rule ≡ 2 → Accepted 12 → s .cache .places .isfrozen ≡ false
-  unfolding narrowed stepOf steps
-  unset two e =
-      let n = store-accepted g (s .cache) 12 q .0 (joined-zero d 12 q o (s .cache) (s .disk) .0 e .0) .0 in
-      and-false-iff (eqb (s .disk .rule) 2) (s .cache .places .isfrozen) .0 (or-iff (outsideLimits g (s .cache) 12 q) (frozenHeld g (s .cache)) .0 n .1) (eq-eqb _ _ two)
-
+  -- nor, under rule 2, a Freeze: it gives 25
   not-12 : s .disk .rule ≡ 2 → Accepted 12 → ⊥
-  unfolding stepOf steps
+  unfolding joined stepOf steps
   not-12 two e =
-      let to = store-allowed g (s .cache) 12 q (joined-zero d 12 q o (s .cache) (s .disk) .0 e .0) in
-      let k = rw (number-decides 12 (to .0) freezeStep (to .1) refl) at (to .2) in
+      let allowed = cache-accepted g (s .cache) 12 q refl .0 (joined-zero d 12 q o (s .cache) (s .disk) .0 e .0) .1 in
+      let k = rw (number-decides 12 (allowed .0) freezeStep (allowed .1) refl) at (allowed .2 .1) in
       let on = k .2 in
       let l = rw (on .2 .2 .no-table-write) at (in-ready (on .0) (on .1)) in
-      let r = on-ready-iff (s .cache) (λ x. x .frozenIndirectionTableLoc ≡ some place) .0 (on .0, on .1, l) in
-      clash (flagged-some (s .cache .places .isfrozen) (s .cache .places .frozen) (r .1) .0) (unset two e)
+      let held = joined-25-iff d s q o .1 (accepted-form d s q o e, allowed, two, (on .0, on .1, (place, l))) in
+      absurd (let w : _≡_ {A = ℕ} 0 25 = sym e ∙ held in omega arith)
 
   step-stays : (n : ℕ) → s .disk .rule ≡ 2 → Accepted n → (isCleanUp n || isStart n) ≡ false → picturesAfter n q (s .pictures) .second ≡ s .pictures .second
   step-stays n two e h =
@@ -101,16 +92,24 @@ module _ (d : ℕ) (s : State) (v : Invariant d s) (there : s .pictures .second 
 
 -- ANY CALL
 
--- accepted, and a clean-up or a start
-pub renames-iff : (d : ℕ) (s : State) (n : ℕ) (q : Call) (o : Records) → (renames d s (step n q o) ≡ true) ↔ ((asked d s n q o .answer ≡ 0) × ((n ≡ 13) ⊎ (n ≡ 10)))
-renames-iff d s n q o = (
+-- what ends a frozen name: an accepted clean-up or start
+pub ends-frozen-iff : (d : ℕ) (s : State) (n : ℕ) (q : Call) (o : Records) → (endsFrozen d s (step n q o) ≡ true) ↔ ((asked d s n q o .answer ≡ 0) × ((n ≡ 13) ⊎ (n ≡ 10)))
+ends-frozen-iff d s n q o = (
   (λ h. let b = and-iff (acceptsStep d s n q o) (isCleanUp n || isStart n) .0 h in
       (eqb-true _ _ (b .0), ⊎-elim (λ x. inl (eqb-true n 13 x)) (λ x. inr (eqb-true n 10 x)) (or-cases (isCleanUp n) (isStart n) (b .1)))),
   (λ (a, u). and-both (eq-eqb _ _ a) (⊎-elim (λ x. or-inl (isStart n) (eq-eqb n 13 x)) (λ x. or-inr (isCleanUp n) (eq-eqb n 10 x)) u)),
 )
 
+-- what the promise says of a list's last call
+pub stays-one : (d : ℕ) (s : State) (front : List JoinedCall) (n : ℕ) (q : Call) (o : Records) → FrozenStays d s (front ++ (step n q o ∷ [])) →
+    after d s front .pictures .second .present ≡ true → endsFrozen d (after d s front) (step n q o) ≡ false →
+    afterStep d (after d s front) n q o .pictures .second ≡ after d s front .pictures .second
+stays-one d s front n q o h there e =
+    let cut = run-cut d front (step n q o ∷ []) s ∙ run-one d (after d s front) n q o in
+    sym (ap (λ x. x .pictures .second) cut) ∙ h front (step n q o ∷ []) refl there (e, tt)
+
 module _ (d : ℕ) where
-  call-stays : (s : State) (k : JoinedCall) → Invariant d s → s .disk .rule ≡ 2 → s .pictures .second .present ≡ true → renames d s k ≡ false →
+  call-stays : (s : State) (k : JoinedCall) → Invariant d s → s .disk .rule ≡ 2 → s .pictures .second .present ≡ true → endsFrozen d s k ≡ false →
       moved d s k .pictures .second ≡ s .pictures .second
   unfolding joined
   call-stays s (step n q o) v two there h =
@@ -121,7 +120,7 @@ module _ (d : ℕ) where
   -- ANY LIST
 
   run-stays : (calls : List JoinedCall) (s : State) → Invariant d s → startsNamed d s calls ≡ true → s .disk .rule ≡ 2 → s .pictures .second .present ≡ true →
-      Every d (λ t k. renames d t k ≡ false) s calls → after d s calls .pictures .second ≡ s .pictures .second
+      Every d (λ t k. endsFrozen d t k ≡ false) s calls → after d s calls .pictures .second ≡ s .pictures .second
   unfolding after
   run-stays [] s v n two there none = refl
   run-stays (k ∷ ks) s v n two there none =

@@ -21,6 +21,7 @@ pub mod Starting
 pub mod Demand2
 pub mod LetGo
 pub mod FormattedInit
+pub mod Freezing
 pub mod Frozen
 pub mod Restart
 pub mod Screen

@@ -141,7 +141,8 @@ module _ (d : ℕ) (s : State) (v : Invariant d s) (q : Call) (o : Records) (op 
   cache-zero : answer (cacheRows (settingsOf d (s .disk)) (s .cache) 19 q) ≡ 0
   unfolding stepOf steps
   cache-zero =
-      let-go-awaited (settingsOf d (s .disk)) (s .cache) q .1 (within d s v 19 q letGoStep (a .limits) refl, a .internal, awaits-read-iff (settingsOf d (s .disk)) (s .cache) q .0 (rw (a .disk) awaits))
+      let g = settingsOf d (s .disk) in
+      let-go-awaited g (s .cache) q .1 (within d s v 19 q letGoStep (a .limits) refl, a .internal, awaits-read-iff g (s .cache) q .0 (rw (a .disk) awaits))
 
   disk-zero : answer (diskRows d (s .disk) (diskCall 19 q)) ≡ 0
   disk-zero = disk-takes d s v 19 q (a .limits) (rw (a .disk) disk)

@@ -1,4 +1,5 @@
--- Formatting: the root in the first node block, length 4,096; its table in area 1, length 4,096; all else empty, the cache Unready.
+-- Formatting: the root in the first node block, length 4,096; its table in area 1, length 4,096; all else empty, the cache Unready;
+-- the disk carries the rule that is named.
 use Prim.Native.Nat.{ℕ}
 use mathlib.Core.Bool.{_&&_, cond, true}
 use lib.ListN.{set}

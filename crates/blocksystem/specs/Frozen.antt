@@ -7,14 +7,14 @@ use Rattle.blockcache.specs.Steps.{isCleanUp, isStart}
 use Rattle.blocksystem.specs.Run.{Every, JoinedCall, State, acceptsStep, after, step}
 
 module _ (d : ℕ) where
-  -- an accepted clean-up or start, which name other places
-  abbrev pub renames : State → JoinedCall → Bool
-  renames s (step n q o) = acceptsStep d s n q o && (isCleanUp n || isStart n)
+  -- an accepted clean-up or start: after either no place is named as frozen
+  abbrev pub endsFrozen : State → JoinedCall → Bool
+  endsFrozen s (step n q o) = acceptsStep d s n q o && (isCleanUp n || isStart n)
 
   -- the list cut in two anywhere: what is named as frozen after the first part is so, with its picture, after the second, if no clean-up and no start was
   -- accepted in it
   abbrev pub FrozenStays : State → List JoinedCall → Type 0
   FrozenStays s calls =
       (front back : List JoinedCall) → calls ≡ front ++ back → after d s front .pictures .second .present ≡ true →
-      Every d (λ t k. renames t k ≡ false) (after d s front) back →
+      Every d (λ t k. endsFrozen t k ≡ false) (after d s front) back →
       after d s calls .pictures .second ≡ after d s front .pictures .second

@@ -51,7 +51,7 @@ fn with_table(c: CacheState) -> CacheState {
     with_frozen(c, true, t)
 }
 
-// 25 is under rule 2 alone, of a set place alone, and after 10.
+// 25 is under rule 2 alone, of a set place alone, and after 10; another rule gives 1.
 fn freezes(name: &[u8], number: u64) {
     let q = freeze_call();
     let nothing = ready();
@@ -124,12 +124,12 @@ fn joined_freezes() {
 fn formats(name: &[u8], device: u64, number: u64) {
     let x = sector::zero_contents();
     let o = Store::format(device, x, number);
-    pair(b"format_with", name, o.answer);
+    pair(b"format_under", name, o.answer);
     let s = o.disk;
-    rule(name, s.rule);
+    rule(b"disk_formatted_under", name, s.rule);
 }
 
-// A crash that is offered the stored records: the rule of the disk after it.
+// A crash that is offered the stored records: its answer, and the rule of the disk after it.
 fn crashes(name: &[u8], number: u64) {
     let vop = VersionOp::CrashOp;
     let q = versioned(vop);
@@ -143,13 +143,15 @@ fn crashes(name: &[u8], number: u64) {
         disk,
     };
     let o = store.step(CRASH, q, offered);
+    pair(b"crash_under", name, o.answer);
     let s = o.disk;
-    rule(name, s.rule);
+    rule(b"disk_after_a_crash_under", name, s.rule);
 }
 
 pub(crate) fn run() {
     freezes(b"under_rule_1", 1);
     freezes(b"under_rule_2", 2);
+    freezes(b"under_rule_3", 3);
     joined_freezes();
     formats(b"rule_0", 0, 0);
     formats(b"rule_1", 0, 1);
@@ -158,6 +160,7 @@ pub(crate) fn run() {
     formats(b"rule_18446744073709551615", 0, 18446744073709551615);
     formats(b"rule_2_on_device_2", 2, 2);
     formats(b"rule_2_on_device_3", 3, 2);
-    crashes(b"after_a_crash_under_rule_1", 1);
-    crashes(b"after_a_crash_under_rule_2", 2);
+    crashes(b"rule_1", 1);
+    crashes(b"rule_2", 2);
+    crashes(b"rule_3", 3);
 }

@@ -1,4 +1,4 @@
-// The disk's one written form (number 1): each record in its own form and place, each queue in its form with places that 16 allows.
+// The disk's one written form (number 1): each record in its own form and place, each queue in its form with places that 16 allows, a rule that is 1 or 2.
 ghost use mathlib.Core.Bool.{_&&_, _||_, not};
 ghost use mathlib.Core.Path.{_≡_};
 ghost use Prim.Native.Nat.{ℕ, _<_};

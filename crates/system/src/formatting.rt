@@ -1,4 +1,4 @@
-// Formatting: the root in the first node block, its table in area 1, all else empty; and the names and pictures at first.
+// Formatting: the root in the first node block, its table in area 1, all else empty, under the rule named; and the names and pictures at first.
 ghost use mathlib.Core.Path.{_≡_};
 ghost use Rattle.blocksystem.specs.Format.{placeAt, rootTable, formattedRecords, formatted};
 ghost use Rattle.blocksystem.specs.Names.{zeroNamed, withRoot, firstPictures};
@@ -67,8 +67,7 @@ impl Store {
         let cache = cache::empty_cache();
         let queues = disk::empty_queues();
         let ruled = disk::is_rule(rule);
-        let known = device <= 2;
-        let good = known & ruled;
+        let good = (device <= 2) & ruled;
         if !good {
             let records = disk::empty_records();
             let disk = DiskState {

@@ -14,7 +14,7 @@ use cache::Cache;
 use disk::Disk;
 
 // The three steps that a joined call asks for by themselves: a start, a read, a crash.
-const RECEIVE_LOC: u64 = 10;
+const START: u64 = 10;
 
 pub const READ: u64 = 17;
 
@@ -70,15 +70,15 @@ fn ask_start(q: Call, d: Disk) -> u64
 
 impl Store {
     // The joined call: it asks cache and disk, and if either refuses, neither moves. A crash is offered records, every other step asks the
-    // disk for its operation, and a start alone asks for a graph. The three are asked here and not in a function between, as each call by
+    // disk for its operation, and a start alone asks for a graph. The cache is asked under the rule that the disk carries. The three are asked here and not in a function between, as each call by
     // value copies the disk; for the same reason cache and disk are made once, and no part of them is read but from there.
     pub fn step(self, number: u64, q: Call, offered: Records) -> Outcome
         ensures { λ o. ⌜ o ≡ joined (self .device) number q offered (self .cache) (self .disk) ⌝ }
     {
         let device = self.device;
         let state = self.disk;
-        let rule = state.rule;
         let d = Disk { device, state };
+        let rule = d.state.rule;
         let settings = Settings { device, rule };
         let state = self.cache;
         let c = Cache { settings, state };
@@ -88,10 +88,7 @@ impl Store {
         } else {
             d.next(disk_call(number, q))
         };
-        let mut n20: u64 = 0;
-        if number == RECEIVE_LOC {
-            n20 = ask_start(q, d);
-        }
+        let n20 = if number == START { ask_start(q, d) } else { 0 };
         let answer = lower(lower(a.answer, b.answer), n20);
         if answer != 0 {
             let cache = c.state;

@@ -15,8 +15,8 @@ pub enum Keys {
     Place,
 }
 
-// Keys by number, as `key_of` gives them: 1 to 9 may stand on any step, 10 to 12 on a crash beside them, 13 to 15 on a `format`, and two of
-// these on a `place`; 0 is none.
+// Keys by number, as `key_of` gives them: 1 to 9 may stand on any step, 10 to 12 on a crash beside them, 13 to 15 on a `format`, `loc` and
+// `device` on a `place`; 0 is none.
 const LOC: usize = 7;
 
 // The one key that may come more than once.
