@@ -118,13 +118,13 @@ fn written_at(q: &Requests, addr: u64) -> bool {
 
 impl Disk {
     pub fn form(&self, device: u64) -> bool {
-        is_rule(self.rule)
-            && self.records.form()
+        self.records.form()
             && self.records.placed(device)
             && table_queue_form(device, &self.tablereads)
             && node_queue_form(device, &self.nodereads)
             && table_queue_form(device, &self.tablewrites)
             && node_queue_form(device, &self.nodewrites)
+            && is_rule(self.rule)
     }
 
     /// The number of an operation, 0 if the disk accepts it.

@@ -1,5 +1,5 @@
--- The freeze rule over any settings, cache and call: another than 1 and 2 is refused; the two differ in Freeze alone, and there by 25 alone, which is
--- upstream's Freeze while a frozen place is set. Assumes nothing.
+-- The freeze rule over any settings, cache and call: another than 1 and 2 is refused; the two differ in Freeze alone, and there by 25 alone, which
+-- upstream's Freeze gets while a frozen place is set. Assumes nothing.
 use Prim.Native.Nat.{ℕ}
 use mathlib.Core.Bool.{Bool, and-false, false, or-false, true}
 use mathlib.Core.List.{[], _∷_}

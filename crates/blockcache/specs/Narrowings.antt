@@ -28,18 +28,14 @@ module _ (c : CacheState) (q : Call) where
   abbrev pub idleNarrowed : Bool
   idleNarrowed = awaitsRead c (q .dop)
 
--- Freeze: under rule 2, a frozen place is set (25)
-abbrev pub freezeNarrowed : Settings → CacheState → Bool
-freezeNarrowed g c = frozenHeld g c
-
 module _ (g : Settings) (c : CacheState) (q : Call) where
-  -- no other step has one, beside 1
+  -- of Freeze it is frozenHeld: under rule 2, a frozen place is set (25); no other step has one, beside 1
   abbrev pub stepNarrowed : Step → Bool
   stepNarrowed step =
       cond (isStep writeBackNodeReqStep step) (writeNarrowed c q)
       (cond (isStep pageInNodeReqStep step) (readNarrowed c q)
       (cond (isStep noOpStep step) (idleNarrowed c q)
-      (cond (isStep freezeStep step) (freezeNarrowed g c)
+      (cond (isStep freezeStep step) (frozenHeld g c)
       false)))
 
   abbrev pub narrowedOf : Option Step → Bool

@@ -92,7 +92,7 @@ isRead n = eqb n (numberOf readStep)
 abbrev pub isCrash : ℕ → Bool
 isCrash n = eqb n (numberOf crashStep)
 
--- after a clean-up only the frozen place is named
+-- a clean-up, which ends a frozen name as a start does
 abbrev pub isCleanUp : ℕ → Bool
 isCleanUp n = eqb n (numberOf cleanUpStep)
 

@@ -1,4 +1,4 @@
--- Demand 2 for the disk: a call is accepted exactly where upstream's predicate allows some next state and no narrowing of document 01 refuses it,
+-- Demand 2 for the disk: a call is accepted exactly where upstream's predicate allows some next state and no narrowing refuses it,
 -- and then its own next state is one that upstream allows. For any device, disk, call and offered records. Assumes nothing.
 use Prim.Native.Nat.{ℕ}
 use mathlib.Core.Bool.{Bool, false, false≢true, not, true}

@@ -1,4 +1,4 @@
--- A crash as document 01 says it: which records may be offered, and what is left.
+-- A crash as documents 01 and 02 say it: which records may be offered, and what is left.
 use Prim.Native.Nat.{ℕ}
 use mathlib.Core.Bool.{Bool, _&&_, _||_, not}
 use mathlib.Core.List.{List, [], _∷_}

@@ -1,4 +1,4 @@
--- Document 01's narrowings of the disk: what is refused although upstream would allow it. They are said without the rows of a call, so that
+-- The narrowings of the disk, document 01's, with document 02's rule in its written form: what is refused although upstream would allow it. They are said without the rows of a call, so that
 -- rows which refuse more than these contradict demand 2.
 use Prim.Native.Nat.{ℕ}
 use mathlib.Core.Bool.{Bool, _&&_, _||_, false, not}

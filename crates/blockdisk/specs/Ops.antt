@@ -1,4 +1,4 @@
--- A call of the disk as document 01 says it: refusals as rows, ascending, and the next disk.
+-- A call of the disk as documents 01 and 02 say it: refusals as rows, ascending, and the next disk.
 use Prim.Native.Nat.{ℕ}
 use mathlib.Core.Bool.{Bool, _&&_, cond, false, not, true}
 use mathlib.Core.List.{List, [], _∷_}

@@ -35,10 +35,11 @@ pub struct Queues {
 
 // All that upstream's disk has, and the freeze rule.
 pub struct DiskState {
-    // The rule that the device was formatted with (document 02, Q-8), 1 or 2: no transition changes it.
-    pub rule: u64,
     pub records: Records,
     pub queues: Queues,
+    // The rule that the device was formatted with (document 02, Q-8), 1 or 2: no transition changes it. It stands last: in front of the
+    // records it made the compiler copy these by themselves, three times more at each call.
+    pub rule: u64,
 }
 
 // Whether a read answer brings something.

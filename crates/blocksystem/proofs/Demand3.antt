@@ -6,19 +6,20 @@
 use Prim.Native.Nat.{ℕ}
 use mathlib.Core.Bool.{true}
 use mathlib.Core.List.{List}
-use mathlib.Core.Path.{_≡_}
+use mathlib.Core.Path.{_≡_, refl}
 use Rattle.blockdisk.specs.Form.{isRule}
 use Rattle.disklayout.specs.Device.{made}
 use Rattle.sectortype.specs.declared.Contents.{Contents}
 use Rattle.blocksystem.proofs.Answering.{all-answered}
 use Rattle.blocksystem.proofs.Counting.{none-counted}
-use Rattle.blocksystem.proofs.Formatted.{formatted-holds}
+use Rattle.blocksystem.proofs.Formatted.{formatted-holds, start-rule}
 use Rattle.blocksystem.proofs.Frozen.{frozen-stays, run-keeps-rule}
 use Rattle.blocksystem.proofs.Invariant.{Invariant}
 use Rattle.blocksystem.proofs.Keep.{run-keeps}
 use Rattle.blocksystem.proofs.Restart.{starts-whole}
 use Rattle.blocksystem.proofs.Screen.{none-differ, ready-shown}
 use Rattle.blocksystem.proofs.Waits.{waits-end}
+use Rattle.blocksystem.specs.Frozen.{FrozenStays}
 use Rattle.blocksystem.specs.Promise.{Promised}
 use Rattle.blocksystem.specs.Run.{JoinedCall, State, after, nothingLost, start, startsNamed}
 
@@ -45,3 +46,7 @@ nothing-lost d r on rule x calls n =
       frozen = frozen-stays d calls s at-first n;
       waits = waits-end d (after d s calls) v;
     }
+
+-- and so, on a device formatted under rule 2, a frozen place stays named until a clean-up or a start is accepted
+pub frozen-place-stays : (d : ℕ) → made d ≡ true → (x : Contents) (calls : List JoinedCall) → startsNamed d (start d x 2) calls ≡ true → FrozenStays d (start d x 2) calls
+frozen-place-stays d on x calls n = nothing-lost d 2 on refl x calls n .frozen (start-rule d x on 2 refl)

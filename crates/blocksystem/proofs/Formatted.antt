@@ -217,6 +217,10 @@ module _ (d : ℕ) (x : Contents) (on : made d ≡ true) where
     unfolding formatted
     formatted-is = rw (on, rule)
 
+    -- a list begins on a disk that carries the rule named
+    pub start-rule : start d x r .disk .rule ≡ r
+    start-rule = ap (λ o. o .disk .rule) formatted-is
+
     pub formatted-holds : Invariant d (start d x r)
     unfolding firstPictures
     formatted-holds =

@@ -36,9 +36,8 @@ use Rattle.sectortype.specs.Form.{nodeForm, tableForm, zeroNode}
 use Rattle.sectortype.specs.declared.Node.{Node}
 use Rattle.sectortype.specs.declared.Table.{Table}
 use Rattle.blocksystem.proofs.Answering.{answered-as}
-use Rattle.blocksystem.specs.Allowed.{InForm}
 use Rattle.blocksystem.specs.Joined.{diskAsked, diskCall, joined, joinedAnswer, settingsOf, startRows}
-use Rattle.blocksystem.specs.Run.{State, asked, conditions, step}
+use Rattle.blocksystem.specs.Run.{InForm, State, asked, conditions, step}
 
 -- A DISK OF NO RULE
 

@@ -4,7 +4,6 @@ use mathlib.Core.Bool.{cond, false, true}
 use mathlib.Core.Option.{some}
 use mathlib.Core.Path.{_≡_}
 use Rattle.blockcache.specs.Abstract.{cacheVars, callOp}
-use Rattle.blockcache.specs.Form.{cacheForm, callForm}
 use Rattle.blockcache.specs.LetGo.{LetGo}
 use Rattle.blockcache.specs.Narrowings.{narrowed}
 use Rattle.blockcache.specs.Steps.{Step as MStep, isCrash, isRead, stepOf}
@@ -14,18 +13,12 @@ use Rattle.blockcache.specs.declared.Call.{Call}
 use Rattle.blockcache.specs.declared.VersionOp.{VersionOp}
 use Rattle.blockcache.specs.declared.VersionOp.the-variants.{StatesInternalOp}
 use Rattle.blockdisk.specs.Crash.{crashed}
-use Rattle.blockdisk.specs.Form.{diskForm}
 use Rattle.blockdisk.specs.Narrowings.{crashNarrowed, diskNarrowed}
 use Rattle.blockdisk.specs.Upstream.{Dop, Next as DNext, diskVars, dopOf}
 use Rattle.blockdisk.specs.declared.DiskState.{DiskState}
 use Rattle.blockdisk.specs.declared.Records.{Records}
 use Rattle.blocksystem.specs.Joined.{diskCall, joined, settingsOf}
-use Rattle.blocksystem.specs.Run.{State}
 use Rattle.blocksystem.specs.Upstream.{Crash, Machine, Variables, systemVars}
-
--- cache, call and disk are each in their written form, the disk with its rule
-abbrev pub InForm : ℕ → State → Call → Type 0
-InForm d s q = (cacheForm (s .cache) ≡ true) × (callForm q ≡ true) × (diskForm d (s .disk) ≡ true)
 
 -- the operations of a step; a read takes no V and no D
 abbrev pub joinedOp : ℕ → Call → Dop

@@ -32,7 +32,7 @@ pub record Promised (d : ℕ) (s : State) (calls : List JoinedCall) : Type 0 whe
   -- .. and in Ready it has exactly the allocated references; each is cached, or stored on the disk at its ephemeral location; the cache, if it has it, and that
   -- location, if it has one, have the picture's node
   pub shown : isReady (after d s calls .cache) ≡ true → ReadyShown d (after d s calls)
-  -- the disk carries its rule throughout, and under rule 2 a frozen place stays named until a clean-up or a start is accepted
+  -- the disk has its rule still, and under rule 2 a frozen place stays named until a clean-up or a start is accepted
   pub rule : after d s calls .disk .rule ≡ s .disk .rule
   pub frozen : s .disk .rule ≡ 2 → FrozenStays d s calls
   -- no wait is for ever

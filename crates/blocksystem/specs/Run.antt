@@ -6,12 +6,14 @@ use mathlib.Core.Logic.{_↔_}
 use mathlib.Core.Path.{_≡_}
 use lib.Dec.{eqb}
 use Rattle.base.specs.Refusals.{Row, holds}
+use Rattle.blockcache.specs.Form.{cacheForm, callForm}
 use Rattle.blockcache.specs.Ops.{vopLoc}
 use Rattle.blockcache.specs.Step.{cacheRows, cacheStep}
 use Rattle.blockcache.specs.Steps.{isCrash, isStart}
 use Rattle.blockcache.specs.declared.CacheState.{CacheState}
 use Rattle.blockcache.specs.declared.Call.{Call}
 use Rattle.blockdisk.specs.Crash.{crashRows}
+use Rattle.blockdisk.specs.Form.{diskForm}
 use Rattle.blockdisk.specs.Ops.{diskRows}
 use Rattle.blockdisk.specs.declared.DiskState.{DiskState}
 use Rattle.blockdisk.specs.declared.Records.{Records}
@@ -40,6 +42,10 @@ module _ (d : ℕ) where
   start x r = record { cache = formatted d x r .cache; disk = formatted d x r .disk; pictures = firstPictures d x }
 
   -- A STEP
+
+  -- cache, call and disk are each in their written form, the disk with its rule
+  abbrev pub InForm : State → Call → Type 0
+  InForm s q = (cacheForm (s .cache) ≡ true) × (callForm q ≡ true) × (diskForm d (s .disk) ≡ true)
 
   abbrev pub asked : State → ℕ → Call → Records → Outcome
   asked s n q o = joined d n q o (s .cache) (s .disk)

@@ -66,13 +66,6 @@ fn places_form(ps: Places) -> bool
     ps.isfrozen | nowhere
 }
 
-// A device above 2, or a rule that is neither 1 nor 2, is refused with 1.
-pub(crate) fn settings_form(g: Settings) -> bool
-    ensures { λ b. ⌜ b ≡ settingsForm g ⌝ }
-{
-    (g.device <= 2) & ((g.rule == 1) | (g.rule == 2))
-}
-
 fn awaited_form(a: Awaited) -> bool
     ensures { λ b. ⌜ b ≡ awaitedForm a ⌝ }
 {
@@ -142,6 +135,13 @@ pub(crate) fn cache_form(c: CacheState) -> bool
     let nodes = sector::nodes_form(m);
     let phase = phase_form(c);
     tables & places & awaited & outstanding & nodes & phase
+}
+
+// A device above 2, or a rule that is neither 1 nor 2, is refused with 1.
+pub(crate) fn settings_form(g: Settings) -> bool
+    ensures { λ b. ⌜ b ≡ settingsForm g ⌝ }
+{
+    (g.device <= 2) & ((g.rule == 1) | (g.rule == 2))
 }
 
 // The reference is one, node and table are in their written form. What a step doesn't use is judged all the same.

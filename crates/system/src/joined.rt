@@ -70,8 +70,9 @@ fn ask_start(q: Call, d: Disk) -> u64
 
 impl Store {
     // The joined call: it asks cache and disk, and if either refuses, neither moves. A crash is offered records, every other step asks the
-    // disk for its operation, and a start alone asks for a graph. The cache is asked under the rule that the disk carries. The three are asked here and not in a function between, as each call by
-    // value copies the disk; for the same reason cache and disk are made once, and no part of them is read but from there.
+    // disk for its operation, and a start alone asks for a graph. The three are asked here and not in a function between, as each call by
+    // value copies the disk; for the same reason cache and disk are made once, and no part of them is read but from there. The cache is
+    // asked under the rule that the disk carries.
     pub fn step(self, number: u64, q: Call, offered: Records) -> Outcome
         ensures { λ o. ⌜ o ≡ joined (self .device) number q offered (self .cache) (self .disk) ⌝ }
     {

@@ -10,8 +10,8 @@ mod start;
 use blockcache::CacheState;
 use blockdisk::DiskState;
 
-// The store: cache and disk on one device; the freeze rule is the one that the disk carries. Its methods are the calls on both; each call gets the cache and the disk that the last one
-// handed back.
+// The store: cache and disk on one device; its freeze rule is the one that the disk carries. Its methods are the calls on both; each call
+// gets the cache and the disk that the last one handed back.
 pub struct Store {
     pub device: u64,
     pub cache: CacheState,
