@@ -1,11 +1,12 @@
 #!/bin/bash
 # Builds the proved program and the Rust baseline for release, runs both on the same rounds, in turn, five times, and prints the best
-# time of each, the microseconds for a call, and the ratio. Processor time is taken, as the machine may be shared: bench/run.sh [ROUNDS]
+# time of each, the microseconds for a call, and the ratio. Processor time is taken, as the machine may be shared. The blocks of the baseline's
+# code begin at cache lines: without that the same code took a third longer where an edit elsewhere had moved it. bench/run.sh [ROUNDS]
 set -eu
 rounds=${1:-2000}
 cd "$(dirname "$0")/.."
 rt check bench >/dev/null
-cargo build --release --offline --quiet --manifest-path bench/Cargo.toml
+RUSTFLAGS="${RUSTFLAGS:-} -C llvm-args=-align-all-nofallthru-blocks=6" cargo build --release --offline --quiet --manifest-path bench/Cargo.toml
 ours=target/bin/bench
 base=bench/target/release/baseline
 

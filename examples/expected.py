@@ -2,6 +2,7 @@
 # and docs/REPLAY.md say it prints, derived by hand. From the top: python3 examples/expected.py crates/replay examples
 import sys
 sys.dont_write_bytecode=True
+from parts.choose import choose,choose_rows,full
 from parts.lines import AREA1,EX,OK,P,c,example,l
 from parts.lives import before_format,edges,last_blocks,life
 from parts.rules import rule_rows,rules
@@ -25,6 +26,9 @@ example('screen','What a member sees: the screen agrees with the working picture
 screen_rows()
 example('rules','Two rules for a second freeze: under rule 1 it un-names the place that was reported, under rule 2 it is refused.',rules)
 rule_rows()
+example('choose','A free block: the chooser gives the next one in turn, goes round after the last, and begins anew after a load.',choose)
+example('full','A full device: each write goes to the block that the chooser gave, until all 128 are marked; then blocks become free again.',full)
+choose_rows()
 c(b'The last line has no line feed.')
 l('audit','place=%s %s'%(AREA1,OK))
 

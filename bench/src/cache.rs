@@ -1,4 +1,4 @@
-//! The cache: phases, three tables, what is outstanding, the cached nodes.
+//! The cache: phases, three tables, what is outstanding, the cached nodes, the marks of the node blocks.
 
 use crate::disk::{is_rule, DiskOp};
 use crate::layout::{self, Location};
@@ -37,6 +37,13 @@ pub struct Call {
     pub table: Table,
 }
 
+/// A mark for each of the 128 node blocks, in two words, and the block given last.
+#[derive(Clone, Copy, PartialEq, Eq, Default)]
+pub struct Blocks {
+    pub marks: [u64; 2],
+    pub last: u64,
+}
+
 #[derive(Clone, Default)]
 pub struct Cache {
     pub phase: Phase,
@@ -52,6 +59,7 @@ pub struct Cache {
     pub writes: Requests,
     pub reads: Requests,
     pub nodes: Nodes,
+    pub blocks: Blocks,
 }
 
 /// The first of these conditions that holds, by its number.
@@ -62,7 +70,7 @@ macro_rules! first {
 }
 
 impl Cache {
-    pub fn form(&self) -> bool {
+    pub fn form(&self, device: u64) -> bool {
         self.persistent.form()
             && self.ephemeral.form()
             && self.frozen.form()
@@ -77,7 +85,7 @@ impl Cache {
             && match self.phase {
                 Phase::Unready => self.idle() && self.place == Location::default() && !self.waiting,
                 Phase::Loading => self.idle(),
-                Phase::Ready => true,
+                Phase::Ready => self.blocks.last <= 127 && self.blocks.marks == self.marks(device),
             }
     }
 
@@ -89,6 +97,25 @@ impl Cache {
             && self.writes.count == 0
             && self.reads.count == 0
             && self.nodes.count == 0
+            && self.blocks == Blocks::default()
+    }
+
+    /// The blocks that have the address of a location in a table or of an outstanding write.
+    fn marks(&self, device: u64) -> [u64; 2] {
+        let mut marks = [0; 2];
+        let mut mark = |addr| {
+            if let Some(k) = layout::node_block_of(device, addr) {
+                marks[k / 64] |= 1 << (k % 64);
+            }
+        };
+        for t in [&self.persistent, &self.ephemeral] {
+            t.located().for_each(&mut mark);
+        }
+        if self.isfrozen {
+            self.frozen.located().for_each(&mut mark);
+        }
+        self.writes.list().iter().for_each(|w| mark(w.loc.addr));
+        marks
     }
 
     fn fz(&self, r: usize) -> bool {
@@ -114,7 +141,7 @@ impl Cache {
 
     /// The number of a call, 0 if the cache accepts it.
     pub fn refusal(&self, device: u64, rule: u64, number: u64, q: &Call) -> u64 {
-        if !(device <= 2 && is_rule(rule) && self.form() && q.reference <= 63 && q.node.form() && q.table.form()) {
+        if !(device <= 2 && is_rule(rule) && self.form(device) && q.reference <= 63 && q.node.form() && q.table.form()) {
             return 1;
         }
         let r = q.reference as usize;
@@ -275,7 +302,16 @@ impl Cache {
     }
 
     /// A call that is not refused; the node that a read brings.
-    pub fn apply(&mut self, number: u64, q: &Call) -> Node {
+    pub fn apply(&mut self, device: u64, number: u64, q: &Call) -> Node {
+        let node = self.take(number, q);
+        // the steps that may move a location of a table or an outstanding write
+        if matches!(number, 1 | 2 | 5 | 9 | 12 | 13 | 15) {
+            self.blocks.marks = self.marks(device);
+        }
+        node
+    }
+
+    fn take(&mut self, number: u64, q: &Call) -> Node {
         let r = q.reference as usize;
         match (number, q.dop) {
             (1, DiskOp::ReqWriteNode(id, loc)) => {
@@ -321,6 +357,7 @@ impl Cache {
                 self.ephemeral = q.table;
                 self.waiting = false;
                 self.awaited = 0;
+                self.blocks.last = 127;
             }
             (10, _) => {
                 if let VersionOp::SendPersistentLoc(place) = q.vop {

@@ -52,7 +52,7 @@ fn step(device: u64, number: u64, q: &Call, offered: Option<&Records>, c: &mut C
     if n != 0 {
         return (n, Node::default());
     }
-    let node = c.apply(number, q);
+    let node = c.apply(device, number, q);
     if number != 18 {
         s.apply(device, dop, &q.node, &q.table);
     } else if let Some(offered) = offered {

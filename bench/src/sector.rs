@@ -116,8 +116,13 @@ impl Table {
         s.list().iter().all(|&r| self.entries[r as usize].allocated)
     }
 
+    /// The addresses of its locations.
+    pub fn located(&self) -> impl Iterator<Item = u64> + '_ {
+        self.entries.iter().filter(|e| e.located).map(|e| e.loc.addr)
+    }
+
     pub fn holds_addr(&self, addr: u64) -> bool {
-        self.entries.iter().any(|e| e.located && e.loc.addr == addr)
+        self.located().any(|a| a == addr)
     }
 
     pub fn lacks_location(&self) -> bool {

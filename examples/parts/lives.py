@@ -9,7 +9,7 @@ def before_format():
     c(b'Nothing but format and place is taken before the first accepted one.')
     e('audit'); e('show'); e('step=17'); e('step=1 x')
     a('format device=3 contents=0',1)
-    e('show')
+    e('choose')
     p(0,'0+4096','superblock1')
 
 def edges():

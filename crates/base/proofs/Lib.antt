@@ -1,4 +1,5 @@
 -- The laws of the definitions in specs/.
+pub mod Bits
 pub mod Flagged
 pub mod Lists
 pub mod Lookup

@@ -1,6 +1,6 @@
 -- Laws of the tests over the numbers below n: how a loop shows them, and what they say. Assumes nothing.
 use mathlib.Core.Path.{_≡_, refl, ap, sym}
-use mathlib.Core.Bool.{Bool, true, false, _&&_, _||_, cond, or-true, or-false, false≢true}
+use mathlib.Core.Bool.{Bool, true, false, _&&_, _||_, cond, not, or-true, or-false, false≢true}
 use mathlib.Core.List.{List}
 use mathlib.Core.Logic.{_↔_}
 use Prim.Native.Nat.{ℕ, zero, suc, _+_, _<_, _≤_}
@@ -168,6 +168,12 @@ first-at-most g n k e =
 pub first-is : (g : ℕ → Bool) (n k : ℕ) → k < n → g k ≡ true → ((j : ℕ) → j < k → g j ≡ false) → firstBelow g n ≡ k
 first-is g n k b e h = sym (first-hit g n k (sym (some-of-none g k h)) e b)
 
+pub first-same : (g h : ℕ → Bool) (n : ℕ) → ((k : ℕ) → k < n → g k ≡ h k) → firstBelow g n ≡ firstBelow h n
+unfolding firstBelow
+first-same g h zero e = refl
+first-same g h (suc n) e =
+    rw (some-same g h n (λ k b. e k (omega arith)), first-same g h n (λ k b. e k (omega arith)), e n (omega arith))
+
 -- COUNT
 
 pub count-same : (g h : ℕ → Bool) (n : ℕ) → ((k : ℕ) → k < n → g k ≡ h k) → countBelow g n ≡ countBelow h n
@@ -208,6 +214,56 @@ count-zero-at g (suc n) k e b =
     below-or-last k n b
     (λ c. let z : countBelow g n ≡ 0 = omega arith in count-zero-at g n k z c)
     (λ c. rw c (bit-zero-iff (g n) .0 (omega arith)))
+
+-- those that pass and those that fail are all
+both-bits : (b : Bool) → bit b + bit (not b) ≡ 1
+both-bits true = refl
+both-bits false = refl
+
+pub count-not : (g : ℕ → Bool) (n : ℕ) → countBelow g n + countBelow (λ k. not (g k)) n ≡ n
+unfolding countBelow
+count-not g zero = refl
+count-not g (suc n) = omega (arith, count-not g n, both-bits (g n))
+
+-- of two tests, one of which passes
+bit-or-le : (a b : Bool) → bit (a || b) ≤ bit a + bit b
+bit-or-le true b = omega arith
+bit-or-le false b = omega arith
+
+pub count-or : (g h : ℕ → Bool) (n : ℕ) → countBelow (λ k. g k || h k) n ≤ countBelow g n + countBelow h n
+unfolding countBelow
+count-or g h zero = omega arith
+count-or g h (suc n) = omega (arith, count-or g h n, bit-or-le (g n) (h n))
+
+-- a test that passes at one number at the most
+pub count-single : (g : ℕ → Bool) (n : ℕ) → ((j k : ℕ) → g j ≡ true → g k ≡ true → j ≡ k) → countBelow g n ≤ 1
+unfolding countBelow
+count-single g zero one = omega arith
+count-single g (suc n) one =
+    split (g n)
+    (λ t. let z : countBelow g n ≡ 0 = count-zero g n (λ k b. split (g k) (λ u. absurd (let e : k ≡ n = one k n u t in omega arith)) (λ u. u)) in
+    omega (arith, bit-le (g n)))
+    (λ t. let b : bit (g n) ≡ 0 = bit-zero-iff (g n) .1 t in omega (arith, count-single g n one))
+
+-- each of m tests passes at one number at the most: so m numbers at the most pass some of them
+pub count-some : (hit : ℕ → ℕ → Bool) (m n : ℕ) → ((r j k : ℕ) → hit r j ≡ true → hit r k ≡ true → j ≡ k) → countBelow (λ k. someBelow (λ r. hit r k) m) n ≤ m
+unfolding someBelow
+count-some hit zero n one = omega (arith, count-zero (λ k. false) n (λ k b. refl))
+count-some hit (suc m) n one =
+    omega (arith, count-or (λ k. someBelow (λ r. hit r k) m) (hit m) n, count-some hit m n one, count-single (hit m) n (one m))
+
+pub count-every : (g : ℕ → Bool) (n : ℕ) → allBelow g n ≡ true → countBelow g n ≡ n
+count-every g n e =
+    let z : countBelow (λ k. not (g k)) n ≡ 0 = count-zero (λ k. not (g k)) n (λ k b. ap not (all-at g n k e b)) in
+    omega (arith, count-not g n)
+
+-- of two stretches
+pub count-cut : (g : ℕ → Bool) (n m : ℕ) → countBelow g (n + m) ≡ countBelow g n + countBelow (λ k. g (n + k)) m
+unfolding countBelow
+count-cut g n zero = let z : n + 0 ≡ n = omega arith in rw z (omega arith)
+count-cut g n (suc m) =
+    let z : n + suc m ≡ suc (n + m) = omega arith in
+    rw (z, count-cut g n m) (omega arith)
 
 -- a count is 0 exactly where the test fails at each number below n
 pub count-zero-iff : (g : ℕ → Bool) (n : ℕ) → (countBelow g n ≡ 0) ↔ ((k : ℕ) → k < n → g k ≡ false)

@@ -8,7 +8,7 @@ use lib.Dec.{leb, ltb}
 use lib.ListN.{List·getD-eq-default, length}
 use Rattle.base.proofs.Scan.{all-at}
 use Rattle.base.proofs.Tests.{and-iff, and-left, and-right, split}
-use Rattle.blockcache.specs.Form.{cacheForm, eachRequest, readOk, readsForm}
+use Rattle.blockcache.specs.Form.{blocksForm, cacheForm, eachRequest, partsForm, readOk, readsForm}
 use Rattle.blockcache.specs.Ops.{dopId}
 use Rattle.blockcache.specs.Rows.{readRef}
 use Rattle.blockcache.specs.declared.CacheState.{CacheState}
@@ -35,8 +35,8 @@ entry-reference q id form =
     let m : length (q .at) ≤ findOf q id = omega arith in
     rw (List·getD-eq-default (q .at) zeroRequest m) (omega arith))
 
-pub read-reference : (g : Settings) (c : CacheState) (q : Call) → cacheForm c ≡ true → readRef g c q < 64
-unfolding cacheForm
+pub read-reference : (g : Settings) (c : CacheState) (q : Call) → cacheForm (g .device) c ≡ true → readRef g c q < 64
+unfolding cacheForm partsForm
 read-reference g c q e =
-    let h = simp and-iff at e in
+    let h = simp and-iff at (and-left (partsForm c) (blocksForm (g .device) c) e) in
     entry-reference (c .outstanding .reads) (dopId (q .dop)) (h .0 .0 .1 .1)

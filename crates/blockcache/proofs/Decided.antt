@@ -1,5 +1,5 @@
--- One meaning, one written form: a cache in its written form is decided by its upstream variables. Tables and cached nodes by the laws of
--- `sectortype`, queues by `queue`'s; what a phase doesn't have is zeros. Assumes nothing.
+-- One meaning, one written form: on a device, a cache in its written form is decided by its upstream variables and the block given last. Tables and
+-- cached nodes by the laws of `sectortype`, queues by `queue`'s; what a phase doesn't have is zeros; the marks by tables and writes. Assumes nothing.
 use Prim.Native.Nat.{ℕ}
 use mathlib.Core.Bool.{_&&_, false, not, true}
 use mathlib.Core.Option.{Option, none}
@@ -10,11 +10,12 @@ use lib.Dec.{eqb, leb}
 use Rattle.base.proofs.Flagged.{flagged-ext, flagged-none-iff}
 use Rattle.base.proofs.Tests.{and-iff, and-right, not-true-iff, or-true-iff}
 use Rattle.base.specs.Maps.{empty}
-use Rattle.blockcache.proofs.Forms.{CacheForm, Idle, cache-form-iff, frozen-empty, idle-iff, no-nodes-map, reads-form-iff, reads-requests, writes-form-iff, writes-requests}
+use Rattle.blockcache.proofs.Forms.{BlocksForm, Idle, PartsForm, cache-form-iff, frozen-empty, idle-iff, no-nodes-map, reads-form-iff, reads-requests, writes-form-iff, writes-requests}
 use Rattle.blockcache.proofs.InvLaws.{ready-ext}
 use Rattle.blockcache.proofs.Waiting.{reads-empty-iff, writes-empty-iff}
 use Rattle.blockcache.specs.Abstract.{awaitedId, cacheVars, readsMap, readyVars, varsIn, writeOf, writesMap}
 use Rattle.blockcache.specs.Form.{cacheForm, formIn, idle, phaseForm, readOk, readsForm, writeOk, writesForm}
+use Rattle.blockcache.specs.Marks.{marksOf}
 use Rattle.blockcache.specs.Upstream.{OutstandingWrite, Ready}
 use Rattle.blockcache.specs.declared.CacheState.{CacheState}
 use Rattle.blockcache.specs.declared.Phase.{Phase}
@@ -47,15 +48,16 @@ reads-decided q p f g =
 
 -- THE PARTS OF A CACHE
 
-module _ (c e : CacheState) (f : CacheForm c) (g : CacheForm e) (phase : c .phase ≡ e .phase) (same : readyVars c ≡ readyVars e) where
+module _ (c e : CacheState) (f : PartsForm c) (g : PartsForm e) (phase : c .phase ≡ e .phase) (same : readyVars c ≡ readyVars e)
+    (d : ℕ) (fb : BlocksForm d c) (gb : BlocksForm d e) (last : c .blocks .last ≡ e .blocks .last) where
   -- a frozen table, a frozen place and an awaited id that are absent are zeros
-  no-table : (s : CacheState) (h : CacheForm s) → s .tables .isfrozen ≡ false → indirectionTable (s .tables .frozen) ≡ indirectionTable emptyTable
+  no-table : (s : CacheState) (h : PartsForm s) → s .tables .isfrozen ≡ false → indirectionTable (s .tables .frozen) ≡ indirectionTable emptyTable
   no-table s h t = ap indirectionTable (table-zero-is (s .tables .frozen) (h .tables .frozen) (frozen-empty s h t))
 
-  no-place : (s : CacheState) (h : CacheForm s) → s .places .isfrozen ≡ false → s .places .frozen ≡ zeroLoc
+  no-place : (s : CacheState) (h : PartsForm s) → s .places .isfrozen ≡ false → s .places .frozen ≡ zeroLoc
   no-place s h t = loc-zero-is (s .places .frozen) (or-true-iff (s .places .isfrozen) (locZero (s .places .frozen)) .0 (h .places) t)
 
-  no-id : (s : CacheState) (h : CacheForm s) → s .awaited .waiting ≡ false → s .awaited .id ≡ 0
+  no-id : (s : CacheState) (h : PartsForm s) → s .awaited .waiting ≡ false → s .awaited .id ≡ 0
   no-id s h t = eqb-true _ _ (or-true-iff (s .awaited .waiting) (eqb (s .awaited .id) 0) .0 (h .awaited) t)
 
   parts-decided : c ≡ e
@@ -70,6 +72,9 @@ module _ (c e : CacheState) (f : CacheForm c) (g : CacheForm e) (phase : c .phas
       let w = writes-decided (c .outstanding .writes) (e .outstanding .writes) (f .outstanding .writes) (g .outstanding .writes) (ap (λ x. x .outstandingBlockWrites) same) in
       let r = reads-decided (c .outstanding .reads) (e .outstanding .reads) (f .outstanding .reading) (g .outstanding .reading) (ap (λ x. x .outstandingBlockReads) same) in
       let n = nodes-ext (c .nodes) (e .nodes) (f .nodes) (g .nodes) (ap (λ x. x .cache) same) in
+      let marks : c .blocks .marks ≡ e .blocks .marks =
+      fb .marks ∙ (λ i. marksOf d (record { persistent = p i; ephemeral = t i; isfrozen = z .0 i; frozen = zt i }) (w i)) ∙ sym (gb .marks) in
+      let b : c .blocks ≡ e .blocks = λ i. record { marks = marks i; last = last i } in
       λ i. record {
         phase = phase i;
         tables = record { persistent = p i; ephemeral = t i; isfrozen = z .0 i; frozen = zt i };
@@ -77,6 +82,7 @@ module _ (c e : CacheState) (f : CacheForm c) (g : CacheForm e) (phase : c .phas
         awaited = record { waiting = a .0 i; id = a .1 i };
         outstanding = record { writes = w i; reads = r i };
         nodes = n i;
+        blocks = b i;
       }
 
 -- BEFORE READY: all but the place and the awaited id is empty
@@ -95,7 +101,7 @@ idleVars l a =
       cache = empty;
     }
 
-idle-vars : (c : CacheState) → CacheForm c → Idle c → readyVars c ≡ idleVars (c .places .persistent) (awaitedId (c .awaited))
+idle-vars : (c : CacheState) → PartsForm c → Idle c → readyVars c ≡ idleVars (c .places .persistent) (awaitedId (c .awaited))
 idle-vars c f i =
     ready-ext (ap indirectionTable (table-zero-is (c .tables .persistent) (f .tables .persistent) (i .no-persistent)))
     (flagged-none-iff (c .tables .isfrozen) (indirectionTable (c .tables .frozen)) .0 (i .no-frozen))
@@ -105,7 +111,7 @@ idle-vars c f i =
     (no-nodes-map (c .nodes) (f .nodes) (i .no-nodes))
 
 -- Unready: no place, nothing awaited
-unready-vars : (c : CacheState) → CacheForm c → formIn PhaseUnready c ≡ true → readyVars c ≡ idleVars zeroLoc none
+unready-vars : (c : CacheState) → PartsForm c → formIn PhaseUnready c ≡ true → readyVars c ≡ idleVars zeroLoc none
 unready-vars c f u =
     let h = and-iff (idle c && locZero (c .places .persistent)) (not (c .awaited .waiting)) .0 u in
     let k = and-iff (idle c) (locZero (c .places .persistent)) .0 (h .0) in
@@ -113,7 +119,7 @@ unready-vars c f u =
     let a = flagged-none-iff (c .awaited .waiting) (c .awaited .id) .0 (not-true-iff (c .awaited .waiting) .0 (h .1)) in
     idle-vars c f (idle-iff c .0 (k .0)) ∙ (λ i. idleVars (l i) (a i))
 
-module _ (c e : CacheState) (f : CacheForm c) (g : CacheForm e) where
+module _ (c e : CacheState) (f : PartsForm c) (g : PartsForm e) where
   by-phase : (p k : Phase) → formIn p c ≡ true → formIn k e ≡ true → varsIn p c ≡ varsIn k e → (p ≡ k) × (readyVars c ≡ readyVars e)
   by-phase PhaseUnready PhaseUnready u v s = (refl, unready-vars c f u ∙ sym (unready-vars e g v))
   by-phase PhaseLoading PhaseLoading u v s =
@@ -128,10 +134,10 @@ module _ (c e : CacheState) (f : CacheForm c) (g : CacheForm e) where
   by-phase PhaseReady PhaseUnready u v s = absurd (let z : _≡_ {A = ℕ} 0 1 = cc in omega arith)
   by-phase PhaseReady PhaseLoading u v s = absurd (let z : _≡_ {A = ℕ} 0 1 = cc in omega arith)
 
-pub cache-decided : (c e : CacheState) → cacheForm c ≡ true → cacheForm e ≡ true → cacheVars c ≡ cacheVars e → c ≡ e
+pub cache-decided : (d : ℕ) (c e : CacheState) → cacheForm d c ≡ true → cacheForm d e ≡ true → cacheVars c ≡ cacheVars e → c .blocks .last ≡ e .blocks .last → c ≡ e
 unfolding phaseForm
-cache-decided c e f g s =
-    let x = cache-form-iff c .0 f in
-    let y = cache-form-iff e .0 g in
+cache-decided d c e f g s last =
+    let (x, a) = cache-form-iff d c .0 f in
+    let (y, b) = cache-form-iff d e .0 g in
     let h = by-phase c e x y (c .phase) (e .phase) (x .phase) (y .phase) s in
-    parts-decided c e x y (h .0) (h .1)
+    parts-decided c e x y (h .0) (h .1) d a b last

@@ -15,6 +15,7 @@ use Rattle.blockcache.proofs.EveryStep.{exact}
 use Rattle.blockcache.proofs.Forms.{well-formed-iff, WellFormed}
 use Rattle.blockcache.proofs.Frames.{frame, gate-iff, Next}
 use Rattle.blockcache.proofs.GraphSteps.{read-cached}
+use Rattle.blockcache.proofs.MarkLaws.{marks-forgotten, right-marks}
 use Rattle.blockcache.proofs.Numbers.{call-accepted-iff, limits-iff, number-decides, step-of-number}
 use Rattle.blockcache.specs.Abstract.{Allowed, cacheVars, callOp, readyVars}
 use Rattle.blockcache.specs.Form.{isReady}
@@ -68,9 +69,9 @@ store-accepted g c n q = (
 )
 
 pub store-allowed : (g : Settings) (c : CacheState) (n : ℕ) (q : Call) → answer (cacheRows g c n q) ≡ 0 →
-    (step : Step) × (stepOf n ≡ some step) × StoreStep (g .device) (cacheVars c) (cacheVars (cacheNext c n q)) (callOp q) (q .vop) (q .reference) (q .node) step
+    (step : Step) × (stepOf n ≡ some step) × StoreStep (g .device) (cacheVars c) (cacheVars (cacheNext (g .device) c n q)) (callOp q) (q .vop) (q .reference) (q .node) step
 store-allowed g c n q e =
-    let x = call-accepted-iff g c n q .0 e in (x .step, x .is, rw (x .is) (step-allowed g c q (x .form) (x .step) (x .clear)))
+    let x = call-accepted-iff g c n q .0 e in (x .step, x .is, rw (x .is) (rw (marks-forgotten (g .device) (stepNext c q (x .step))) (step-allowed g c q (x .form) (x .step) (x .clear))))
 
 -- THE THEOREMS: upstream's steps
 
@@ -91,20 +92,20 @@ module _ (g : Settings) (c : CacheState) (n : ℕ) (q : Call) (old : isNew n ≡
       )
 
   pub cache-allowed : answer (cacheRows g c n q) ≡ 0 →
-      (step : Step) × (stepOf n ≡ some step) × NextStep (g .device) (cacheVars c) (cacheVars (cacheNext c n q)) (callOp q) (q .vop) (q .reference) (q .node) step
+      (step : Step) × (stepOf n ≡ some step) × NextStep (g .device) (cacheVars c) (cacheVars (cacheNext (g .device) c n q)) (callOp q) (q .vop) (q .reference) (q .node) step
   cache-allowed e = let x = store-allowed g c n q e in (x .0, x .1, rw (upstreams n (x .0) old (x .1)) at (x .2))
 
 -- an accepted read leaves the cache as it is, and ReadStep names the cached node
 pub cache-read : (g : Settings) (c : CacheState) (q : Call) → answer (cacheRows g c 17 q) ≡ 0 →
-    (isReady c ≡ true) × (cacheNext c 17 q ≡ c) × ReadStep (readyVars c) (q .reference) (nodeOf c 17 q)
+    (isReady c ≡ true) × (cacheNext (g .device) c 17 q ≡ c) × ReadStep (readyVars c) (q .reference) (nodeOf c 17 q)
 unfolding stepOf steps
 cache-read g c q e =
     let x = call-accepted-iff g c 17 q .0 e in
     let k : Clear (stepRows g c q readStep) = subst (λ s. Clear (stepRows g c q s)) (number-decides 17 (x .step) readStep (x .is) refl) (x .clear) in
     let h = gate-iff (takes (c .phase) (q .vop) (q .dop) readStep) (ownRows g c q readStep) .0 k in
-    (h .0 .2, refl, read-cached g c q (x .form) (h .1))
+    (h .0 .2, right-marks (g .device) c (x .form .blocks .marks), read-cached g c q (x .form) (h .1))
 
 -- a crash leaves the cache unready
-pub cache-crash : (c : CacheState) (q : Call) → cacheVars (cacheNext c 18 q) ≡ unready
+pub cache-crash : (d : ℕ) (c : CacheState) (q : Call) → cacheVars (cacheNext d c 18 q) ≡ unready
 unfolding stepOf steps
-cache-crash c q = refl
+cache-crash d c q = refl

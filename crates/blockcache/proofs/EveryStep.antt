@@ -14,7 +14,7 @@ use Rattle.base.specs.Refusals.{_when_, ascending}
 use Rattle.blockcache.proofs.Bridge.{assigned-form}
 use Rattle.blockcache.proofs.FormLaws.{assigned-absent, cached-slot-form, empty-cache-form, loading-form, received-form, unlocated-form, with-awaited-form, with-ephemeral-form}
 use Rattle.blockcache.proofs.FormLaws.{with-nodes-form, with-places-form, with-reads-form, with-tables-form, with-writes-form}
-use Rattle.blockcache.proofs.Forms.{CacheForm, frozen-empty, Idle, idle-iff, loading-idle, read-ref-bounded, reads-insert-form, reads-remove-form, ready-form, WellFormed}
+use Rattle.blockcache.proofs.Forms.{PartsForm, frozen-empty, Idle, idle-iff, loading-idle, read-ref-bounded, reads-insert-form, reads-remove-form, ready-form, WellFormed}
 use Rattle.blockcache.proofs.Forms.{writes-insert-form, writes-remove-form}
 use Rattle.blockcache.proofs.Frames.{Exact, Open}
 use Rattle.blockcache.proofs.GraphSteps.{alloc-exact, dirty-exact, evict-exact, read-exact, unalloc-exact}
@@ -176,7 +176,7 @@ module _ (g : Settings) (c : CacheState) (q : Call) (w : WellFormed g c q) where
   abbrev reads : Requests
   reads = c .outstanding .reads
 
-  abbrev f : CacheForm c
+  abbrev f : PartsForm c
   f = w .form
 
   small : leb r 63 ≡ true
@@ -189,7 +189,7 @@ module _ (g : Settings) (c : CacheState) (q : Call) (w : WellFormed g c q) where
       (λ t. let z = frozen-empty c f t in rw (t, assigned-absent (c .tables .frozen) r loc (f .tables .frozen) (w .call .reference) z) (eq-eqb _ _ z))
 
   -- the awaited id is no part of what a cache lacks before Ready
-  loading-awaited-form : (a : Awaited) → awaitedForm a ≡ true → loadingPhase (c .phase) ≡ true → CacheForm (withAwaited c a)
+  loading-awaited-form : (a : Awaited) → awaitedForm a ≡ true → loadingPhase (c .phase) ≡ true → PartsForm (withAwaited c a)
   loading-awaited-form a h loading =
       let i = loading-idle c (f .phase) loading in
       let after = withAwaited c a in
@@ -215,14 +215,14 @@ module _ (g : Settings) (c : CacheState) (q : Call) (w : WellFormed g c q) where
           }
 
   -- Dirty and Alloc
-  set-node-form : isReady c ≡ true → CacheForm (nodeSet c q)
+  set-node-form : isReady c ≡ true → PartsForm (nodeSet c q)
   set-node-form ok =
       let t = withEntry table r (unlocated (q .node .succs)) in
       let e = with-ephemeral-form c f ok t (with-entry-form table r (unlocated (q .node .succs)) (f .tables .ephemeral) (w .call .reference) (unlocated-form (q .node) (w .call .node))) in
       with-nodes-form (withEphemeral c t) e ok (withSlot (c .nodes) r (cachedSlot (q .node)))
       (with-slot-form (c .nodes) r (cachedSlot (q .node)) (f .nodes) (w .call .reference) (cached-slot-form (q .node) (w .call .node)))
 
-  pub next-form : (step : Step) → Open g c q step → Clear (ownRows g c q step) → CacheForm (stepNext c q step)
+  pub next-form : (step : Step) → Open g c q step → Clear (ownRows g c q step) → PartsForm (stepNext c q step)
   next-form writeBackNodeReqStep taken k =
       let new : Request = record { id = id; reference = r; loc = loc } in
       let h = with-writes-form c f (taken .2) (insertOf writing new)

@@ -3,7 +3,7 @@ use Prim.Native.Nat.{_<_, ℕ}
 use mathlib.Core.Bool.{false, false≢true, true}
 use mathlib.Core.Path.{_∙_, _≡_, refl, sym}
 use Rattle.base.proofs.Scan.{count-zero-at}
-use Rattle.blockcache.proofs.Forms.{CacheForm, empty-reads-form, empty-writes-form, OutstandingForm, ready-form, TablesForm}
+use Rattle.blockcache.proofs.Forms.{PartsForm, empty-reads-form, empty-writes-form, OutstandingForm, ready-form, TablesForm}
 use Rattle.blockcache.specs.Form.{awaitedForm, emptyCache, formIn, idle, isReady, loadingAt, loadingPhase, phaseForm, placesForm, readsForm, writesForm}
 use Rattle.blockcache.specs.Next.{assigned, cachedSlot, unlocated, withAwaited, withEphemeral, withNodes, withOutstanding, withPlaces, withReads, withTables, withWrites}
 use Rattle.blockcache.specs.declared.Awaited.{Awaited}
@@ -48,7 +48,7 @@ loading-form c l i = go (c .phase) l
     go PhaseReady l = absurd (false≢true l)
 
 -- a cache before Ready, with a place at the most
-loading-at-form : (p : Phase) (l : Location) → phaseForm (loadingAt p l) ≡ true → CacheForm (loadingAt p l)
+loading-at-form : (p : Phase) (l : Location) → phaseForm (loadingAt p l) ≡ true → PartsForm (loadingAt p l)
 loading-at-form p l e =
     record {
       tables = record { persistent = empty-table-form; ephemeral = empty-table-form; frozen = empty-table-form; frozen-absent = refl };
@@ -59,45 +59,45 @@ loading-at-form p l e =
       phase = e;
     }
 
-pub empty-cache-form : CacheForm emptyCache
+pub empty-cache-form : PartsForm emptyCache
 unfolding phaseForm idle
 empty-cache-form = loading-at-form PhaseUnready zeroLoc refl
 
-pub received-form : (l : Location) → CacheForm (loadingAt PhaseLoading l)
+pub received-form : (l : Location) → PartsForm (loadingAt PhaseLoading l)
 unfolding phaseForm idle
 received-form l = loading-at-form PhaseLoading l refl
 
 -- A GROUP SET, IN READY: what the other groups say stays
 
-module _ (c : CacheState) (f : CacheForm c) (ok : isReady c ≡ true) where
-  pub with-tables-form : (ts : Tables) → TablesForm ts → CacheForm (withTables c ts)
+module _ (c : CacheState) (f : PartsForm c) (ok : isReady c ≡ true) where
+  pub with-tables-form : (ts : Tables) → TablesForm ts → PartsForm (withTables c ts)
   with-tables-form ts h =
       record { tables = h; places = f .places; awaited = f .awaited; outstanding = f .outstanding; nodes = f .nodes; phase = ready-form (withTables c ts) ok }
 
-  pub with-places-form : (ps : Places) → placesForm ps ≡ true → CacheForm (withPlaces c ps)
+  pub with-places-form : (ps : Places) → placesForm ps ≡ true → PartsForm (withPlaces c ps)
   with-places-form ps h =
       record { tables = f .tables; places = h; awaited = f .awaited; outstanding = f .outstanding; nodes = f .nodes; phase = ready-form (withPlaces c ps) ok }
 
-  pub with-awaited-form : (a : Awaited) → awaitedForm a ≡ true → CacheForm (withAwaited c a)
+  pub with-awaited-form : (a : Awaited) → awaitedForm a ≡ true → PartsForm (withAwaited c a)
   with-awaited-form a h =
       record { tables = f .tables; places = f .places; awaited = h; outstanding = f .outstanding; nodes = f .nodes; phase = ready-form (withAwaited c a) ok }
 
-  pub with-outstanding-form : (o : Outstanding) → OutstandingForm o → CacheForm (withOutstanding c o)
+  pub with-outstanding-form : (o : Outstanding) → OutstandingForm o → PartsForm (withOutstanding c o)
   with-outstanding-form o h =
       record { tables = f .tables; places = f .places; awaited = f .awaited; outstanding = h; nodes = f .nodes; phase = ready-form (withOutstanding c o) ok }
 
-  pub with-nodes-form : (m : Nodes) → nodesForm m ≡ true → CacheForm (withNodes c m)
+  pub with-nodes-form : (m : Nodes) → nodesForm m ≡ true → PartsForm (withNodes c m)
   with-nodes-form m h =
       record { tables = f .tables; places = f .places; awaited = f .awaited; outstanding = f .outstanding; nodes = h; phase = ready-form (withNodes c m) ok }
 
-  pub with-ephemeral-form : (t : Table) → tableForm t ≡ true → CacheForm (withEphemeral c t)
+  pub with-ephemeral-form : (t : Table) → tableForm t ≡ true → PartsForm (withEphemeral c t)
   with-ephemeral-form t h =
       let ts = f .tables in
       with-tables-form (record { persistent = c .tables .persistent; ephemeral = t; isfrozen = c .tables .isfrozen; frozen = c .tables .frozen })
       (record { persistent = ts .persistent; ephemeral = h; frozen = ts .frozen; frozen-absent = ts .frozen-absent })
 
-  pub with-writes-form : (w : Requests) → writesForm w ≡ true → CacheForm (withWrites c w)
+  pub with-writes-form : (w : Requests) → writesForm w ≡ true → PartsForm (withWrites c w)
   with-writes-form w h = with-outstanding-form (record { writes = w; reads = c .outstanding .reads }) (record { writes = h; reading = f .outstanding .reading })
 
-  pub with-reads-form : (r : Requests) → readsForm r ≡ true → CacheForm (withReads c r)
+  pub with-reads-form : (r : Requests) → readsForm r ≡ true → PartsForm (withReads c r)
   with-reads-form r h = with-outstanding-form (record { writes = c .outstanding .writes; reads = r }) (record { writes = f .outstanding .writes; reading = h })

@@ -4,15 +4,13 @@ use mathlib.Core.Bool.{cond, false, not, true}
 use mathlib.Core.List.{List, [], _∷_}
 use mathlib.Core.Option.{Option, none, some}
 use mathlib.Core.Path.{_∙_, _≡_, refl}
-use native.Mathlib.Omega.{arith}
 use borrow.Author.Tests.{eq-eqb, ne-eqb}
 use lib.Dec.{eqb}
 use Rattle.base.proofs.Tests.{split}
 use Rattle.base.specs.Maps.{isSome}
 use Rattle.base.specs.Refusals.{Row, _when_, answer}
-use Rattle.blockcache.proofs.Numbers.{step-of-number}
 use Rattle.blockcache.specs.Rows.{Takes, gate, ownRows, stepRows, takes}
-use Rattle.blockcache.specs.Step.{answered, cacheNext, cacheRows, cacheStep, dispatched, gated, nextOf, nodeOf, pastGate, rowsOf, outcome, wellFormed}
+use Rattle.blockcache.specs.Step.{answered, cacheNext, cacheRows, cacheStep, gated, nodeOf, rowsOf, outcome, wellFormed}
 use Rattle.blockcache.specs.Steps.{Step, stepOf}
 use Rattle.blockcache.specs.declared.CacheState.{CacheState}
 use Rattle.blockcache.specs.declared.Call.{Call}
@@ -34,18 +32,14 @@ module _ (g : Settings) (c : CacheState) (q : Call) where
   rows-shut none ne = refl
   rows-shut (some step) ne = gate-answer (takes (c .phase) (q .vop) (q .dop) step) (ownRows g c q step) ∙ rw (ne-eqb (gateOf (some step)) 0 ne)
 
-  rows-open : (n : ℕ) (o : Option Step) → stepOf n ≡ o → gateOf o ≡ 0 →
-      outcome (answer ((1 when not (isSome o)) ∷ rowsOf g c q o)) (nodeOf c n q) (nextOf c q o) c ≡ dispatched g c q o
-  unfolding gated answer pastGate
-  rows-open n none e z = absurd (omega arith)
-  rows-open n (some step) e z =
-      let a : answer (stepRows g c q step) ≡ answer (ownRows g c q step) =
-      gate-answer (takes (c .phase) (q .vop) (q .dop) step) (ownRows g c q step) ∙ rw (eq-eqb (gateOf (some step)) 0 z) in
-      rw (a, step-of-number n step e)
+  -- behind it the step's own rows decide
+  pub rows-open : (step : Step) → gateOf (some step) ≡ 0 → answer (stepRows g c q step) ≡ answer (ownRows g c q step)
+  unfolding gated
+  rows-open step z = gate-answer (takes (c .phase) (q .vop) (q .dop) step) (ownRows g c q step) ∙ rw (eq-eqb (gateOf (some step)) 0 z)
 
 module _ (g : Settings) (c : CacheState) (n : ℕ) (q : Call) where
   -- a step is made of the answer of its rows, the node and the next cache
-  pub step-is : cacheStep g c n q ≡ outcome (answer (cacheRows g c n q)) (nodeOf c n q) (cacheNext c n q) c
+  pub step-is : cacheStep g c n q ≡ outcome (answer (cacheRows g c n q)) (nodeOf c n q) (cacheNext (g .device) c n q) c
   unfolding cacheStep
   step-is = refl
 
@@ -60,6 +54,3 @@ module _ (g : Settings) (c : CacheState) (n : ℕ) (q : Call) where
     step-shut ne =
         let e : answer (cacheRows g c n q) ≡ gateOf g c q (stepOf n) = rw w (rows-shut g c q (stepOf n) ne) in
         step-is ∙ rw (e, ne-eqb (gateOf g c q (stepOf n)) 0 ne)
-
-    pub step-open : gateOf g c q (stepOf n) ≡ 0 → cacheStep g c n q ≡ dispatched g c q (stepOf n)
-    step-open z = step-is ∙ rw w (rows-open g c q n (stepOf n) refl z)

@@ -9,7 +9,7 @@ use Rattle.base.proofs.Refusals.{Clear}
 use Rattle.base.proofs.Tests.{and-both, and-false-iff, and-iff, clash, none-iff, not-iff, or-iff, split}
 use Rattle.base.specs.Maps.{put}
 use Rattle.blockcache.proofs.Bridge.{has-predecessor-iff, needs-cached-iff}
-use Rattle.blockcache.proofs.Forms.{CacheForm, WellFormed, reads-requests, writes-requests}
+use Rattle.blockcache.proofs.Forms.{PartsForm, WellFormed, reads-requests, writes-requests}
 use Rattle.blockcache.proofs.Frames.{Complete, Exact, Sound}
 use Rattle.blockcache.proofs.OpKinds.{on-ready-iff}
 use Rattle.blockcache.proofs.Waiting.{reads-iff, writes-to-iff}
@@ -36,7 +36,7 @@ module _ (g : Settings) (c : CacheState) (q : Call) (w : WellFormed g c q) where
   abbrev r : ℕ
   r = q .reference
 
-  abbrev f : CacheForm c
+  abbrev f : PartsForm c
   f = w .form
 
   abbrev table : Table

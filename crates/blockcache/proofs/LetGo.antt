@@ -45,7 +45,7 @@ module _ (g : Settings) (c : CacheState) (q : Call) where
       )
 
   -- and then the next variables are the old ones without that wait
-  pub let-go-next : answer (cacheRows g c 19 q) ≡ 0 → LetGo (cacheVars c) (cacheVars (cacheNext c 19 q)) (callOp q) (q .vop)
+  pub let-go-next : answer (cacheRows g c 19 q) ≡ 0 → LetGo (cacheVars c) (cacheVars (cacheNext (g .device) c 19 q)) (callOp q) (q .vop)
   let-go-next e =
       let x = store-allowed g c 19 q e in
       let z = number-decides 19 (x .0) letGoStep (x .1) refl in

@@ -5,7 +5,7 @@ use mathlib.Core.Logic.{inl, inr, ⊎-elim}
 use mathlib.Core.Path.{_∙_, _≡_, ap, refl, sym}
 use Rattle.base.proofs.Tests.{not-iff}
 use Rattle.blockcache.proofs.Bridge.{awaits-iff}
-use Rattle.blockcache.proofs.Forms.{CacheForm, WellFormed, reads-requests}
+use Rattle.blockcache.proofs.Forms.{PartsForm, WellFormed, reads-requests}
 use Rattle.blockcache.proofs.Frames.{Complete, Exact, Sound}
 use Rattle.blockcache.proofs.OpKinds.{loading-is, on-ready-iff}
 use Rattle.blockcache.proofs.ReadAnswers.{awaits-read-is, table-not-node}
@@ -25,7 +25,7 @@ use Rattle.queue.specs.Queue.{removeOf}
 use Rattle.queue.specs.declared.Requests.{Requests}
 
 module _ (g : Settings) (c : CacheState) (q : Call) (w : WellFormed g c q) where
-  abbrev f : CacheForm c
+  abbrev f : PartsForm c
   f = w .form
 
   abbrev id : ℕ

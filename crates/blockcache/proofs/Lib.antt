@@ -1,6 +1,8 @@
 -- The theory of the cache.
+pub mod Arms
 pub mod Bounds
 pub mod Bridge
+pub mod Chooser
 pub mod Decided
 pub mod Demand2
 pub mod EveryStep
@@ -18,6 +20,10 @@ pub mod InvWrites
 pub mod Kept
 pub mod LetGo
 pub mod LetGoStep
+pub mod Loaded
+pub mod MarkLaws
+pub mod MarkSteps
+pub mod NextFit
 pub mod Numbers
 pub mod OpKinds
 pub mod OtherSteps

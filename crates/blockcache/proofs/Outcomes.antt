@@ -25,7 +25,7 @@ module _ (g : Settings) (c : CacheState) (n : ℕ) (q : Call) where
   rows = cacheRows g c n q
 
   abbrev next : CacheState
-  next = cacheNext c n q
+  next = cacheNext (g .device) c n q
 
   pub step-answer : cacheStep g c n q .answer ≡ answer rows
   step-answer = ap (λ o. o .answer) (step-is g c n q)
@@ -49,8 +49,8 @@ module _ (g : Settings) (c : CacheState) (n : ℕ) (q : Call) where
       (λ t. let e = eqb-true (answer rows) 0 t in subst P (sym (step-taken e)) (k e))
       (λ t. subst P (sym (step-refused (eqb-false (answer rows) 0 t))) p)
 
-  pub step-form : cacheForm c ≡ true → cacheForm (cacheStep g c n q .cache) ≡ true
-  step-form f = step-keeps (λ x. cacheForm x ≡ true) f (cache-form-kept g c n q)
+  pub step-form : cacheForm (g .device) c ≡ true → cacheForm (g .device) (cacheStep g c n q .cache) ≡ true
+  step-form f = step-keeps (λ x. cacheForm (g .device) x ≡ true) f (cache-form-kept g c n q)
 
   pub step-inv : Inv (g .device) (cacheVars c) → Inv (g .device) (cacheVars (cacheStep g c n q .cache))
   step-inv i = step-keeps (λ x. Inv (g .device) (cacheVars x)) i (inv-kept g c n q i)

@@ -9,7 +9,7 @@ use Rattle.base.proofs.Refusals.{Clear}
 use Rattle.base.proofs.Tests.{and-both, and-false-iff, and-right, none-iff, not-iff, or-iff}
 use Rattle.base.specs.Maps.{flagged, isSome}
 use Rattle.blockcache.proofs.Bridge.{awaits-iff, node-rejected-iff, table-rejected-iff}
-use Rattle.blockcache.proofs.Forms.{CacheForm, WellFormed, loading-idle, no-nodes-map, read-ref-bounded, reads-requests, writes-requests}
+use Rattle.blockcache.proofs.Forms.{PartsForm, WellFormed, loading-idle, no-nodes-map, read-ref-bounded, reads-requests, writes-requests}
 use Rattle.blockcache.proofs.Frames.{Complete, Exact, Sound}
 use Rattle.blockcache.proofs.OpKinds.{loading-is, on-ready-iff, unready-iff}
 use Rattle.blockcache.proofs.Waiting.{not-read-iff, reads-at, reads-empty-iff, reads-has, reads-insert, reads-remove, writes-empty-iff}
@@ -45,7 +45,7 @@ module _ (g : Settings) (c : CacheState) (q : Call) (w : WellFormed g c q) where
   abbrev r : ℕ
   r = q .reference
 
-  abbrev f : CacheForm c
+  abbrev f : PartsForm c
   f = w .form
 
   abbrev id : ℕ

@@ -9,7 +9,7 @@ use Rattle.base.proofs.Flagged.{flagged-each-iff, flagged-is-iff, flagged-none-
 use Rattle.base.proofs.Refusals.{Clear}
 use Rattle.base.proofs.Tests.{and-both, and-false-iff, and-iff, and-right, not-iff, or-iff}
 use Rattle.blockcache.proofs.Bridge.{assigned-is, awaits-iff, held-iff, locs-complete-iff}
-use Rattle.blockcache.proofs.Forms.{CacheForm, WellFormed, writes-requests}
+use Rattle.blockcache.proofs.Forms.{PartsForm, WellFormed, writes-requests}
 use Rattle.blockcache.proofs.Frames.{Complete, Exact, Sound}
 use Rattle.blockcache.proofs.OpKinds.{on-ready-iff}
 use Rattle.blockcache.proofs.Waiting.{writes-empty-iff, writes-has, writes-insert, writes-remove}
@@ -41,7 +41,7 @@ module _ (g : Settings) (c : CacheState) (q : Call) (w : WellFormed g c q) where
   abbrev r : ℕ
   r = q .reference
 
-  abbrev f : CacheForm c
+  abbrev f : PartsForm c
   f = w .form
 
   abbrev id : ℕ

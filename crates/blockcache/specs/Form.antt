@@ -1,8 +1,11 @@
--- The cache's one written form: what a phase doesn't have is zeros.
+-- The cache's one written form: what a phase doesn't have is zeros, and the marks are those of its tables and its outstanding writes, on its device.
+use Prim.Native.Nat.{ℕ}
 use mathlib.Core.Bool.{Bool, _&&_, _||_, false, not, true}
 use lib.Dec.{eqb, leb, ltb}
 use Rattle.base.specs.Scan.{allBelow}
+use Rattle.blockcache.specs.Marks.{blocksZero, marksOf, noBlocks, sameMarks}
 use Rattle.blockcache.specs.declared.Awaited.{Awaited}
+use Rattle.blockcache.specs.declared.Blocks.{Blocks}
 use Rattle.blockcache.specs.declared.CacheState.{CacheState}
 use Rattle.blockcache.specs.declared.Call.{Call}
 use Rattle.blockcache.specs.declared.Outstanding.{Outstanding}
@@ -80,9 +83,23 @@ formIn Ready c = true
 unfoldable pub phaseForm : CacheState → Bool
 phaseForm c = formIn (c .phase) c
 
-unfoldable pub cacheForm : CacheState → Bool
-cacheForm c =
+-- each part by itself, and what the phase doesn't have
+unfoldable pub partsForm : CacheState → Bool
+partsForm c =
     tablesForm (c .tables) && placesForm (c .places) && awaitedForm (c .awaited) && outstandingForm (c .outstanding) && nodesForm (c .nodes) && phaseForm c
+
+-- in Ready the marks are those of the tables and the outstanding writes, and the block given last is one of the 128; outside Ready both are zeros
+abbrev pub blocksIn : Phase → ℕ → Blocks → Tables → Requests → Bool
+blocksIn Unready d b ts writes = blocksZero b
+blocksIn Loading d b ts writes = blocksZero b
+blocksIn Ready d b ts writes = sameMarks (b .marks) (marksOf d ts writes) && leb (b .last) 127
+
+unfoldable pub blocksForm : ℕ → CacheState → Bool
+blocksForm d c = blocksIn (c .phase) d (c .blocks) (c .tables) (c .outstanding .writes)
+
+-- the form names the device: its row says which address is which block's
+unfoldable pub cacheForm : ℕ → CacheState → Bool
+cacheForm d c = partsForm c && blocksForm d c
 
 -- a device that is made, and a freeze rule
 abbrev pub settingsForm : Settings → Bool
@@ -108,6 +125,7 @@ loadingAt p l =
       awaited = notWaiting;
       outstanding = record { writes = emptyRequests; reads = emptyRequests };
       nodes = emptyNodes;
+      blocks = noBlocks;
     }
 
 abbrev pub emptyCache : CacheState

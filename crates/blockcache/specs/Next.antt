@@ -1,4 +1,5 @@
--- The next cache of each step: only what a step sets; every other part goes through a setter, one for each group of fields.
+-- The next cache of each step: only what a step sets; every other part goes through a setter, one for each group of fields. The marks, which every
+-- next cache has, are set once, after the step's own part.
 use Prim.Native.Nat.{ℕ}
 use mathlib.Core.Bool.{_&&_, cond, false, not, true}
 use Rattle.blockcache.specs.Form.{emptyCache, loadingAt, notWaiting}
@@ -6,9 +7,12 @@ use Rattle.blockcache.specs.Ops.{dopId, dopLoc, isD, nodeReadResp, vopLo
 use Rattle.blockcache.specs.Steps.{Step, allocStep, cleanUpStep, crashStep, dirtyStep, evictStep, freezeStep, letGoStep, noOpStep, pageInIndirectionTableReqStep, pageInIndirectionTableRespStep}
 use Rattle.blockcache.specs.Steps.{pageInNodeReqStep, pageInNodeRespStep, readStep, receiveLocStep, unallocStep, writeBackIndirectionTableReqStep, writeBackIndirectionTableRespStep}
 use Rattle.blockcache.specs.Steps.{writeBackNodeReqStep, writeBackNodeRespStep}
+use Rattle.blockcache.specs.Marks.{marksOf}
 use Rattle.blockcache.specs.declared.Awaited.{Awaited}
+use Rattle.blockcache.specs.declared.Blocks.{Blocks}
 use Rattle.blockcache.specs.declared.CacheState.{CacheState}
 use Rattle.blockcache.specs.declared.Call.{Call}
+use Rattle.blockcache.specs.declared.Marks.{Marks}
 use Rattle.blockcache.specs.declared.Outstanding.{Outstanding}
 use Rattle.blockcache.specs.declared.Phase.{Phase}
 use Rattle.blockcache.specs.declared.Phase.the-variants.{Loading, Ready}
@@ -29,22 +33,31 @@ use Rattle.sectortype.specs.declared.Table.{Table}
 -- THE SETTERS
 
 abbrev pub withPhase : CacheState → Phase → CacheState
-withPhase c p = record { phase = p; tables = c .tables; places = c .places; awaited = c .awaited; outstanding = c .outstanding; nodes = c .nodes }
+withPhase c p = record { phase = p; tables = c .tables; places = c .places; awaited = c .awaited; outstanding = c .outstanding; nodes = c .nodes; blocks = c .blocks }
 
 abbrev pub withTables : CacheState → Tables → CacheState
-withTables c ts = record { phase = c .phase; tables = ts; places = c .places; awaited = c .awaited; outstanding = c .outstanding; nodes = c .nodes }
+withTables c ts = record { phase = c .phase; tables = ts; places = c .places; awaited = c .awaited; outstanding = c .outstanding; nodes = c .nodes; blocks = c .blocks }
 
 abbrev pub withPlaces : CacheState → Places → CacheState
-withPlaces c ps = record { phase = c .phase; tables = c .tables; places = ps; awaited = c .awaited; outstanding = c .outstanding; nodes = c .nodes }
+withPlaces c ps = record { phase = c .phase; tables = c .tables; places = ps; awaited = c .awaited; outstanding = c .outstanding; nodes = c .nodes; blocks = c .blocks }
 
 abbrev pub withAwaited : CacheState → Awaited → CacheState
-withAwaited c a = record { phase = c .phase; tables = c .tables; places = c .places; awaited = a; outstanding = c .outstanding; nodes = c .nodes }
+withAwaited c a = record { phase = c .phase; tables = c .tables; places = c .places; awaited = a; outstanding = c .outstanding; nodes = c .nodes; blocks = c .blocks }
 
 abbrev pub withOutstanding : CacheState → Outstanding → CacheState
-withOutstanding c o = record { phase = c .phase; tables = c .tables; places = c .places; awaited = c .awaited; outstanding = o; nodes = c .nodes }
+withOutstanding c o = record { phase = c .phase; tables = c .tables; places = c .places; awaited = c .awaited; outstanding = o; nodes = c .nodes; blocks = c .blocks }
 
 abbrev pub withNodes : CacheState → Nodes → CacheState
-withNodes c m = record { phase = c .phase; tables = c .tables; places = c .places; awaited = c .awaited; outstanding = c .outstanding; nodes = m }
+withNodes c m = record { phase = c .phase; tables = c .tables; places = c .places; awaited = c .awaited; outstanding = c .outstanding; nodes = m; blocks = c .blocks }
+
+abbrev pub withBlocks : CacheState → Blocks → CacheState
+withBlocks c b = record { phase = c .phase; tables = c .tables; places = c .places; awaited = c .awaited; outstanding = c .outstanding; nodes = c .nodes; blocks = b }
+
+abbrev pub withMarks : CacheState → Marks → CacheState
+withMarks c m = withBlocks c (record { marks = m; last = c .blocks .last })
+
+abbrev pub withLast : CacheState → ℕ → CacheState
+withLast c b = withBlocks c (record { marks = c .blocks .marks; last = b })
 
 abbrev pub withEphemeral : CacheState → Table → CacheState
 withEphemeral c t =
@@ -74,6 +87,10 @@ unlocated s = record { allocated = true; located = false; loc = zeroLoc; succs =
 
 abbrev pub cachedSlot : Node → Slot
 cachedSlot n = record { present = true; node = n }
+
+-- a table loaded; the chooser starts as though block 127, the last, had been given
+abbrev pub loaded : CacheState → Table → CacheState
+loaded c t = withLast (withPhase (withAwaited (withTables c (record { persistent = t; ephemeral = t; isfrozen = false; frozen = emptyTable })) notWaiting) Ready) 127
 
 -- THE STEPS
 
@@ -106,8 +123,7 @@ module _ (c : CacheState) (q : Call) where
       withReads (withNodes c (withSlot (c .nodes) (entryOf (c .outstanding .reads) id .reference) (cachedSlot (q .node))))
       (removeOf (c .outstanding .reads) id)
   stepNext pageInIndirectionTableReqStep = withAwaited c (waitingFor id)
-  stepNext pageInIndirectionTableRespStep =
-      withPhase (withAwaited (withTables c (record { persistent = q .table; ephemeral = q .table; isfrozen = false; frozen = emptyTable })) notWaiting) Ready
+  stepNext pageInIndirectionTableRespStep = loaded c (q .table)
   stepNext receiveLocStep = loadingAt Loading (vopLoc (q .vop))
   stepNext evictStep = withNodes c (withSlot (c .nodes) r zeroSlot)
   -- a frozen place, if set, is dropped
@@ -126,3 +142,7 @@ module _ (c : CacheState) (q : Call) where
   stepNext crashStep = emptyCache
   -- the wait for the answered read, and nothing else
   stepNext letGoStep = cond (isD nodeReadResp (q .dop)) (withReads c (removeOf (c .outstanding .reads) id)) (withAwaited c notWaiting)
+
+-- THE MARKS: whatever the step, they are those of the next tables and outstanding writes
+abbrev pub marksRenewed : ℕ → CacheState → CacheState
+marksRenewed d c = withMarks c (marksOf d (c .tables) (c .outstanding .writes))

@@ -1,7 +1,7 @@
 -- The steps: a constructor for each of document 01's, under upstream's names, and of document 02's, and the one function from a number to its
 -- step. The reference and the node that upstream's constructors carry are those of the call.
 use Prim.Native.Nat.{suc, zero, ℕ}
-use mathlib.Core.Bool.{Bool}
+use mathlib.Core.Bool.{Bool, _||_}
 use mathlib.Core.List.{List, [], _∷_}
 use mathlib.Core.Option.{Option, none}
 use lib.Dec.{eqb}
@@ -92,6 +92,10 @@ isRead n = eqb n (numberOf readStep)
 abbrev pub isCrash : ℕ → Bool
 isCrash n = eqb n (numberOf crashStep)
 
+-- a table's load, after which the chooser begins anew
+abbrev pub isLoad : ℕ → Bool
+isLoad n = eqb n (numberOf pageInIndirectionTableRespStep)
+
 -- a clean-up, which ends a frozen name as a start does
 abbrev pub isCleanUp : ℕ → Bool
 isCleanUp n = eqb n (numberOf cleanUpStep)
@@ -99,3 +103,15 @@ isCleanUp n = eqb n (numberOf cleanUpStep)
 -- document 02's steps, which upstream doesn't have: demand 2's first sentence leaves them out
 abbrev pub isNew : ℕ → Bool
 isNew n = eqb n (numberOf letGoStep)
+
+-- the steps after which the code makes the marks anew: they may move a location of a table or an outstanding write. Every other step moves none, or leaves
+-- no location, no outstanding write and no mark: receiveLocStep and crashStep (`marks-stay`, proofs/MarkSteps.antt)
+abbrev pub relocates : ℕ → Bool
+relocates n =
+    eqb n (numberOf writeBackNodeReqStep)
+    || eqb n (numberOf writeBackNodeRespStep)
+    || eqb n (numberOf unallocStep)
+    || eqb n (numberOf pageInIndirectionTableRespStep)
+    || eqb n (numberOf freezeStep)
+    || eqb n (numberOf cleanUpStep)
+    || eqb n (numberOf dirtyStep)

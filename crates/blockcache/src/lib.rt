@@ -1,5 +1,6 @@
-// Upstream's BlockCache as definitions: phases, three tables, what is outstanding and the cached nodes; what each of steps 1 to 19
-// answers and leaves, upstream's predicates and that of step 19, and the theorem of demand 2. No code: `cache` has the step.
+// Upstream's BlockCache as definitions: phases, three tables, what is outstanding, the cached nodes and the marks of the node blocks; what each of
+// steps 1 to 19 and the chooser answers and leaves, upstream's predicates and that of step 19, and the theorem of demand 2. No code: `cache` has the
+// step and the chooser.
 use blockdisk::DiskOp;
 use disklayout::Location;
 use queue::Requests;
@@ -40,6 +41,18 @@ pub struct Outstanding {
     pub reads: Requests,
 }
 
+// A mark for each of the 128 node blocks (document 02, Q-1), a bit each: bit k of the low word is block k's, bit k of the high one block 64 + k's.
+pub struct Marks {
+    pub low: u64,
+    pub high: u64,
+}
+
+// The blocks' marks, and the number of the block that the chooser gave last. Both are zeros outside Ready.
+pub struct Blocks {
+    pub marks: Marks,
+    pub last: u64,
+}
+
 pub struct CacheState {
     pub phase: Phase,
     pub tables: Tables,
@@ -47,6 +60,7 @@ pub struct CacheState {
     pub awaited: Awaited,
     pub outstanding: Outstanding,
     pub nodes: Nodes,
+    pub blocks: Blocks,
 }
 
 // What a call of the cache names beside the cache: the device, and its freeze rule (document 02, Q-8), 1 or 2. A later setting is a field here.
@@ -83,5 +97,15 @@ pub struct Call {
 pub struct CacheOutcome {
     pub answer: u64,
     pub node: Node,
+    pub cache: CacheState,
+}
+
+// What the chooser returns: the number that document 02 gives; the number of the block given, from 0, its address, and how many blocks are free
+// (unmarked), zeros where the answer is not 0; and the cache, which has that block as the one given last, unchanged where the answer is not 0.
+pub struct Choice {
+    pub answer: u64,
+    pub block: u64,
+    pub addr: u64,
+    pub free: u64,
     pub cache: CacheState,
 }

@@ -77,7 +77,7 @@ module _ (d : ℕ) (n : ℕ) (q : Call) (o : Records) (c : CacheState) (s : Disk
       )
 
   module _ (e : joinedAnswer d n q o c s ≡ 0) where
-    pub joined-cache : joined d n q o c s .cache ≡ cacheNext c n q
+    pub joined-cache : joined d n q o c s .cache ≡ cacheNext d c n q
     unfolding joined
     joined-cache = rw (eq-eqb _ _ e) (step-taken (settingsOf d s) c n q (joined-zero .0 e .0))
 

@@ -7,12 +7,14 @@ use mathlib.Core.Logic.{_↔_}
 use mathlib.Core.Path.{_∙_, _≡_, ap, refl, subst}
 use borrow.Author.Tests.{eq-eqb, eqb-true, ne-eqb}
 use Rattle.base.proofs.Tests.{and-iff}
+use Rattle.blockcache.specs.Chooser.{chooser}
 use Rattle.blockcache.specs.Ops.{vopLoc}
 use Rattle.blockcache.specs.Steps.{isStart}
 use Rattle.blockcache.specs.declared.Call.{Call}
 use Rattle.blockdisk.specs.declared.Records.{Records}
+use Rattle.blocksystem.specs.Joined.{settingsOf}
 use Rattle.blocksystem.specs.Names.{isNamed, picturesAfter}
-use Rattle.blocksystem.specs.Run.{Every, JoinedCall, State, acceptsStep, after, afterStep, asked, moved, startNamed, startsNamed, step, stepNamed}
+use Rattle.blocksystem.specs.Run.{Every, JoinedCall, State, acceptsStep, after, afterStep, asked, choose, moved, startNamed, startsNamed, step, stepNamed}
 
 -- THE RUN
 
@@ -25,6 +27,16 @@ pub record HandsOn (d : ℕ) (s : State) (n : ℕ) (q : Call) (o : Records) : Ty
 
 pub hands-on : (d : ℕ) (s : State) (n : ℕ) (q : Call) (o : Records) → HandsOn d s n q o
 hands-on d s n q o = record { cache = refl; disk = refl; accepted = λ e. rw (eq-eqb _ _ e); refused = λ ne. rw (ne-eqb _ _ ne) }
+
+-- the state after the chooser's call: it changes no name and no picture, and nothing on the disk
+pub record ChoiceHandsOn (d : ℕ) (s : State) : Type 0 where
+  pub cache : after d s (choose ∷ []) .cache ≡ chooser (settingsOf d (s .disk)) (s .cache) .cache
+  pub disk : after d s (choose ∷ []) .disk ≡ s .disk
+  pub pictures : after d s (choose ∷ []) .pictures ≡ s .pictures
+
+pub choice-hands-on : (d : ℕ) (s : State) → ChoiceHandsOn d s
+unfolding after
+choice-hands-on d s = record { cache = refl; disk = refl; pictures = refl }
 
 pub run-one : (d : ℕ) (s : State) (n : ℕ) (q : Call) (o : Records) → after d s (step n q o ∷ []) ≡ afterStep d s n q o
 unfolding after
@@ -93,6 +105,7 @@ starts-cut d (k ∷ ks) back s h =
 at-named : (d : ℕ) (s : State) (k : JoinedCall) →
     ((n : ℕ) (q : Call) (o : Records) → k ≡ step n q o → asked d s n q o .answer ≡ 0 → isStart n ≡ true → isNamed (s .pictures) (vopLoc (q .vop)) ≡ true) → CallNamed d s k
 at-named d s (step n q o) h = step-named-iff d s n q o .1 (λ t. h n q o refl (eqb-true _ _ t))
+at-named d s choose h = refl
 
 pub starts-named-iff : (d : ℕ) (s : State) (calls : List JoinedCall) → (startsNamed d s calls ≡ true) ↔ EveryStartNamed d s calls
 starts-named-iff d s calls =

@@ -3,15 +3,17 @@ use Prim.Native.Nat.{_<_, _≤_, ℕ}
 use mathlib.Core.Bool.{Bool, _||_, false, true}
 use mathlib.Core.List.{List}
 use mathlib.Core.Logic.{⊎-elim}
-use mathlib.Core.Path.{_≡_, refl}
+use mathlib.Core.Path.{_∙_, _≡_, ap, refl, sym}
 use native.Mathlib.Omega.{arith}
 use lib.Dec.{eqb, leb}
 use borrow.Author.Tests.{eq-eqb, eqb-false, eqb-true, leb-false, leb-true, ne-eqb}
 use Rattle.base.proofs.Refusals.{accepted-iff, answer-holds, answer-lowest, clear-holds}
 use Rattle.base.proofs.Tests.{clash, or-cases, or-inl, or-inr, or-iff, split}
 use Rattle.base.specs.Refusals.{Row, answer, ascending, holds, lowest}
+use Rattle.blockcache.proofs.Chooser.{block-free, block-small, choice-answer, choice-ascends, count-all, gives-addr, gives-block, gives-cache, refused-choice}
 use Rattle.blockcache.proofs.Numbers.{rows-ascending}
 use Rattle.blockcache.proofs.Outcomes.{step-answer}
+use Rattle.blockcache.specs.Chooser.{chooserRows, refusedChoice}
 use Rattle.blockcache.specs.Step.{cacheRows}
 use Rattle.blockcache.specs.Steps.{isCrash}
 use Rattle.blockcache.specs.declared.CacheState.{CacheState}
@@ -25,7 +27,7 @@ use Rattle.blockdisk.specs.Ops.{diskRows}
 use Rattle.blocksystem.proofs.Accepting.{crash-answer, disk-answer}
 use Rattle.blocksystem.proofs.After.{every-iff}
 use Rattle.blocksystem.specs.Joined.{diskAsked, diskCall, joined, joinedAnswer, settingsOf, startRows}
-use Rattle.blocksystem.specs.Run.{Answered, AnsweredAs, JoinedCall, State, StepAnswered, after, conditions, diskSide, step}
+use Rattle.blocksystem.specs.Run.{Answered, AnsweredAs, ChoiceAnswered, JoinedCall, State, StepAnswered, after, choice, choose, conditions, diskSide, step}
 
 -- a is the lowest number of which P holds; 0 where P holds of none
 pub record Lowest (a : ℕ) (P : ℕ → Bool) : Type 0 where
@@ -110,8 +112,30 @@ module _ (d : ℕ) (s : State) (n : ℕ) (q : Call) (o : Records) where
         node-read = λ e. rw (eq-eqb a 0 e);
       }
 
+-- the chooser's call
+choice-answered : (d : ℕ) (s : State) → ChoiceAnswered d s
+choice-answered d s =
+    let g = settingsOf d (s .disk) in
+    let c = s .cache in
+    let a = answer (chooserRows g c) in
+    let is : choice d s .answer ≡ a = choice-answer g c in
+    let l = rows-lowest (chooserRows g c) (choice-ascends g c) in
+    record {
+      accepted = ((λ e. l .none (sym is ∙ e)), (λ h. is ∙ split (eqb a 0) (eqb-true a 0) (λ t. clash (l .own (eqb-false a 0 t)) (h a))));
+      refused = λ ne. rw is (l .own (λ e. ne (is ∙ e)));
+      lowest = λ k lt. split (holds k (chooserRows g c)) (λ t. absurd (let le : a ≤ k = l .least k t in omega arith)) (λ t. t);
+      unchanged = λ ne. refused-choice g c (λ e. ne (is ∙ e)) ∙ ap (λ n. refusedChoice n c) (sym is);
+      block = λ e. gives-block g c (sym is ∙ e);
+      small = λ e. rw (gives-block g c (sym is ∙ e)) (block-small g c);
+      is-free = λ e. rw (gives-block g c (sym is ∙ e)) (block-free g c (sym is ∙ e));
+      addr = λ e. rw (gives-block g c (sym is ∙ e)) (gives-addr g c (sym is ∙ e));
+      count = λ e. count-all g c (sym is ∙ e);
+      next = λ e. rw (gives-block g c (sym is ∙ e)) (gives-cache g c (sym is ∙ e));
+    }
+
 pub answered-as : (d : ℕ) (s : State) (k : JoinedCall) → AnsweredAs d s k
 answered-as d s (step n q o) = step-answered d s n q o
+answered-as d s choose = choice-answered d s
 
 -- each call of a list, whatever the state
 pub all-answered : (d : ℕ) (calls : List JoinedCall) (s : State) → Answered d s calls

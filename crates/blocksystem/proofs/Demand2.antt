@@ -76,7 +76,7 @@ start-iff d n q s = (
 module _ (d n : ℕ) (q : Call) (o : Records) (c : CacheState) (s : DiskState) where
   module _ (ne : isCrash n ≡ false) (old : isNew n ≡ false) where
     abbrev after : Variables
-    after = record { machine = cacheVars (cacheNext c n q); disk = diskVars d (nextDisk d s (diskCall n q .op) (q .node) (q .table)) }
+    after = record { machine = cacheVars (cacheNext d c n q); disk = diskVars d (nextDisk d s (diskCall n q .op) (q .node) (q .table)) }
 
     machine-to : joinedAnswer d n q o c s ≡ 0 → MachineTo d n q o c s after
     machine-to e =
@@ -121,7 +121,7 @@ module _ (d : ℕ) (q : Call) (o : Records) (c : CacheState) (s : DiskState) whe
   crash-to e =
       let z = joined-zero d 18 q o c s .0 e in
       let a : answer (crashRows d s o) ≡ 0 = sym (crash-answer d 18 q o s refl) ∙ z .1 in
-      (a, record { op = crash-op (cacheVars (cacheNext c 18 q)) (cache-allowed (settingsOf d s) c 18 q refl (z .0)); machine = refl; disk = crash-accepted d s o .0 a .1 })
+      (a, record { op = crash-op (cacheVars (cacheNext d c 18 q)) (cache-allowed (settingsOf d s) c 18 q refl (z .0)); machine = refl; disk = crash-accepted d s o .0 a .1 })
 
   crash-from : NoNarrowing d 18 q o c s → (m : MVariables) → Crash (systemVars d c s) (record { machine = m; disk = diskVars d (crashed s o) }) (q .vop) → joinedAnswer d 18 q o c s ≡ 0
   unfolding stepOf steps
@@ -171,7 +171,7 @@ module _ (d n : ℕ) (q : Call) (o : Records) (c : CacheState) (s : DiskState) (
         crash = λ t.
             let y : joined d n q o c s .disk ≡ crashed s o = joined-disk d n q o c s e ∙ crash-next d n q o s t (sym (crash-answer d n q o s t) ∙ z .1) in
             let h : n ≡ 18 = eqb-true n 18 t in
-            let k : cacheVars (joined d n q o c s .cache) ≡ unready = ap cacheVars (cs ∙ ap (λ m. cacheNext c m q) h) ∙ cache-crash c q in
+            let k : cacheVars (joined d n q o c s .cache) ≡ unready = ap cacheVars (cs ∙ ap (λ m. cacheNext d c m q) h) ∙ cache-crash d c q in
             rw (k, y) (crash-to d q o c s (rw h at e) .1);
       }
 

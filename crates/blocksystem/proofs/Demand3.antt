@@ -1,8 +1,8 @@
 -- DEMAND 3, and all else that is promised of a list: along every list of joined calls, crashes between any two included, from a newly formatted device,
 -- each call is answered as documents 01 and 02 fix, no accepted read differs from the working picture, and afterwards a place is named, no reference is
 -- lost, added or altered at a named place, no start there is refused with 20, the cache in Ready agrees with the working picture, the disk has its rule
--- still, under rule 2 a frozen place stayed named until a clean-up or a start was accepted, and no wait is for ever. The rule is a variable throughout.
--- Assumes nothing.
+-- still, under rule 2 a frozen place stayed named until a clean-up or a start was accepted, the cache's marks are right, each block that stayed free was given in time,
+-- and no wait is for ever. The rule is a variable throughout. Assumes nothing.
 use Prim.Native.Nat.{ℕ}
 use mathlib.Core.Bool.{true}
 use mathlib.Core.List.{List}
@@ -18,6 +18,7 @@ use Rattle.blocksystem.proofs.Invariant.{Invariant}
 use Rattle.blocksystem.proofs.Keep.{run-keeps}
 use Rattle.blocksystem.proofs.Restart.{starts-whole}
 use Rattle.blocksystem.proofs.Screen.{none-differ, ready-shown}
+use Rattle.blocksystem.proofs.Fairness.{block-usable, fairness, lowest-after-load}
 use Rattle.blocksystem.proofs.Waits.{waits-end}
 use Rattle.blocksystem.specs.Frozen.{FrozenStays}
 use Rattle.blocksystem.specs.Promise.{Promised}
@@ -44,6 +45,10 @@ nothing-lost d r on rule x calls n =
       shown = ready-shown d (after d s calls) v;
       rule = run-keeps-rule d calls s;
       frozen = frozen-stays d calls s at-first n;
+      form = v .cache-form;
+      fair = fairness d calls s (at-first .cache-form);
+      loaded = lowest-after-load d (after d s calls);
+      usable = block-usable d (after d s calls);
       waits = waits-end d (after d s calls) v;
     }
 

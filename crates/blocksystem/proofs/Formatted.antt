@@ -17,8 +17,7 @@ use Rattle.sectortype.specs.declared.Succs.{Succs}
 use Rattle.base.proofs.Maps.{in-put-same, put-none, put-other, put-same, put-some}
 use Rattle.base.proofs.Tests.{and-iff, clash, leb-iff, never, split}
 use Rattle.base.specs.Maps.{empty, put}
-use Rattle.blockcache.proofs.FormLaws.{empty-cache-form}
-use Rattle.blockcache.proofs.Forms.{cache-form-iff}
+use Rattle.blockcache.proofs.MarkLaws.{empty-form}
 use Rattle.blockdisk.proofs.Crashing.{crashed-form, empty-records-form, empty-records-placed}
 use Rattle.blockdisk.proofs.Kept.{with-node-form, with-node-placed, with-table-form, with-table-placed}
 use Rattle.blockdisk.proofs.Rules.{rule-iff}
@@ -227,7 +226,7 @@ module _ (d : ℕ) (x : Contents) (on : made d ≡ true) where
         rw formatted-is
         (record {
           made-device = on;
-          cache-form = cache-form-iff emptyCache .1 empty-cache-form;
+          cache-form = empty-form d;
           disk-form = formatted-form r rule;
           pictures-form = first-forms d x;
           first-named = refl;

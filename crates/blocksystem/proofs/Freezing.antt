@@ -98,9 +98,9 @@ module _ (d : ℕ) (s : State) (q : Call) (o : Records) where
   unfolding conditions stepOf steps
   formed e =
       let h = simp (or-iff, or-false, not-iff) at e in
-      let w = and-iff (settingsForm g && cacheForm (s .cache)) (callForm q) .0 (h .0 .0) in
+      let w = and-iff (settingsForm g && cacheForm d (s .cache)) (callForm q) .0 (h .0 .0) in
       let f = and-iff (diskForm d (s .disk) && nodeForm (q .node)) (tableForm (q .table)) .0 (h .0 .1 .0) .0 in
-      (and-iff (settingsForm g) (cacheForm (s .cache)) .0 (w .0) .1, w .1, and-iff (diskForm d (s .disk)) (nodeForm (q .node)) .0 f .0)
+      (and-iff (settingsForm g) (cacheForm d (s .cache)) .0 (w .0) .1, w .1, and-iff (diskForm d (s .disk)) (nodeForm (q .node)) .0 f .0)
 
   idle : conditions d s 12 q o 3 ≡ false → eqb (dopKind (q .dop)) noDop ≡ true
   unfolding conditions stepOf steps

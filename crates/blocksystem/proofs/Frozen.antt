@@ -1,6 +1,6 @@
 -- Every joined call keeps the disk's rule; and under rule 2 a frozen place stays named until a clean-up or a start is accepted. Assumes nothing.
 use Prim.Native.Nat.{ℕ}
-use mathlib.Core.Bool.{_||_, false, true}
+use mathlib.Core.Bool.{_||_, false, false≢true, true}
 use mathlib.Core.List.{List, [], _++_, _∷_}
 use mathlib.Core.Logic.{_↔_, _⊎_, inl, inr, ⊎-elim}
 use mathlib.Core.Option.{some}
@@ -29,7 +29,7 @@ use Rattle.blocksystem.proofs.Keep.{first-keeps, run-keeps}
 use Rattle.blocksystem.specs.Frozen.{FrozenStays, endsFrozen}
 use Rattle.blocksystem.specs.Joined.{diskAsked, diskCall, joined, joinedAnswer, settingsOf}
 use Rattle.blocksystem.specs.Names.{picturesAfter}
-use Rattle.blocksystem.specs.Run.{acceptsStep, after, afterStep, asked, Every, JoinedCall, moved, startsNamed, State, step}
+use Rattle.blocksystem.specs.Run.{acceptsStep, after, afterStep, asked, choose, Every, JoinedCall, moved, startsNamed, State, step}
 use Rattle.blocksystem.specs.Upstream.{unlessWriting}
 
 -- THE RULE STAYS
@@ -41,6 +41,7 @@ module _ (d : ℕ) where
       split (eqb (joinedAnswer d n q o (s .cache) (s .disk)) 0)
       (λ t. rw t (split (isCrash n) (λ x. rw x (crash-keeps-rule d (s .disk) o)) (λ x. rw x (step-keeps-rule d (s .disk) (diskCall n q)))))
       (λ t. rw t refl)
+  call-keeps-rule s choose = refl
 
   pub run-keeps-rule : (calls : List JoinedCall) (s : State) → after d s calls .disk .rule ≡ s .disk .rule
   unfolding after
@@ -92,13 +93,19 @@ module _ (d : ℕ) (s : State) (v : Invariant d s) (there : s .pictures .second 
 
 -- ANY CALL
 
--- what ends a frozen name: an accepted clean-up or start
-pub ends-frozen-iff : (d : ℕ) (s : State) (n : ℕ) (q : Call) (o : Records) → (endsFrozen d s (step n q o) ≡ true) ↔ ((asked d s n q o .answer ≡ 0) × ((n ≡ 13) ⊎ (n ≡ 10)))
-ends-frozen-iff d s n q o = (
-  (λ h. let b = and-iff (acceptsStep d s n q o) (isCleanUp n || isStart n) .0 h in
-      (eqb-true _ _ (b .0), ⊎-elim (λ x. inl (eqb-true n 13 x)) (λ x. inr (eqb-true n 10 x)) (or-cases (isCleanUp n) (isStart n) (b .1)))),
-  (λ (a, u). and-both (eq-eqb _ _ a) (⊎-elim (λ x. or-inl (isStart n) (eq-eqb n 13 x)) (λ x. or-inr (isCleanUp n) (eq-eqb n 10 x)) u)),
-)
+-- what ends a frozen name: an accepted clean-up or start, and no other call
+pub ends-frozen-iff : (d : ℕ) (s : State) (k : JoinedCall) →
+    (endsFrozen d s k ≡ true) ↔ ((n : ℕ) × (q : Call) × (o : Records) × (k ≡ step n q o) × (asked d s n q o .answer ≡ 0) × ((n ≡ 13) ⊎ (n ≡ 10)))
+ends-frozen-iff d s k = (to k, (λ (n, q, o, e, a, u). subst (λ j. endsFrozen d s j ≡ true) (sym e) (of-step n q o a u)))
+  where
+    to : (j : JoinedCall) → endsFrozen d s j ≡ true → (n : ℕ) × (q : Call) × (o : Records) × (j ≡ step n q o) × (asked d s n q o .answer ≡ 0) × ((n ≡ 13) ⊎ (n ≡ 10))
+    to (step n q o) h =
+        let b = and-iff (acceptsStep d s n q o) (isCleanUp n || isStart n) .0 h in
+        (n, q, o, refl, eqb-true _ _ (b .0), ⊎-elim (λ x. inl (eqb-true n 13 x)) (λ x. inr (eqb-true n 10 x)) (or-cases (isCleanUp n) (isStart n) (b .1)))
+    to choose h = absurd (false≢true h)
+
+    of-step : (n : ℕ) (q : Call) (o : Records) → asked d s n q o .answer ≡ 0 → (n ≡ 13) ⊎ (n ≡ 10) → endsFrozen d s (step n q o) ≡ true
+    of-step n q o a u = and-both (eq-eqb _ _ a) (⊎-elim (λ x. or-inl (isStart n) (eq-eqb n 13 x)) (λ x. or-inr (isCleanUp n) (eq-eqb n 10 x)) u)
 
 -- what the promise says of a list's last call
 pub stays-one : (d : ℕ) (s : State) (front : List JoinedCall) (n : ℕ) (q : Call) (o : Records) → FrozenStays d s (front ++ (step n q o ∷ [])) →
@@ -116,6 +123,7 @@ module _ (d : ℕ) where
       split (acceptsStep d s n q o)
       (λ t. rw t (step-stays d s v there q o n two (eqb-true _ _ t) (and-false-iff (acceptsStep d s n q o) (isCleanUp n || isStart n) .0 h t)))
       (λ t. rw t refl)
+  call-stays s choose v two there h = refl
 
   -- ANY LIST
 

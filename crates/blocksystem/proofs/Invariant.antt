@@ -225,7 +225,7 @@ pub record PicturesForm (t : Pictures) : Type 0 where
 -- of the structs
 pub record Invariant (d : ℕ) (s : State) : Type 0 where
   pub made-device : made d ≡ true
-  pub cache-form : cacheForm (s .cache) ≡ true
+  pub cache-form : cacheForm d (s .cache) ≡ true
   pub disk-form : diskForm d (s .disk) ≡ true
   pub pictures-form : PicturesForm (s .pictures)
   pub first-named : s .pictures .first .present ≡ true

@@ -7,6 +7,7 @@ use mathlib.Core.Path.{_∙_, _≡_, refl, subst, sym}
 use borrow.Author.Tests.{eqb-true}
 use Rattle.base.proofs.Tests.{and-iff, split}
 use Rattle.base.specs.Refusals.{answer}
+use Rattle.blockcache.proofs.Chooser.{choice-form, choice-vars}
 use Rattle.blockcache.proofs.Demand2.{store-allowed}
 use Rattle.blockcache.proofs.Kept.{cache-form-kept, inv-kept}
 use Rattle.blockcache.proofs.LetGo.{no-op-unawaited}
@@ -32,13 +33,13 @@ use Rattle.blocksystem.proofs.Invariant.{Invariant, pictureMaps}
 use Rattle.blocksystem.proofs.KeepQueues.{keep-crash}
 use Rattle.blocksystem.specs.Joined.{diskAsked, diskCall, joined, joinedAnswer, settingsOf}
 use Rattle.blocksystem.specs.Names.{isNamed, picturesAfter}
-use Rattle.blocksystem.specs.Run.{acceptsStep, after, afterStep, Every, JoinedCall, moved, startNamed, startsNamed, State, step, stepNamed}
+use Rattle.blocksystem.specs.Run.{acceptsStep, after, afterChoice, afterStep, choose, Every, JoinedCall, moved, startNamed, startsNamed, State, step, stepNamed}
 
 -- AN ACCEPTED STEP
 
 module _ (d : ℕ) (q : Call) (o : Records) (s : State) (v : Invariant d s) where
   abbrev nextState : ℕ → State
-  nextState n = record { cache = cacheNext (s .cache) n q; disk = diskAsked d n q o (s .disk) .disk; pictures = picturesAfter n q (s .pictures) }
+  nextState n = record { cache = cacheNext d (s .cache) n q; disk = diskAsked d n q o (s .disk) .disk; pictures = picturesAfter n q (s .pictures) }
 
   abbrev Accepted : ℕ → Type 0
   Accepted n = joinedAnswer d n q o (s .cache) (s .disk) ≡ 0
@@ -76,7 +77,7 @@ module _ (d : ℕ) (q : Call) (o : Records) (s : State) (v : Invariant d s) wher
       let to = store-allowed (settingsOf d (s .disk)) (s .cache) n q (z .0) in
       let same : some (x .step) ≡ some (to .0) = sym (x .is) ∙ to .1 in
       let one : to .0 ≡ x .step = cc in
-      let s' = cacheVars (cacheNext (s .cache) n q) in
+      let s' = cacheVars (cacheNext d (s .cache) n q) in
       let inv = inv-kept (settingsOf d (s .disk)) (s .cache) n q (v .whole .inv) (z .0) in
       let r = step-kept d q (cacheVars (s .cache)) s' (diskVars d (s .disk)) (diskVars d next) (s .pictures) (v .whole) (v .pictures-form) (v .first-named) inv (x .form .call .reference)
       (x .step) (subst (λ m. isCrash m ≡ false) is ne)
@@ -122,10 +123,25 @@ module _ (d : ℕ) (s : State) (n : ℕ) (q : Call) (o : Records) (v : Invariant
   step-call-keeps : Invariant d (afterStep d s n q o)
   step-call-keeps = split (acceptsStep d s n q o) when-accepted when-refused
 
+-- THE CHOOSER'S CALL: upstream's variables don't see the block given last
+
+choice-keeps : (d : ℕ) (s : State) → Invariant d s → Invariant d (afterChoice d s)
+choice-keeps d s v =
+    let g = settingsOf d (s .disk) in
+    record {
+      made-device = v .made-device;
+      cache-form = choice-form g (s .cache) (v .cache-form);
+      disk-form = v .disk-form;
+      pictures-form = v .pictures-form;
+      first-named = v .first-named;
+      whole = rw (choice-vars g (s .cache)) (v .whole);
+    }
+
 -- ANY CALL
 
 pub call-keeps : (d : ℕ) (s : State) (k : JoinedCall) → Invariant d s → startNamed d s k ≡ true → Invariant d (moved d s k)
 call-keeps d s (step n q o) v named = step-call-keeps d s n q o v named
+call-keeps d s choose v named = choice-keeps d s v
 
 -- ANY LIST
 

@@ -12,6 +12,7 @@ use Rattle.base.specs.Maps.{put}
 use Rattle.base.specs.Refusals.{answer}
 use Rattle.blockcache.proofs.Demand2.{cache-accepted}
 use Rattle.blockcache.proofs.Forms.{cache-form-iff, reads-requests}
+use Rattle.blockcache.proofs.MarkLaws.{right-marks}
 use Rattle.blockcache.proofs.OpKinds.{ready-is}
 use Rattle.blockcache.proofs.ReadAnswers.{node-awaited-iff}
 use Rattle.blockcache.proofs.Waiting.{reads-at, reads-remove}
@@ -93,7 +94,7 @@ module _ (d : ℕ) (s : State) (v : Invariant d s) (id : ℕ) (awaits : awaitsRe
     cache-after : s1 .cache ≡ c1
     unfolding stepOf steps
     cache-after =
-        let e : cacheNext c 19 q ≡ c1 = rw (a .disk) refl in
+        let e : cacheNext d c 19 q ≡ c1 = rw (a .disk) (right-marks d c1 (cache-form-iff d c .0 (v .cache-form) .1 .marks)) in
         cache-left d s v q o (RespReadNodeOp id Nothing) a awaits disk-lets-go ∙ e
 
     queue-after : s1 .disk .queues .nodereads ≡ removeOf queue id
@@ -108,7 +109,7 @@ module _ (d : ℕ) (s : State) (v : Invariant d s) (id : ℕ) (awaits : awaitsRe
       page-in =
           let w = whole d s v ok in
           let h = w .phase .reads .uncached id (refRead s id) (reads-at reading id known) in
-          let less = reads-remove reading (reads-requests c (cache-form-iff c .0 (v .cache-form))) id known in
+          let less = reads-remove reading (reads-requests c (cache-form-iff d c .0 (v .cache-form) .0)) id known in
           rw r
           (record {
             allocated = h .0;
@@ -126,7 +127,7 @@ module _ (d : ℕ) (s : State) (v : Invariant d s) (id : ℕ) (awaits : awaitsRe
           let x = readyVars c1 in
           let v1 = kept d s v q o in
           let unread = split (hasOf (s1 .cache .outstanding .reads) new) (λ t. clash (read-queued d s1 v1 (rw cache-after ok) new t) fresh) (λ t. t) in
-          let room = lt-leb 16 (removeOf reading id .count) (remove-room reading (reads-requests c (cache-form-iff c .0 (v .cache-form))) id known) in
+          let room = lt-leb 16 (removeOf reading id .count) (remove-room reading (reads-requests c (cache-form-iff d c .0 (v .cache-form) .0)) id known) in
           let limits = within d s1 v1 6 p pageInNodeReqStep (b .limits) refl in
           let op : callOp p ≡ reqReadNode new (locRead s id) = rw (b .disk) refl in
           let id-of : dopId (p .dop) ≡ new = rw (b .disk) refl in

@@ -11,7 +11,7 @@ use Rattle.blocksystem.proofs.Accepting.{joined-zero}
 use Rattle.blocksystem.proofs.EveryStep.{number-form}
 use Rattle.blocksystem.proofs.Invariant.{PicturesForm}
 use Rattle.blocksystem.specs.Joined.{joined, joinedAnswer, settingsOf}
-use Rattle.blocksystem.specs.Run.{JoinedCall, State, acceptsStep, after, afterStep, moved, step}
+use Rattle.blocksystem.specs.Run.{JoinedCall, State, acceptsStep, after, afterStep, choose, moved, step}
 
 step-call-form : (d : ℕ) (s : State) (n : ℕ) (q : Call) (o : Records) → PicturesForm (s .pictures) → PicturesForm (afterStep d s n q o .pictures)
 unfolding joined
@@ -24,6 +24,7 @@ step-call-form d s n q o f =
 
 call-form : (d : ℕ) (s : State) (k : JoinedCall) → PicturesForm (s .pictures) → PicturesForm (moved d s k .pictures)
 call-form d s (step n q o) f = step-call-form d s n q o f
+call-form d s choose f = f
 
 pub run-form : (d : ℕ) (calls : List JoinedCall) (s : State) → PicturesForm (s .pictures) → PicturesForm (after d s calls .pictures)
 unfolding after

@@ -37,7 +37,7 @@ pub record ReadyShownOf (x : Ready) (nodes : Imap Node) (pic : Map Node) : Type 
   pub keys : SameKeys pic (x .ephemeralIndirectionTable .graph)
   pub shown : (ref : ℕ) → In ref (x .ephemeralIndirectionTable .graph) → ShownOf (x .cache ref) (x .ephemeralIndirectionTable .locs ref) nodes (pic ref)
 
-module _ (d : ℕ) (s : State) (cache-form : cacheForm (s .cache) ≡ true) (disk-form : diskForm d (s .disk) ≡ true) (form : nodesForm (s .pictures .working) ≡ true) (ref : ℕ) where
+module _ (d : ℕ) (s : State) (cache-form : cacheForm d (s .cache) ≡ true) (disk-form : diskForm d (s .disk) ≡ true) (form : nodesForm (s .pictures .working) ≡ true) (ref : ℕ) where
   abbrev nodes : Imap Node
   nodes = diskVars d (s .disk) .nodes
 
@@ -46,7 +46,7 @@ module _ (d : ℕ) (s : State) (cache-form : cacheForm (s .cache) ≡ true) (dis
 
   -- the cached node, if there is one
   cached-iff : (n : Node) → nodesMap (s .cache .nodes) ref ≡ some n → (isPictured (s .pictures .working) ref n ≡ true) ↔ (nodesMap (s .pictures .working) ref ≡ some n)
-  cached-iff n e = pictured-iff (s .pictures .working) ref n form (nodes-form-at (s .cache .nodes) (cache-form-iff (s .cache) .0 cache-form .nodes) ref n e)
+  cached-iff n e = pictured-iff (s .pictures .working) ref n form (nodes-form-at (s .cache .nodes) (cache-form-iff d (s .cache) .0 cache-form .0 .nodes) ref n e)
 
   -- what is stored at a location, if there is something
   stored-iff : (l : Location) (n : Node) → nodes l ≡ some n → (isPictured (s .pictures .working) ref n ≡ true) ↔ (nodesMap (s .pictures .working) ref ≡ some n)
@@ -88,7 +88,7 @@ module _ (d : ℕ) (s : State) (cache-form : cacheForm (s .cache) ≡ true) (dis
       }
 
 -- what is said of the cache in Ready is said of upstream's variables
-pub ready-shown-iff : (d : ℕ) (s : State) → cacheForm (s .cache) ≡ true → diskForm d (s .disk) ≡ true → nodesForm (s .pictures .working) ≡ true →
+pub ready-shown-iff : (d : ℕ) (s : State) → cacheForm d (s .cache) ≡ true → diskForm d (s .disk) ≡ true → nodesForm (s .pictures .working) ≡ true →
     ReadyShown d s ↔ ReadyShownOf (readyVars (s .cache)) (diskVars d (s .disk) .nodes) (nodesMap (s .pictures .working))
 ready-shown-iff d s c k f =
     let t = s .cache .tables .ephemeral in

@@ -7,6 +7,8 @@ use Rattle.base.proofs.Refusals.{Clear}
 use Rattle.base.proofs.Tests.{and-both, or-iff}
 use Rattle.base.specs.Refusals.{answer}
 use Rattle.blockcache.proofs.Demand2.{cache-accepted}
+use Rattle.blockcache.proofs.Forms.{cache-form-iff}
+use Rattle.blockcache.proofs.MarkLaws.{right-marks}
 use Rattle.blockcache.proofs.OpKinds.{loading-is}
 use Rattle.blockcache.proofs.ReadAnswers.{table-awaited-iff}
 use Rattle.blockcache.specs.Abstract.{callOp}
@@ -71,7 +73,7 @@ module _ (d : ℕ) (s : State) (v : Invariant d s) (id : ℕ) (awaits : awaitsRe
     cache-after : s1 .cache ≡ c1
     unfolding stepOf steps
     cache-after =
-        let e : cacheNext c 19 q ≡ c1 = rw (a .disk) refl in
+        let e : cacheNext d c 19 q ≡ c1 = rw (a .disk) (right-marks d c1 (cache-form-iff d c .0 (v .cache-form) .1 .marks)) in
         cache-left d s v q o (RespReadIndirectionTableOp id Nothing) a awaits disk-lets-go ∙ e
 
     queue-after : s1 .disk .queues .tablereads ≡ removeOf queue id

@@ -150,7 +150,7 @@ module _ (d : ℕ) (s : State) (v : Invariant d s) (q : Call) (o : Records) (op 
   pub let-go-accepts : joinedAnswer d 19 q o (s .cache) (s .disk) ≡ 0
   let-go-accepts = accepted-of d s 19 q o refl refl cache-zero disk-zero
 
-  pub cache-left : afterStep d s 19 q o .cache ≡ cacheNext (s .cache) 19 q
+  pub cache-left : afterStep d s 19 q o .cache ≡ cacheNext d (s .cache) 19 q
   cache-left = joined-cache d 19 q o (s .cache) (s .disk) let-go-accepts
 
   pub disk-left : afterStep d s 19 q o .disk ≡ nextDisk d (s .disk) op (q .node) (q .table)

@@ -4,7 +4,7 @@ use Prim.Native.Nat.{ℕ}
 use mathlib.Core.Bool.{true}
 use mathlib.Core.List.{List}
 use mathlib.Core.Path.{_≡_}
-use Rattle.blockcache.specs.Form.{isReady}
+use Rattle.blockcache.specs.Form.{cacheForm, isReady}
 use Rattle.blockcache.specs.Ops.{vopLoc}
 use Rattle.blockcache.specs.declared.Call.{Call}
 use Rattle.blockdisk.specs.declared.Records.{Records}
@@ -12,6 +12,7 @@ use Rattle.blocksystem.specs.Frozen.{FrozenStays}
 use Rattle.blocksystem.specs.Names.{isNamed}
 use Rattle.blocksystem.specs.Run.{Answered, JoinedCall, State, after, asked, nothingLost}
 use Rattle.blocksystem.specs.Screen.{ReadyShown, readsDiffering}
+use Rattle.blocksystem.specs.Fairness.{Fairness, GivenUsable, LowestAfterLoad}
 use Rattle.blocksystem.specs.Waits.{NoWaitForEver}
 
 -- a start at a named place is never refused with 20: a whole graph is stored there
@@ -35,5 +36,13 @@ pub record Promised (d : ℕ) (s : State) (calls : List JoinedCall) : Type 0 whe
   -- the disk has its rule still, and under rule 2 a frozen place stays named until a clean-up or a start is accepted
   pub rule : after d s calls .disk .rule ≡ s .disk .rule
   pub frozen : s .disk .rule ≡ 2 → FrozenStays d s calls
+  -- the cache is in its written form: the marks are those of its tables and its outstanding writes
+  pub form : cacheForm d (after d s calls .cache) ≡ true
+  -- the chooser: a block that becomes free and stays so is among the next 128 given, unless a load comes between ..
+  pub fair : Fairness d s calls
+  -- .. right after a load the lowest free block is given ..
+  pub loaded : LowestAfterLoad d (after d s calls)
+  -- .. and right after a block is given, step 1 refuses its address with neither 6 nor 7
+  pub usable : GivenUsable d (after d s calls)
   -- no wait is for ever
   pub waits : NoWaitForEver d (after d s calls)

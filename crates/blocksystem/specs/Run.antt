@@ -1,34 +1,42 @@
 -- The run of a list of joined calls from a newly formatted device, and what demand 3 says of it.
-use Prim.Native.Nat.{_<_, ℕ}
+use Prim.Native.Nat.{_+_, _<_, ℕ}
 use mathlib.Core.Bool.{Bool, _&&_, _||_, cond, false, not, true}
 use mathlib.Core.List.{List, [], _∷_}
 use mathlib.Core.Logic.{_↔_}
 use mathlib.Core.Path.{_≡_}
 use lib.Dec.{eqb}
 use Rattle.base.specs.Refusals.{Row, holds}
+use Rattle.base.specs.Scan.{countBelow}
+use Rattle.blockcache.specs.Chooser.{chooserRows, nextFit, isFree, marked, refusedChoice}
 use Rattle.blockcache.specs.Form.{cacheForm, callForm}
+use Rattle.blockcache.specs.Next.{withLast}
 use Rattle.blockcache.specs.Ops.{vopLoc}
 use Rattle.blockcache.specs.Step.{cacheRows, cacheStep}
 use Rattle.blockcache.specs.Steps.{isCrash, isStart}
 use Rattle.blockcache.specs.declared.CacheState.{CacheState}
 use Rattle.blockcache.specs.declared.Call.{Call}
+use Rattle.blockcache.specs.declared.Choice.{Choice}
 use Rattle.blockdisk.specs.Crash.{crashRows}
 use Rattle.blockdisk.specs.Form.{diskForm}
 use Rattle.blockdisk.specs.Ops.{diskRows}
 use Rattle.blockdisk.specs.declared.DiskState.{DiskState}
 use Rattle.blockdisk.specs.declared.Records.{Records}
+use Rattle.disklayout.specs.Blocks.{NodeBlockAddr}
+use Rattle.disklayout.specs.Device.{deviceOf}
 use Rattle.sectortype.specs.Form.{zeroNode}
 use Rattle.sectortype.specs.declared.Contents.{Contents}
 use Rattle.blocksystem.specs.Audit.{counted, noneCounted}
+use Rattle.blocksystem.specs.Choosing.{joinedChoice}
 use Rattle.blocksystem.specs.Format.{formatted}
 use Rattle.blocksystem.specs.Joined.{diskAsked, diskCall, joined, settingsOf, startRows}
 use Rattle.blocksystem.specs.Names.{firstPictures, isNamed, picturesAfter}
 use Rattle.blocksystem.specs.declared.Outcome.{Outcome}
 use Rattle.blocksystem.specs.declared.Pictures.{Pictures}
 
--- a call of a list: a step, by its number, with its arguments and the records offered, which a crash alone looks at
+-- a call of a list: a step, by its number, with its arguments and the records offered, which a crash alone looks at; or the chooser's call
 pub data JoinedCall : Type 0 where
   step : ℕ → Call → Records → JoinedCall
+  choose : JoinedCall
 
 -- cache and disk as the last call handed them back, and the names and pictures
 pub record State : Type 0 where
@@ -45,7 +53,7 @@ module _ (d : ℕ) where
 
   -- cache, call and disk are each in their written form, the disk with its rule
   abbrev pub InForm : State → Call → Type 0
-  InForm s q = (cacheForm (s .cache) ≡ true) × (callForm q ≡ true) × (diskForm d (s .disk) ≡ true)
+  InForm s q = (cacheForm d (s .cache) ≡ true) × (callForm q ≡ true) × (diskForm d (s .disk) ≡ true)
 
   abbrev pub asked : State → ℕ → Call → Records → Outcome
   asked s n q o = joined d n q o (s .cache) (s .disk)
@@ -90,17 +98,55 @@ module _ (d : ℕ) where
   abbrev pub stepNamed : State → ℕ → Call → Records → Bool
   stepNamed s n q o = not (acceptsStep s n q o && isStart n) || isNamed (s .pictures) (vopLoc (q .vop))
 
+  -- THE CHOOSER'S CALL
+
+  abbrev pub choice : State → Choice
+  choice s = joinedChoice d (s .cache) (s .disk)
+
+  abbrev pub choiceRows : State → List Row
+  choiceRows s = chooserRows (settingsOf d (s .disk)) (s .cache)
+
+  -- no location of the three tables and no outstanding write has the block's address
+  abbrev pub free : State → ℕ → Bool
+  free s b = isFree (settingsOf d (s .disk)) (s .cache) b
+
+  -- the cache as the call hands it back; disk, names and pictures stay
+  abbrev pub afterChoice : State → State
+  afterChoice s = record { cache = choice s .cache; disk = s .disk; pictures = s .pictures }
+
+  -- it is answered as document 02 fixes
+  pub record ChoiceAnswered (s : State) : Type 0 where
+    -- 0 exactly where no condition of any number holds
+    pub accepted : (choice s .answer ≡ 0) ↔ ((k : ℕ) → holds k (choiceRows s) ≡ false)
+    -- else the answer's own condition holds, and no lower number's does
+    pub refused : (choice s .answer ≡ 0 → ⊥) → holds (choice s .answer) (choiceRows s) ≡ true
+    pub lowest : (k : ℕ) → k < choice s .answer → holds k (choiceRows s) ≡ false
+    -- a refused one is zeros, and leaves the cache as it was
+    pub unchanged : (choice s .answer ≡ 0 → ⊥) → choice s ≡ refusedChoice (choice s .answer) (s .cache)
+    -- an accepted one gives the first free block after the one given last, going round: one of the 128, which is free ..
+    pub block : choice s .answer ≡ 0 → choice s .block ≡ nextFit (free s) (s .cache .blocks .last)
+    pub small : choice s .answer ≡ 0 → choice s .block < 128
+    pub is-free : choice s .answer ≡ 0 → free s (choice s .block) ≡ true
+    -- .. with its address, and how many are not marked, itself among them
+    pub addr : choice s .answer ≡ 0 → choice s .addr ≡ NodeBlockAddr (deviceOf d) (choice s .block)
+    pub count : choice s .answer ≡ 0 → choice s .free + countBelow (marked (settingsOf d (s .disk)) (s .cache)) 128 ≡ 128
+    -- the next cache has it as the block given last, and is as it was else
+    pub next : choice s .answer ≡ 0 → choice s .cache ≡ withLast (s .cache) (choice s .block)
+
   -- ANY CALL OF A LIST
 
   -- each call gets the cache and disk that the last one handed back
   abbrev pub moved : State → JoinedCall → State
   moved s (step n q o) = afterStep s n q o
+  moved s choose = afterChoice s
 
   abbrev pub AnsweredAs : State → JoinedCall → Type 0
   AnsweredAs s (step n q o) = StepAnswered s n q o
+  AnsweredAs s choose = ChoiceAnswered s
 
   abbrev pub startNamed : State → JoinedCall → Bool
   startNamed s (step n q o) = stepNamed s n q o
+  startNamed s choose = true
 
   -- ALONG A LIST
 

@@ -1,7 +1,7 @@
 -- What a member sees on the screen (document 02, Q-9), along the run that demand 3 speaks of: the accepted reads, and the cache in Ready, against the
 -- working picture.
 use Prim.Native.Nat.{_+_, ℕ}
-use mathlib.Core.Bool.{Bool, _&&_, _||_, not, true}
+use mathlib.Core.Bool.{Bool, _&&_, _||_, false, not, true}
 use mathlib.Core.List.{List, [], _∷_}
 use mathlib.Core.Path.{_≡_}
 use Rattle.base.specs.Scan.{bit}
@@ -16,7 +16,7 @@ use Rattle.sectortype.specs.declared.Node.{Node}
 use Rattle.sectortype.specs.declared.Nodes.{Nodes}
 use Rattle.sectortype.specs.declared.Slot.{Slot}
 use Rattle.blocksystem.specs.Audit.{atEntry}
-use Rattle.blocksystem.specs.Run.{JoinedCall, State, acceptsStep, asked, moved, step}
+use Rattle.blocksystem.specs.Run.{JoinedCall, State, acceptsStep, asked, choose, moved, step}
 
 -- the node is the one that the picture has of this reference, high, low and list; never where the picture has none
 abbrev pub isPictured : Nodes → ℕ → Node → Bool
@@ -31,6 +31,7 @@ module _ (d : ℕ) where
 
   abbrev pub differs : State → JoinedCall → Bool
   differs s (step n q o) = stepDiffers s n q o
+  differs s choose = false
 
   -- how many of a list do
   unfoldable pub readsDiffering : State → List JoinedCall → ℕ

@@ -1,12 +1,14 @@
-// The step entry: any number, any call, on any cache. The two matches on the number stand here, what each step takes and what it does, and in no
-// other file of this crate.
+// The step entry: any number, any call, on any cache. What goes by the number stands here, what each step takes, what it does and whether it may move
+// a location or an outstanding write, and in no other file of this crate.
+ghost use mathlib.Core.Bool.{true};
 ghost use mathlib.Core.List.{[]};
 ghost use mathlib.Core.Path.{_≡_};
 ghost use Prim.Native.Nat.{_<_};
 ghost use Rattle.base.specs.Refusals.{answer};
 ghost use Rattle.blockcache.specs.Rows.{gate, readRef, taking};
-ghost use Rattle.blockcache.specs.Step.{cacheStep, dispatched, gated};
-ghost use Rattle.blockcache.specs.Steps.{stepOf};
+ghost use Rattle.blockcache.specs.Step.{cacheStep, dispatched, gated, renewedOutcome};
+ghost use Rattle.blockcache.specs.Steps.{relocates as Steps·relocates, stepOf};
+ghost use Rattle.disklayout.specs.Device.{made};
 use crate::Cache;
 use crate::answers::answered;
 use crate::answers::is_loading;
@@ -39,6 +41,7 @@ use crate::ops::dop_kind;
 use crate::ops::idle_disk;
 use crate::ops::vop_kind;
 use crate::ops::vop_no_op;
+use blockcache::Blocks;
 use blockcache::CacheOutcome;
 use blockcache::Call;
 use blockcache::Phase;
@@ -103,15 +106,56 @@ fn gate(number: u64, phase: Phase, version: VersionOp, disk: DiskOp) -> u64
     }
 }
 
+// Whether the marks are made anew after a step: it may move a location of a table or an outstanding write.
+fn relocates(number: u64) -> bool
+    ensures { λ b. ⌜ b ≡ Steps·relocates number ⌝ }
+{
+    (number == 1)
+        | (number == 2)
+        | (number == 5)
+        | (number == 9)
+        | (number == 12)
+        | (number == 13)
+        | (number == 15)
+}
+
+// The outcome with the marks of the tables and the outstanding writes that the step leaves.
+fn renew_marks(device: u64, o: CacheOutcome) -> CacheOutcome
+    requires { ⌜ made device ≡ true ⌝ }
+    ensures { λ r. ⌜ r ≡ renewedOutcome device o ⌝ }
+{
+    let mut c = o.cache;
+    let ts = c.tables;
+    let outstanding = c.outstanding;
+    let writes = outstanding.writes;
+    let marks = bitmap::marks_of(device, ts, writes);
+    let b = c.blocks;
+    let blocks = Blocks {
+        marks,
+        last: b.last,
+    };
+    c.blocks = blocks;
+    let node = o.node;
+    CacheOutcome {
+        answer: o.answer,
+        node,
+        cache: c,
+    }
+}
+
 impl Cache {
     pub fn step(self, number: u64, q: Call) -> CacheOutcome
         ensures { λ o. ⌜ o ≡ cacheStep (self .settings) (self .state) number q ⌝ }
     {
+        let g = self.settings;
         let c = self.state;
-        let form = cache_form(c);
+        let named = settings_form(g);
+        if !named {
+            return answered(self.state, 1);
+        }
+        let form = cache_form(g.device, c);
         let call = call_form(q);
-        let named = settings_form(self.settings);
-        let good = named & form & call;
+        let good = form & call;
         if !good {
             return answered(self.state, 1);
         }
@@ -122,7 +166,13 @@ impl Cache {
         if n != 0 {
             return answered(self.state, n);
         }
-        self.dispatch(number, q)
+        let o = self.dispatch(number, q);
+        let moved = relocates(number);
+        let renew = (o.answer == 0) & moved;
+        if renew {
+            return renew_marks(g.device, o);
+        }
+        o
     }
 
     // The step's own conditions and what it does, on a cache and a call in their written form, past V, D and phase.

@@ -1,9 +1,15 @@
-// The cache's one written form: what a phase doesn't have is zeros.
+// The cache's one written form: what a phase doesn't have is zeros, and the marks are those of its tables and its outstanding writes.
+ghost use mathlib.Core.Bool.{true};
 ghost use mathlib.Core.Path.{_≡_};
-ghost use Rattle.blockcache.specs.Form.{writesForm, readsForm, tablesForm, placesForm, awaitedForm, outstandingForm, idle, phaseForm, cacheForm, callForm, settingsForm, emptyCache, loadingAt};
+ghost use Rattle.blockcache.specs.Form.{writesForm, readsForm, tablesForm, placesForm, awaitedForm, outstandingForm, idle};
+ghost use Rattle.blockcache.specs.Form.{phaseForm, partsForm, blocksIn, cacheForm, callForm, settingsForm, emptyCache, loadingAt};
+ghost use Rattle.disklayout.specs.Device.{made};
+use crate::answers::is_ready;
 use blockcache::Awaited;
+use blockcache::Blocks;
 use blockcache::CacheState;
 use blockcache::Call;
+use blockcache::Marks;
 use blockcache::Outstanding;
 use blockcache::Phase;
 use blockcache::Places;
@@ -120,8 +126,9 @@ fn phase_form(c: CacheState) -> bool
     }
 }
 
-pub(crate) fn cache_form(c: CacheState) -> bool
-    ensures { λ b. ⌜ b ≡ cacheForm c ⌝ }
+// Each part by itself, and what the phase doesn't have.
+fn parts_form(c: CacheState) -> bool
+    ensures { λ b. ⌜ b ≡ partsForm c ⌝ }
 {
     let ts = c.tables;
     let ps = c.places;
@@ -135,6 +142,36 @@ pub(crate) fn cache_form(c: CacheState) -> bool
     let nodes = sector::nodes_form(m);
     let phase = phase_form(c);
     tables & places & awaited & outstanding & nodes & phase
+}
+
+// In Ready the marks are those of the tables and the outstanding writes, and the block given last is one of the 128; outside Ready both are zeros.
+fn blocks_form(device: u64, phase: Phase, blocks: Blocks, ts: Tables, writes: Requests) -> bool
+    requires { ⌜ made device ≡ true ⌝ }
+    ensures { λ b. ⌜ b ≡ blocksIn phase device blocks ts writes ⌝ }
+{
+    let m = blocks.marks;
+    let ready = is_ready(phase);
+    if ready {
+        let right = bitmap::marks_of(device, ts, writes);
+        let same = bitmap::same_marks(m, right);
+        return same & (blocks.last <= 127);
+    }
+    (m.low == 0) & (m.high == 0) & (blocks.last == 0)
+}
+
+// The cache's one written form, on a device that is made.
+pub(crate) fn cache_form(device: u64, c: CacheState) -> bool
+    requires { ⌜ made device ≡ true ⌝ }
+    ensures { λ b. ⌜ b ≡ cacheForm device c ⌝ }
+{
+    let parts = parts_form(c);
+    let phase = c.phase;
+    let blocks = c.blocks;
+    let ts = c.tables;
+    let o = c.outstanding;
+    let writes = o.writes;
+    let marked = blocks_form(device, phase, blocks, ts, writes);
+    parts & marked
 }
 
 // A device above 2, or a rule that is neither 1 nor 2, is refused with 1.
@@ -196,5 +233,9 @@ pub(crate) fn loading(phase: Phase, place: Location) -> CacheState
             reads: r,
         },
         nodes,
+        blocks: Blocks {
+            marks: Marks { low: 0, high: 0 },
+            last: 0,
+        },
     }
 }

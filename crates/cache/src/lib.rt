@@ -1,5 +1,7 @@
-// The cache: the step is proved to answer and to leave what `blockcache` defines. One function for each question of documents 01 and 02.
+// The cache: the step and the chooser are proved to answer and to leave what `blockcache` defines. One function for each question of documents 01
+// and 02.
 mod answers;
+mod choose;
 mod entry;
 mod form;
 mod letgo;
@@ -14,7 +16,7 @@ use blockcache::CacheState;
 use blockcache::Settings;
 
 // A cache on its device, under its freeze rule: the state that `blockcache` defines, and what every call names beside it. Its methods are the
-// steps.
+// steps and the chooser.
 pub struct Cache {
     pub settings: Settings,
     pub state: CacheState,

@@ -1,5 +1,6 @@
 // Steps 8 to 10 and 18: a start, the table's page-in, and the crash's half. Each past V, D and phase.
 ghost use mathlib.Core.Path.{_≡_};
+ghost use Rattle.blockcache.specs.Next.{loaded as Next·loaded};
 ghost use Rattle.blockcache.specs.Step.{pastGate};
 ghost use Rattle.blockcache.specs.Steps.{crashStep, pageInIndirectionTableReqStep, pageInIndirectionTableRespStep, receiveLocStep};
 use crate::Cache;
@@ -13,12 +14,44 @@ use crate::ops::dop_loc;
 use crate::ops::vop_loc;
 use crate::scan::table_rejected;
 use blockcache::Awaited;
+use blockcache::Blocks;
 use blockcache::CacheOutcome;
 use blockcache::CacheState;
 use blockcache::Call;
 use blockcache::Phase;
 use blockcache::Tables;
 use layout::TABLE_KIND;
+use sectortype::Table;
+
+// The cache with this table loaded; the chooser starts as though block 127, the last, had been given. The phase is an enum, so the cache is written
+// anew.
+fn loaded(c: CacheState, t: Table) -> CacheState
+    ensures { λ r. ⌜ r ≡ Next·loaded c t ⌝ }
+{
+    let f = sector::empty_table();
+    let places = c.places;
+    let outstanding = c.outstanding;
+    let nodes = c.nodes;
+    let b = c.blocks;
+    let marks = b.marks;
+    CacheState {
+        phase: Phase::Ready,
+        tables: Tables {
+            persistent: t,
+            ephemeral: t,
+            isfrozen: false,
+            frozen: f,
+        },
+        places,
+        awaited: Awaited {
+            waiting: false,
+            id: 0,
+        },
+        outstanding,
+        nodes,
+        blocks: Blocks { marks, last: 127 },
+    }
+}
 
 impl Cache {
     pub(crate) fn page_in_indirection_table_req(self, q: Call) -> CacheOutcome
@@ -44,7 +77,6 @@ impl Cache {
         answered(c, 0)
     }
 
-    // The phase is an enum, so the cache is written anew.
     pub(crate) fn page_in_indirection_table_resp(self, q: Call) -> CacheOutcome
         ensures { λ o. ⌜ o ≡ pastGate (self .settings) (self .state) q pageInIndirectionTableRespStep ⌝ }
     {
@@ -62,26 +94,7 @@ impl Cache {
         if rejected {
             return answered(c, 9);
         }
-        let f = sector::empty_table();
-        let places = c.places;
-        let outstanding = c.outstanding;
-        let nodes = c.nodes;
-        let next = CacheState {
-            phase: Phase::Ready,
-            tables: Tables {
-                persistent: t,
-                ephemeral: t,
-                isfrozen: false,
-                frozen: f,
-            },
-            places,
-            awaited: Awaited {
-                waiting: false,
-                id: 0,
-            },
-            outstanding,
-            nodes,
-        };
+        let next = loaded(c, t);
         answered(next, 0)
     }
 

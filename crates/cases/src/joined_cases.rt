@@ -1,6 +1,5 @@
 // The joined call: the lowest number of cache and disk, and where either refuses neither moves. After each case stands how many of
 // the two have changed: none after a refusal, or after step 14 without an answer.
-use crate::changed::changed;
 use blockcache::Awaited;
 use blockcache::CacheState;
 use blockcache::Call;
@@ -17,6 +16,7 @@ use fixtures::BLOCK1;
 use fixtures::BLOCK2;
 use fixtures::BLOCK3;
 use fixtures::at;
+use fixtures::changed::changed;
 use fixtures::entry_at;
 use fixtures::in_phase;
 use fixtures::leaf;

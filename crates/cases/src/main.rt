@@ -6,7 +6,6 @@
 // that a disk carries. (`forms` has the written forms that are broken.)
 mod audit_cases;
 mod cache_cases;
-mod changed;
 mod crash_cases;
 mod disk_cases;
 mod joined_cases;

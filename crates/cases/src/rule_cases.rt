@@ -4,13 +4,13 @@ use crate::joined_cases::joined;
 use blockcache::CacheState;
 use blockcache::Call;
 use blockcache::VersionOp;
-use blockdisk::DiskOp;
 use fixtures::AREA2;
 use fixtures::at;
 use fixtures::ready;
 use fixtures::show::pair;
 use fixtures::show::rule;
 use fixtures::show::ruled_answer;
+use fixtures::show::versioned;
 use fixtures::stored;
 use fixtures::storing;
 use fixtures::two_entries;
@@ -20,20 +20,6 @@ use system::CRASH;
 use system::Store;
 
 const FREEZE: u64 = 12;
-
-// No reference and no disk operation.
-fn versioned(vop: VersionOp) -> Call {
-    let dop = DiskOp::NoDiskOp;
-    let node = sector::zero_node();
-    let table = sector::empty_table();
-    Call {
-        reference: 0,
-        vop,
-        dop,
-        node,
-        table,
-    }
-}
 
 fn freeze_call() -> Call {
     versioned(VersionOp::FreezeOp)

@@ -1,6 +1,6 @@
 -- The 128 node blocks: an address decides its block and the reverse, for any good row. Assumes nothing.
 use mathlib.Core.Path.{_≡_, refl, sym, ap, _∙_}
-use mathlib.Core.Bool.{true, _&&_, not, and-false}
+use mathlib.Core.Bool.{true, false, _&&_, not, and-false}
 use mathlib.Core.Logic.{_↔_}
 use mathlib.Core.Option.{some}
 use Prim.Native.Nat.{ℕ, _+_, _-_, _*_, _/_, _^_, _<_, _≤_}
@@ -13,6 +13,8 @@ use Rattle.base.proofs.Maps.{flagged-some}
 use Rattle.base.proofs.Tests.{split, tests}
 use Rattle.disklayout.specs.declared.Device.{Device}
 use Rattle.disklayout.specs.declared.Location.{Location}
+use Rattle.disklayout.specs.declared.NumberOption.{NumberOption}
+use Rattle.disklayout.specs.Calls.{numberOptionWhen}
 use Rattle.disklayout.specs.Device.{Good}
 use Rattle.disklayout.specs.Layout.{ValidNodeAddr, ValidNodeLocation, overlap}
 use Rattle.disklayout.specs.Blocks.{NodeBlockAddr, NodeBlocksEnd, NodeBlockOf, NodePlaceIn, NodePlace}
@@ -24,7 +26,7 @@ module _ (w : Device) (g : Good w) where
   block-pos = omega (arith, g .sized)
 
   -- a valid node address lies in block first or later
-  first-le : (a : ℕ) → ValidNodeAddr w a ≡ true → w .first ≤ a / w .block
+  pub first-le : (a : ℕ) → ValidNodeAddr w a ≡ true → w .first ≤ a / w .block
   first-le a v =
       let n = node-addr-iff w a .0 v in
       le-div-iff-mul-le block-pos .1 (rw (mul-comm (w .first) (w .block)) (n .high))
@@ -81,6 +83,22 @@ module _ (w : Device) (g : Good w) where
           let v : ValidNodeAddr w a ≡ true = rw (h .1) (block-valid k) in
           let q : number ≡ k = ap (λ x. x / w .block - w .first) (h .1) ∙ block-number k in
           rw (q, v, lt-ltb k 128 (h .0))
+
+  -- it is told by a quotient: the three cases
+  pub block-found : (a : ℕ) → ValidNodeAddr w a ≡ true → a / w .block - w .first < 128 →
+      _≡_ {A = NumberOption} (record { answer = 0; exists = true; value = a / w .block - w .first }) (numberOptionWhen true (NodeBlockOf w a))
+  unfolding NodeBlockOf
+  block-found a v h = rw (v, lt-ltb (a / w .block - w .first) 128 h)
+
+  pub block-far : (a : ℕ) → 128 ≤ a / w .block - w .first →
+      _≡_ {A = NumberOption} (record { answer = 0; exists = false; value = 0 }) (numberOptionWhen true (NodeBlockOf w a))
+  unfolding NodeBlockOf
+  block-far a h = rw (le-ltb (a / w .block - w .first) 128 h, and-false (ValidNodeAddr w a))
+
+  pub block-invalid : (a : ℕ) → ValidNodeAddr w a ≡ false →
+      _≡_ {A = NumberOption} (record { answer = 0; exists = false; value = 0 }) (numberOptionWhen true (NodeBlockOf w a))
+  unfolding NodeBlockOf
+  block-invalid a f = rw f
 
   pub node-block-addr : (k : ℕ) → k < 128 → NodeBlockOf w (NodeBlockAddr w k) ≡ some k
   node-block-addr k h = node-block-iff (NodeBlockAddr w k) k .1 (h, refl)

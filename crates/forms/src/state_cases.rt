@@ -20,6 +20,7 @@ use fixtures::at;
 use fixtures::high_leaf;
 use fixtures::in_phase;
 use fixtures::leaf;
+use fixtures::marked_on;
 use fixtures::node_record;
 use fixtures::one;
 use fixtures::put_node;
@@ -268,9 +269,11 @@ fn queue_places(name: &[u8], kind: u64, addr: u64) {
     queue_place(name, b"with_a_reference", kind, 1, good);
 }
 
-// A device above 2; a rule that is neither 1 nor 2, which a step on the cache names and a disk carries.
+// A device above 2; a rule that is neither 1 nor 2, which a step on the cache names and a disk carries. The cache has the marks that its tables make on
+// that device.
 fn settings(name: &[u8], device: u64, rule: u64) {
-    let c = ready();
+    let loaded = ready();
+    let c = marked_on(device, loaded);
     let q = no_op_call();
     let none = disk::empty_records();
     let mut s = storing(none);

@@ -10,6 +10,7 @@ ghost use Rattle.disklayout.specs.Blocks.{TableAreaAddr, TableAreaOf, NodePlace
 use crate::answers::flag_when;
 use crate::answers::number_when;
 use crate::areas::first_node;
+use crate::areas::is_node_addr;
 use crate::areas::table1;
 use crate::areas::table2;
 use crate::kinds::NODE_KIND;
@@ -64,6 +65,30 @@ fn block_of(w: Device, addr: u64) -> NumberOption
         }
         at += w.block;
         k += 1;
+    }
+    NumberOption {
+        answer: 0,
+        exists: false,
+        value: 0,
+    }
+}
+
+// The same by one quotient, where no block is looked for: the marks ask it of every location in three tables at each call (document 02, Q-1), and a
+// walk for each would cost more than the rest of the call.
+fn index_of(w: Device, addr: u64) -> NumberOption
+    requires { ⌜ Good w ⌝ }
+    ensures { λ r. ⌜ r ≡ numberOptionWhen true (NodeBlockOf w addr) ⌝ }
+{
+    let valid = is_node_addr(w, addr);
+    if valid {
+        let k = addr / w.block - w.first;
+        if k < BLOCKS {
+            return NumberOption {
+                answer: 0,
+                exists: true,
+                value: k,
+            };
+        }
     }
     NumberOption {
         answer: 0,
@@ -168,6 +193,21 @@ pub fn node_block_of(device: u64, addr: u64) -> NumberOption
     let ok = device <= 2;
     if ok {
         return block_of(w, addr);
+    }
+    NumberOption {
+        answer: 1,
+        exists: false,
+        value: 0,
+    }
+}
+
+pub fn node_block_index(device: u64, addr: u64) -> NumberOption
+    ensures { λ r. ⌜ r ≡ numberOption device (NodeBlockOf (deviceOf device) addr) ⌝ }
+{
+    let w = row(device);
+    let ok = device <= 2;
+    if ok {
+        return index_of(w, addr);
     }
     NumberOption {
         answer: 1,

@@ -15,6 +15,7 @@ mod sums;
 pub use areas::same_loc;
 pub use blocks::first_node_addr;
 pub use blocks::node_block_addr;
+pub use blocks::node_block_index;
 pub use blocks::node_block_of;
 pub use blocks::node_blocks_end;
 pub use blocks::node_place;

@@ -1,4 +1,5 @@
 // What is printed.
+use blockcache::Choice;
 use blocksystem::Counts;
 use disklayout::Kind;
 use disklayout::Location;
@@ -59,6 +60,16 @@ fn kind_word(k: Kind) {
         Kind::Node => text(b"node"),
         Kind::None => text(b"none"),
     }
+}
+
+// What the chooser gives.
+pub fn choice(line: u64, c: Choice) {
+    word(b"line=", line);
+    word(b" answer=", c.answer);
+    word(b" block=", c.block);
+    word(b" addr=", c.addr);
+    word(b" free=", c.free);
+    text(b"\n");
 }
 
 // What a place is.

@@ -162,6 +162,20 @@ impl Session {
         next
     }
 
+    // Asks for a free block: a call that changes no name and no picture.
+    fn choose(self) -> Session {
+        let mut sequence = self.sequence;
+        let mut store = sequence.store;
+        let c = store.choose();
+        print::choice(self.tally.lines, c);
+        let cache = c.cache;
+        store.cache = cache;
+        sequence.store = store;
+        let mut next = self.counted(c.answer);
+        next.sequence = sequence;
+        next
+    }
+
     // A step line, by what follows its first word. Only a crash is offered records other than those that are stored.
     fn step(self, number: u64, rest: &[u8]) -> Session {
         let crash = number == CRASH;
@@ -203,6 +217,7 @@ impl Session {
                 sequence.show(line);
                 self
             }
+            Line::Choose => self.choose(),
             Line::Format(d, c, r) => self.format(d, c, r),
             Line::Place(d, l) => self.place(d, l),
             Line::Skip => self,
@@ -223,6 +238,7 @@ impl Session {
             Line::Step(_) => self.started_line(kind, s),
             Line::Audit => self.started_line(kind, s),
             Line::Show => self.started_line(kind, s),
+            Line::Choose => self.started_line(kind, s),
             Line::Bad => self.error(),
         }
     }

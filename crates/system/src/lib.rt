@@ -1,5 +1,6 @@
-// Cache and disk joined: formatting, the joined call, names and pictures, what a crash has lost and what is shown, as `blocksystem` defines
+// Cache and disk joined: formatting, the joined call, the chooser's call, names and pictures, what a crash has lost and what is shown, as `blocksystem` defines
 // them.
+mod choosing;
 mod formatting;
 mod joined;
 mod pictures;

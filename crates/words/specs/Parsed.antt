@@ -160,12 +160,13 @@ placeOf first r =
     (cond (not (bothOf r keys.Place DEVICE LOC)) line.Bad
     (placeLineFrom (numberWord r DEVICE) (placeWord r LOC)))
 
--- audit and show
+-- audit, show and choose
 unfoldable pub aloneOf : List ℕ → Line
 aloneOf w =
     cond (sameOf w (97 ∷ 117 ∷ 100 ∷ 105 ∷ 116 ∷ [])) line.Audit
     (cond (sameOf w (115 ∷ 104 ∷ 111 ∷ 119 ∷ [])) line.Show
-    line.Bad)
+    (cond (sameOf w (99 ∷ 104 ∷ 111 ∷ 111 ∷ 115 ∷ 101 ∷ [])) line.Choose
+    line.Bad))
 
 abbrev pub stepFrom : Digits → Line
 stepFrom (Value n) = line.Step n

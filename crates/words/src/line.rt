@@ -32,6 +32,7 @@ pub enum Line {
     Step(u64),
     Audit,
     Show,
+    Choose,
     // `place`, with the device and the location that is asked about.
     Place(u64, Location),
     // Not of the form.
@@ -105,7 +106,7 @@ fn place_of<'a>(first: &'a [u8], rest: &'a [u8]) -> Line
     Line::Place(d, l)
 }
 
-// A line whose first word stands alone: `audit` and `show`.
+// A line whose first word stands alone: `audit`, `show` and `choose`.
 fn alone_of(first: &[u8]) -> Line
     ensures { λ r. ⌜ r ≡ aloneOf (now (first .entry)) ⌝ }
 {
@@ -114,6 +115,9 @@ fn alone_of(first: &[u8]) -> Line
     }
     if same(first, b"show") {
         return Line::Show;
+    }
+    if same(first, b"choose") {
+        return Line::Choose;
     }
     Line::Bad
 }

@@ -40,7 +40,7 @@ returns-3 c =
     let c2 = c1 .before .before in
     let c3 = c2 .before .before in
     let c4 = c3 .before .before .before .before .before in
-    simp (c .answered3 .ensures, c1 .zero-loc .ensures, c2 .empty-table .ensures) (simp (c3 .if2 .left, c4 .if1 .left))
+    simp (c .answered3 .ensures, c1 .zero-loc .ensures, c2 .empty-table .ensures) (rw (c3 .if2 .left, c4 .if1 .left))
 
 pub clean-up-spec : {M : Type 1} → statement M
 clean-up-spec =

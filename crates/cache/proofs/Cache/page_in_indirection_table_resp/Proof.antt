@@ -46,8 +46,8 @@ returns-2 c =
     let awaited = rw (ca .awaits-table .ensures, c5 .dop-id .ensures) at (c3 .if1 .left) in
     simp (rejected, awaited, c .answered2 .ensures, c2 .table-rejected .ensures, c4 .dop-brought .ensures, c5 .dop-id .ensures)
 
-empty-table-requires : tie.Need-empty-table-requires
-empty-table-requires c κs = search needs
+loaded-requires : tie.Need-loaded-requires
+loaded-requires c κs = search needs
 
 answered-requires-3 : tie.Need-answered-requires-3
 answered-requires-3 c κs = search needs
@@ -55,7 +55,7 @@ answered-requires-3 c κs = search needs
 returns-3 : tie.Need-returns-3
 unfolding pastGate answer
 returns-3 c =
-    let c1 = c .before .before .before .before in
+    let c1 = c .before in
     let c2 = c1 .before in
     let c3 = c2 .before in
     let c4 = c3 .before .before in
@@ -64,7 +64,7 @@ returns-3 c =
     let c6 = c5 .before in
     let fits = rw (c3 .table-rejected .ensures, c5 .dop-brought .ensures) at (c2 .if2 .left) in
     let awaited = rw (ca .awaits-table .ensures, c6 .dop-id .ensures) at (c4 .if1 .left) in
-    simp (fits, awaited, c .answered3 .ensures, c1 .empty-table .ensures, c3 .table-rejected .ensures, c5 .dop-brought .ensures, c6 .dop-id .ensures)
+    simp (fits, awaited, c .answered3 .ensures, c1 .loaded .ensures)
 
 pub page-in-indirection-table-resp-spec : {M : Type 1} → statement M
 page-in-indirection-table-resp-spec =
@@ -78,6 +78,6 @@ page-in-indirection-table-resp-spec =
     table-rejected-requires
     answered-requires-2
     returns-2
-    empty-table-requires
+    loaded-requires
     answered-requires-3
     returns-3)

@@ -1,45 +1,18 @@
 -- By what the callees ensure. Assumes nothing.
 use borrow.Author.Needs.{needs}
+use Rattle.blockcache.specs.Form.{blocksForm, cacheForm}
 use Rattle.cache.proofs.form.cache_form.Statement.{statement}
-use Rattle.blockcache.specs.Form.{cacheForm}
 use Rattle.cache.proofs.form.cache_form.Tie as tie
 
-tables-form-requires : tie.Need-tables-form-requires
-tables-form-requires c κs = search needs
+parts-form-requires : tie.Need-parts-form-requires
+parts-form-requires c κs = search needs
 
-places-form-requires : tie.Need-places-form-requires
-places-form-requires c κs = search needs
-
-awaited-form-requires : tie.Need-awaited-form-requires
-awaited-form-requires c κs = search needs
-
-outstanding-form-requires : tie.Need-outstanding-form-requires
-outstanding-form-requires c κs = search needs
-
-nodes-form-requires : tie.Need-nodes-form-requires
-nodes-form-requires c κs = search needs
-
-phase-form-requires : tie.Need-phase-form-requires
-phase-form-requires c κs = search needs
+blocks-form-requires : tie.Need-blocks-form-requires
+blocks-form-requires c κs = search needs
 
 returns : tie.Need-returns
-unfolding cacheForm
-returns c =
-    let c1 = c .before in
-    let c2 = c1 .before in
-    let c3 = c2 .before in
-    let c4 = c3 .before in
-    let c5 = c4 .before in
-    simp (c .phase-form .ensures, c1 .nodes-form .ensures, c2 .outstanding-form .ensures, c3 .awaited-form .ensures, c4 .places-form .ensures, c5 .tables-form .ensures)
+unfolding cacheForm blocksForm
+returns c = simp (c .blocks-form .ensures, c .before .before .before .before .before .parts-form .ensures)
 
 pub cache-form-spec : {M : Type 1} → statement M
-cache-form-spec =
-    tie.close
-    (tie.spec
-    tables-form-requires
-    places-form-requires
-    awaited-form-requires
-    outstanding-form-requires
-    nodes-form-requires
-    phase-form-requires
-    returns)
+cache-form-spec = tie.close (tie.spec parts-form-requires blocks-form-requires returns)

@@ -1,0 +1,2 @@
+-- What the bitmap's contracts cite.
+pub mod Bitmap
