@@ -28,7 +28,7 @@ pub enum VersionOp {
     Crash,
 }
 
-#[derive(Clone)]
+#[derive(Clone, Copy)]
 pub struct Call {
     pub reference: u64,
     pub vop: VersionOp,
@@ -44,7 +44,7 @@ pub struct Blocks {
     pub last: u64,
 }
 
-#[derive(Clone, Default)]
+#[derive(Clone, Copy, Default)]
 pub struct Cache {
     pub phase: Phase,
     pub persistent: Table,

@@ -17,13 +17,13 @@ pub struct NodeRecord {
     pub node: Node,
 }
 
-#[derive(Clone, PartialEq, Eq)]
+#[derive(Clone, Copy, PartialEq, Eq)]
 pub struct Records {
     pub tables: [TableRecord; 2],
     pub nodes: [NodeRecord; 128],
 }
 
-#[derive(Clone, PartialEq, Eq, Default)]
+#[derive(Clone, Copy, PartialEq, Eq, Default)]
 pub struct Disk {
     pub rule: u64,
     pub records: Records,
@@ -129,7 +129,7 @@ impl Disk {
 
     /// The number of an operation, 0 if the disk accepts it.
     pub fn refusal(&self, device: u64, op: DiskOp, node: &Node, table: &Table) -> u64 {
-        if !(self.form(device) && node.form() && table.form()) {
+        if !(device <= 2 && self.form(device) && node.form() && table.form()) {
             return 1;
         }
         match op {
@@ -183,7 +183,7 @@ impl Disk {
 
     /// The number of a crash that leaves these records.
     pub fn crash_refusal(&self, device: u64, offered: &Records) -> u64 {
-        if !(self.form(device) && offered.form()) {
+        if !(device <= 2 && self.form(device) && offered.form()) {
             return 1;
         }
         let tables = self.records.tables.iter().zip(&offered.tables);
@@ -194,6 +194,6 @@ impl Disk {
     }
 
     pub fn crash(&mut self, offered: &Records) {
-        *self = Disk { rule: self.rule, records: offered.clone(), ..Disk::default() };
+        *self = Disk { rule: self.rule, records: *offered, ..Disk::default() };
     }
 }

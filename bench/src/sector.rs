@@ -76,8 +76,12 @@ impl Succs {
         &self.at[..self.count as usize]
     }
 
+    /// A list of zeros, as most are, has only its count to be judged; the store asks this first too.
     pub fn form(&self) -> bool {
         let n = self.count as usize;
+        if self.at == [0; 8] {
+            return n <= 8;
+        }
         n <= 8 && self.at[..n].iter().all(|&r| r <= 63) && self.at[n..].iter().all(|&r| r == 0)
     }
 
