@@ -13,7 +13,7 @@ from parts.words import contents_words,place_words,words
 
 before_format(); edges(); life(); rows(); last_blocks()
 example('day','A day at the club: load, change, write back, freeze, clean up, crash, and the next morning.',day)
-example('crash','A crash during clean-up: once while the new table is being written, once after it is.',crash)
+example('crash','Two crashes before a clean-up: one while the new table is being written, one after it is.',crash)
 example('refusals','A refused call of each number of document 01 that a script can reach.',refusals)
 words()
 example('places',"What is this place? Document 01's places at the edges of device 0, and places of each kind on each device.",places)

@@ -11,7 +11,7 @@ use Rattle.blockcache.proofs.Chooser.{choice-full, choice-given, choice-accepte
 use Rattle.blockcache.proofs.Forms.{cache-form-iff}
 use Rattle.blockcache.proofs.MarkLaws.{marks-read}
 use Rattle.blockcache.proofs.NextFit.{after-small}
-use Rattle.blockcache.specs.Chooser.{chooser, chooserRows, chosenBlock, blockAfter, isFree, marked, refusedChoice}
+use Rattle.blockcache.specs.Chooser.{choiceBy, chooser, chooserRows, chosenBlock, blockAfter, isFree, marked, refusedChoice}
 use Rattle.blockcache.specs.Form.{cacheForm, isReady, settingsForm}
 use Rattle.blockcache.specs.Next.{withLast}
 use Rattle.blockcache.specs.declared.CacheState.{CacheState}
@@ -66,5 +66,5 @@ module _ (g : Settings) (c : CacheState) (s : settingsForm g ≡ true) (f : cach
   -- else the next free block in turn
   pub one-free : (count ≡ 0 → ⊥) →
       _≡_ {A = Choice} (record { answer = 0; block = block; addr = NodeBlockAddr (deviceOf (g .device)) block; free = count; cache = withLast c block }) (chooser g c)
-  unfolding chooser
+  unfolding chooser choiceBy
   one-free ne = rw (given ne) (rw (next-is ne, count-same (isFreeIn m) (isFree g c) 128 free-read) refl)

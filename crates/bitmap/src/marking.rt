@@ -32,7 +32,7 @@ fn with_mark(m: Marks, k: u64) -> Marks
 fn with_addr(device: u64, m: Marks, addr: u64) -> Marks
     ensures { λ r. ⌜ r ≡ withAddr device m addr ⌝ }
 {
-    let at = layout::node_block_index(device, addr);
+    let at = layout::node_block_by_division(device, addr);
     let found = at.exists;
     if found {
         return with_mark(m, at.value);

@@ -16,12 +16,12 @@ use Rattle.base.specs.Scan.{allBelow, countBelow, firstBelow, someBelow}
 use Rattle.blockcache.proofs.Forms.{cache-form-iff}
 use Rattle.blockcache.proofs.MarkLaws.{blocks-forgotten, given-form}
 use Rattle.blockcache.proofs.MarkSteps.{ready-before}
+use Rattle.blockcache.proofs.MarkedBlocks.{marked-held}
 use Rattle.blockcache.proofs.Numbers.{call-accepted-iff, step-of-number}
 use Rattle.blockcache.proofs.NextFit.{next-fit-passes, after-small}
 use Rattle.blockcache.specs.Abstract.{cacheVars}
-use Rattle.blockcache.specs.Chooser.{chooser, chooserRows, chosenBlock, isFree, marked, refusedChoice}
+use Rattle.blockcache.specs.Chooser.{choiceBy, chooser, chooserRows, chosenBlock, isFree, marked, refusedChoice}
 use Rattle.blockcache.specs.Form.{cacheForm, isReady, settingsForm}
-use Rattle.blockcache.specs.Marks.{isMarked}
 use Rattle.blockcache.specs.Next.{withLast}
 use Rattle.blockcache.specs.Scan.{heldIn}
 use Rattle.blockcache.specs.Step.{cacheNext, cacheRows}
@@ -43,6 +43,17 @@ module _ (g : Settings) (c : CacheState) where
   abbrev rows : List Row
   rows = chooserRows g c
 
+  -- BY ANY ROWS
+
+  module _ (rs : List Row) where
+    pub by-answer : choiceBy g c rs .answer ≡ answer rs
+    unfolding choiceBy
+    by-answer = split (eqb (answer rs) 0) (λ t. rw t (sym (eqb-true (answer rs) 0 t))) (λ t. rw t)
+
+    pub by-refused : (answer rs ≡ 0 → ⊥) → choiceBy g c rs ≡ refusedChoice (answer rs) c
+    unfolding choiceBy
+    by-refused ne = rw (ne-eqb (answer rs) 0 ne)
+
   -- WHAT THE ANSWER SAYS
 
   pub choice-ascends : ascending rows ≡ true
@@ -50,7 +61,7 @@ module _ (g : Settings) (c : CacheState) where
 
   pub choice-answer : chooser g c .answer ≡ answer rows
   unfolding chooser
-  choice-answer = split (eqb (answer rows) 0) (λ t. rw t (sym (eqb-true (answer rows) 0 t))) (λ t. rw t)
+  choice-answer = by-answer rows
 
   -- not all are marked exactly where some is free
   some-free : allBelow (marked g c) 128 ≡ false → someBelow (isFree g c) 128 ≡ true
@@ -84,15 +95,15 @@ module _ (g : Settings) (c : CacheState) where
 
   module _ (e : answer rows ≡ 0) where
     pub gives-block : chooser g c .block ≡ chosenBlock g c
-    unfolding chooser
+    unfolding chooser choiceBy
     gives-block = rw (eq-eqb (answer rows) 0 e)
 
     pub gives-addr : chooser g c .addr ≡ NodeBlockAddr (deviceOf (g .device)) (chosenBlock g c)
-    unfolding chooser
+    unfolding chooser choiceBy
     gives-addr = rw (eq-eqb (answer rows) 0 e)
 
     pub gives-count : chooser g c .free ≡ countBelow (isFree g c) 128
-    unfolding chooser
+    unfolding chooser choiceBy
     gives-count = rw (eq-eqb (answer rows) 0 e)
 
     -- free and marked blocks make 128
@@ -100,28 +111,28 @@ module _ (g : Settings) (c : CacheState) where
     count-all = rw gives-count (let n = count-not (marked g c) 128 in omega arith)
 
     pub gives-cache : chooser g c .cache ≡ withLast c (chosenBlock g c)
-    unfolding chooser
+    unfolding chooser choiceBy
     gives-cache = rw (eq-eqb (answer rows) 0 e)
 
   pub refused-choice : (answer rows ≡ 0 → ⊥) → chooser g c ≡ refusedChoice (answer rows) c
   unfolding chooser
-  refused-choice ne = rw (ne-eqb (answer rows) 0 ne)
+  refused-choice = by-refused rows
 
   -- its refusals one by one
   pub choice-unnamed : settingsForm g ≡ false → chooser g c ≡ refusedChoice 1 c
-  unfolding chooser answer
+  unfolding chooser choiceBy answer
   choice-unnamed n = rw n
 
   pub choice-unformed : cacheForm (g .device) c ≡ false → chooser g c ≡ refusedChoice 1 c
-  unfolding chooser answer
+  unfolding chooser choiceBy answer
   choice-unformed n = rw (n, and-false (settingsForm g))
 
   pub choice-unready : settingsForm g ≡ true → cacheForm (g .device) c ≡ true → isReady c ≡ false → chooser g c ≡ refusedChoice 4 c
-  unfolding chooser answer
+  unfolding chooser choiceBy answer
   choice-unready s f r = rw (s, f, r)
 
   pub choice-full : settingsForm g ≡ true → cacheForm (g .device) c ≡ true → isReady c ≡ true → allBelow (marked g c) 128 ≡ true → chooser g c ≡ refusedChoice 21 c
-  unfolding chooser answer
+  unfolding chooser choiceBy answer
   choice-full s f r a = rw (s, f, r, a)
 
   pub choice-given : settingsForm g ≡ true → cacheForm (g .device) c ≡ true → isReady c ≡ true → allBelow (marked g c) 128 ≡ false → answer rows ≡ 0
@@ -147,14 +158,14 @@ module _ (g : Settings) (c : CacheState) where
   -- WHAT IS KEPT
 
   pub choice-form : cacheForm (g .device) c ≡ true → cacheForm (g .device) (chooser g c .cache) ≡ true
-  unfolding chooser
+  unfolding chooser choiceBy
   choice-form f =
       split (eqb (answer rows) 0)
       (λ t. rw t (given-form (g .device) (chosenBlock g c) c f (choice-accepted (eqb-true (answer rows) 0 t) .ready) block-small))
       (λ t. rw t f)
 
   pub choice-vars : cacheVars (chooser g c .cache) ≡ cacheVars c
-  unfolding chooser
+  unfolding chooser choiceBy
   choice-vars = split (eqb (answer rows) 0) (λ t. rw t (blocks-forgotten c _)) (λ t. rw t refl)
 
 -- WHERE THE NEXT WRITE CAN GO
@@ -170,7 +181,6 @@ place-rows g c q id l o m v some free = (rw (o, m, v, ne-eqb (l .len) 0 some) re
 pub given-usable : (g : Settings) (c : CacheState) (q : Call) (id len : ℕ) → answer (chooserRows g c) ≡ 0 →
     q .dop ≡ ReqWriteNodeOp id (record { addr = chooser g c .addr; len = len }) → 1 ≤ len → len ≤ NodeBlockSize (deviceOf (g .device)) →
     (holds 6 (cacheRows g (chooser g c .cache) 1 q) ≡ false) × (holds 7 (cacheRows g (chooser g c .cache) 1 q) ≡ false)
-unfolding isMarked
 given-usable g c q id len e o some most =
     let b = chosenBlock g c in
     let w = deviceOf (g .device) in
@@ -179,7 +189,7 @@ given-usable g c q id len e o some most =
     let v : ValidNodeLocation w l ≡ true = node-iff w l .1 (record { there = node-addr-iff w (NodeBlockAddr w b) .0 (block-valid w (device-good (g .device)) b); short = most }) in
     rw (gives-cache g c e)
     (place-rows g (withLast c b) q id l (o ∙ ap (λ a. ReqWriteNodeOp id (record { addr = a; len = len })) (gives-addr g c e)) m v (λ (z : len ≡ 0). omega arith)
-    (not-true-iff _ .0 (block-free g c e)))
+    (sym (marked-held (g .device) (c .tables) (c .outstanding .writes) b) ∙ not-true-iff (marked g c b) .0 (block-free g c e)))
 
 -- THE BLOCK GIVEN LAST, AFTER A STEP
 

@@ -12,6 +12,7 @@ use Rattle.base.proofs.Scan.{count-zero-at, some-of-none}
 use Rattle.base.proofs.Tests.{and-both, and-iff, and-left, clash, eqb-iff, never, not-true-iff, or-true-iff, split}
 use Rattle.base.specs.Maps.{empty}
 use Rattle.base.specs.Scan.{someBelow}
+use Rattle.blockcache.proofs.MarkedBlocks.{marked-held}
 use Rattle.blockcache.specs.Form.{awaitedForm, blocksForm, blocksIn, cacheForm, formIn, idle, isReady, loadingPhase}
 use Rattle.blockcache.specs.Form.{partsForm, phaseForm, placesForm, readOk, readsForm, readyPhase, writeOk, writesForm}
 use Rattle.blockcache.specs.Marks.{blocksZero, isMarked, marksOf, marksWhere, noMarks, sameMarks}
@@ -211,9 +212,10 @@ nothing-held c f i a =
     rw (p, e, empty-holds a, i .no-frozen, none-addressed (c .outstanding .writes) a (i .no-writes))
 
 pub idle-marks : (d : ℕ) (c : CacheState) → PartsForm c → Idle c → marksOf d (c .tables) (c .outstanding .writes) ≡ noMarks
-unfolding marksOf isMarked
+unfolding marksOf
 idle-marks d c f i =
-    marks-same (isMarked d (c .tables) (c .outstanding .writes)) (λ b. false) (λ b l. nothing-held c f i (NodeBlockAddr (deviceOf d) b))
+    marks-same (isMarked d (c .tables) (c .outstanding .writes)) (λ b. false)
+    (λ b l. marked-held d (c .tables) (c .outstanding .writes) b ∙ nothing-held c f i (NodeBlockAddr (deviceOf d) b))
     ∙ (let none = word-zero-iff (λ b. false) 64 .1 (some-of-none (λ b. false) 64 (λ k l. refl)) in λ i. record { low = none i; high = none i })
 
 -- the block given last is one of the 128, and 0 outside Ready

@@ -57,11 +57,6 @@ module _ (g : Settings) (c : CacheState) (q : Call) where
   pub other-rows : (n : ℕ) → (n ≡ 12 → ⊥) → cacheRows (withRule g 2) c n q ≡ cacheRows (withRule g 1) c n q
   other-rows n ne = rw (of-number n ne (stepOf n) refl) refl
 
-  -- and Freeze but for 25
-  pub freeze-rule-2 : answer (cacheRows (withRule g 2) c 12 q) ≡ freezeAnswer (c .places .isfrozen) (answer (cacheRows (withRule g 1) c 12 q))
-  unfolding stepOf steps
-  freeze-rule-2 = last-row _ _ _ _ _ _
-
   -- under rule 1 Freeze is accepted exactly where 1 doesn't apply and upstream allows it
   pub freeze-rule-1 : g .rule ≡ 1 → (answer (cacheRows g c 12 q) ≡ 0) ↔ ((outsideLimits g c 12 q ≡ false) × Allowed (g .device) c 12 q)
   unfolding narrowed stepOf steps
@@ -70,6 +65,11 @@ module _ (g : Settings) (c : CacheState) (q : Call) where
       let free : frozenHeld g c ≡ false = rw one refl in
       let n = or-iff (outsideLimits g c 12 q) (frozenHeld g c) in
       ((λ e. let h = a .0 e in (n .0 (h .0) .0, h .1)), (λ (m, k). a .1 (n .1 (m, free), k)))
+
+  -- Freeze has the same rows under both but for 25
+  pub freeze-rule-2 : answer (cacheRows (withRule g 2) c 12 q) ≡ freezeAnswer (c .places .isfrozen) (answer (cacheRows (withRule g 1) c 12 q))
+  unfolding stepOf steps
+  freeze-rule-2 = last-row _ _ _ _ _ _
 
 -- WHAT 25 IS
 

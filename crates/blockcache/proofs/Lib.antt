@@ -23,6 +23,7 @@ pub mod LetGoStep
 pub mod Loaded
 pub mod MarkLaws
 pub mod MarkSteps
+pub mod MarkedBlocks
 pub mod NextFit
 pub mod Numbers
 pub mod OpKinds

@@ -15,9 +15,9 @@ use Rattle.blockcache.proofs.Chooser.{choice-given}
 use Rattle.blockcache.proofs.Forms.{loading-idle, none-addressed}
 use Rattle.blockcache.proofs.Frames.{gate-iff}
 use Rattle.blockcache.proofs.Kept.{cache-form-kept}
+use Rattle.blockcache.proofs.MarkedBlocks.{marked-held}
 use Rattle.blockcache.proofs.Numbers.{call-accepted-iff, number-decides}
 use Rattle.blockcache.specs.Chooser.{chooserRows, marked}
-use Rattle.blockcache.specs.Marks.{isMarked}
 use Rattle.blockcache.specs.Rows.{ownRows, stepRows, takes}
 use Rattle.blockcache.specs.Scan.{heldIn}
 use Rattle.blockcache.specs.Step.{cacheNext, cacheRows}
@@ -75,11 +75,11 @@ module _ (d r : ℕ) (c : CacheState) (q : Call) where
     held-by-table a = rw (none-addressed (c .outstanding .writes) a no-writes) (or-same (holdsAddr (q .table) a))
 
     not-full : (w : ℕ) → allBelow (marked (record { device = d; rule = w }) next) 128 ≡ false
-    unfolding isMarked
     not-full w =
         let m = marked (record { device = d; rule = w }) next in
         let few = held-few d (q .table) in
-        let same = count-same m (λ b. holdsAddr (q .table) (NodeBlockAddr (deviceOf d) b)) 128 (λ b l. held-by-table (NodeBlockAddr (deviceOf d) b)) in
+        let same = count-same m (λ b. holdsAddr (q .table) (NodeBlockAddr (deviceOf d) b)) 128
+        (λ b l. marked-held d (next .tables) (next .outstanding .writes) b ∙ held-by-table (NodeBlockAddr (deviceOf d) b)) in
         split (allBelow m 128) (λ t. absurd (let all = count-every m 128 t in omega arith)) (λ t. t)
 
     -- and the chooser is accepted, under either rule

@@ -11,6 +11,7 @@ use Rattle.base.proofs.Scan.{some-same}
 use Rattle.base.proofs.Tests.{clash, split}
 use Rattle.blockcache.proofs.FormLaws.{empty-cache-form}
 use Rattle.blockcache.proofs.Forms.{LastForm, PartsForm, cache-form-iff, idle-iff, idle-marks, marks-same}
+use Rattle.blockcache.proofs.MarkedBlocks.{marked-held}
 use Rattle.blockcache.specs.Abstract.{cacheVars, varsIn}
 use Rattle.blockcache.specs.Form.{cacheForm, emptyCache, formIn, idle, isReady, loadingAt, phaseForm}
 use Rattle.blockcache.specs.Marks.{isMarked, markAt, marksOf, marksWhere}
@@ -117,8 +118,10 @@ marks-read d c f b h = rw (cache-form-iff d c .0 f .1 .marks) (mark-read (isMark
 
 -- which addresses the tables and the writes hold
 pub marks-of-held : (d : ℕ) (ts us : Tables) (w v : Requests) → ((a : ℕ) → heldIn ts w a ≡ heldIn us v a) → marksOf d ts w ≡ marksOf d us v
-unfolding marksOf isMarked
-marks-of-held d ts us w v e = marks-same (isMarked d ts w) (isMarked d us v) (λ b l. e (NodeBlockAddr (deviceOf d) b))
+unfolding marksOf
+marks-of-held d ts us w v e =
+    marks-same (isMarked d ts w) (isMarked d us v)
+    (λ b l. marked-held d ts w b ∙ e (NodeBlockAddr (deviceOf d) b) ∙ sym (marked-held d us v b))
 
 -- a reference without a location holds none
 pub unlocated-holds : (t : Table) (r : ℕ) (e : Entry) (a : ℕ) → tableForm t ≡ true → r < 64 → e .located ≡ false → entryAt t r .located ≡ false →

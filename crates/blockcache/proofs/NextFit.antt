@@ -1,31 +1,44 @@
--- The order in which the chooser goes through the blocks, over any test: each of the 128 is reached, and one that passes is nearer after each other one
--- that is given. Assumes nothing.
+-- The order in which the chooser goes through the blocks, over any test: which blocks come after one, and which of them is next; each of
+-- the 128 is reached, and one that passes is nearer after each other one that is given. Assumes nothing.
 use Prim.Native.Nat.{_%_, _+_, _-_, _<_, _≤_, ℕ}
-use mathlib.Core.Bool.{Bool, cond, true}
+use mathlib.Core.Bool.{Bool, cond, false, true}
 use mathlib.Core.Path.{_∙_, _≡_, ap, sym}
 use native.Mathlib.Nat.{add-mod-right, mod-eq-of-lt, mod-lt}
 use native.Mathlib.Omega.{arith}
 use borrow.Author.Tests.{le-ltb, leb-false, leb-true, lt-ltb, ltb-false, ltb-true}
 use lib.Dec.{leb, ltb}
-use Rattle.base.proofs.Scan.{first-at-most, first-found, first-passes, first-same, some-at}
+use Rattle.base.proofs.Scan.{first-at-most, first-found, first-is, first-passes, first-same, some-at}
 use Rattle.base.proofs.Tests.{split}
 use Rattle.base.specs.Scan.{firstBelow, someBelow}
 use Rattle.blockcache.specs.Chooser.{nextFit, blockAfter}
 
 -- THE BLOCKS AFTER ONE
 
+-- the one that k others come before is k + 1 further on, and past block 127 it goes on from block 0
+pub record After (last k : ℕ) : Type 0 where
+  pub round : 128 ≤ last + 1 + k → last + 1 + k < 256 → blockAfter last k ≡ last + 1 + k - 128
+  pub near : last + 1 + k < 128 → blockAfter last k ≡ last + 1 + k
+
+pub after-is : (last k : ℕ) → After last k
+after-is last k =
+    record {
+      round = λ a b.
+          let x = last + 1 + k - 128 in
+          let e : last + 1 + k ≡ x + 128 = omega arith in
+          let l : x < 128 = omega arith in
+          ap (λ n. n % 128) e ∙ add-mod-right x 128 ∙ mod-eq-of-lt l;
+      near = λ h. mod-eq-of-lt h;
+    }
+
+-- each is one of the 128
 pub after-small : (last k : ℕ) → blockAfter last k < 128
 after-small last k = mod-lt _ (omega arith)
 
 pub after-near : (last k : ℕ) → last + 1 + k < 128 → blockAfter last k ≡ last + 1 + k
-after-near last k h = mod-eq-of-lt h
+after-near last k = after-is last k .near
 
 after-round : (last k : ℕ) → 128 ≤ last + 1 + k → last + 1 + k < 256 → blockAfter last k ≡ last + 1 + k - 128
-after-round last k a b =
-    let x = last + 1 + k - 128 in
-    let e : last + 1 + k ≡ x + 128 = omega arith in
-    let l : x < 128 = omega arith in
-    ap (λ n. n % 128) e ∙ add-mod-right x 128 ∙ mod-eq-of-lt l
+after-round last k = after-is last k .round
 
 -- after block 127 come the blocks by their own numbers
 pub after-end : (k : ℕ) → k < 128 → blockAfter 127 k ≡ k
@@ -73,6 +86,11 @@ distance-of last k m l a b =
     by-round x y = rw (le-ltb p q (omega arith)) (omega arith)
 
 -- THE FIRST THAT PASSES
+
+-- a block that passes, and before which none passes, is the next
+pub next-fit-is : (test : ℕ → Bool) (last k : ℕ) → k < 128 → test (blockAfter last k) ≡ true →
+    ((j : ℕ) → j < k → test (blockAfter last j) ≡ false) → nextFit test last ≡ blockAfter last k
+next-fit-is test last k l e before = ap (blockAfter last) (first-is (λ j. test (blockAfter last j)) 128 k l e before)
 
 module _ (test : ℕ → Bool) (last : ℕ) (small : last ≤ 127) where
   abbrev tried : ℕ → Bool

@@ -37,19 +37,26 @@ module _ (g : Settings) (c : CacheState) where
   abbrev pub isFree : ℕ → Bool
   isFree b = not (marked b)
 
-  -- 1 as in every step, 4 outside Ready, 21 where all 128 are marked
-  abbrev pub chooserRows : List Row
-  chooserRows =
-      (1 when not (settingsForm g && cacheForm (g .device) c)) ∷
+  -- 4 outside Ready, 21 where all 128 are marked
+  abbrev pub blockRows : List Row
+  blockRows =
       (4 when not (isReady c)) ∷
       (21 when allBelow marked 128) ∷
       []
 
+  -- on the cache alone: 1 as in every step
+  abbrev pub chooserRows : List Row
+  chooserRows = (1 when not (settingsForm g && cacheForm (g .device) c)) ∷ blockRows
+
   abbrev pub chosenBlock : ℕ
   chosenBlock = nextFit isFree (c .blocks .last)
 
-  unfoldable pub chooser : Choice
-  chooser =
-      cond (eqb (answer chooserRows) 0)
+  -- what the rows answer, and where that is 0 the block
+  unfoldable pub choiceBy : List Row → Choice
+  choiceBy rows =
+      cond (eqb (answer rows) 0)
       (givenChoice chosenBlock (NodeBlockAddr (deviceOf (g .device)) chosenBlock) (countBelow isFree 128) c)
-      (refusedChoice (answer chooserRows) c)
+      (refusedChoice (answer rows) c)
+
+  unfoldable pub chooser : Choice
+  chooser = choiceBy chooserRows

@@ -1,30 +1,56 @@
--- What it is for a joined call to be accepted, and the cache and disk that it then hands back. Assumes nothing.
+-- What a refused joined call hands back; what it is for one to be accepted, and the cache and disk that it hands back then. Assumes
+-- nothing.
 use Prim.Native.Nat.{ℕ}
-use mathlib.Core.Bool.{false, true}
+use mathlib.Core.Bool.{cond, false, true}
 use mathlib.Core.Logic.{_↔_}
 use mathlib.Core.Option.{some}
 use mathlib.Core.Path.{_∙_, _≡_, ap, sym}
-use borrow.Author.Tests.{eq-eqb}
+use borrow.Author.Tests.{eq-eqb, ne-eqb}
+use lib.Dec.{eqb}
 use Rattle.base.proofs.Refusals.{lowest-zero}
-use Rattle.base.proofs.Tests.{never}
+use Rattle.base.proofs.Tests.{never, split}
 use Rattle.base.specs.Refusals.{answer, lowest}
 use Rattle.blockcache.proofs.Outcomes.{step-answer, step-taken}
 use Rattle.blockcache.specs.Step.{cacheNext, cacheRows, cacheStep}
 use Rattle.blockcache.specs.Steps.{isCrash}
+use Rattle.blockcache.specs.declared.CacheOutcome.{CacheOutcome}
 use Rattle.blockcache.specs.declared.CacheState.{CacheState}
 use Rattle.blockcache.specs.declared.Call.{Call}
-use Rattle.blockdisk.proofs.Crashing.{crash-keeps-node, crash-keeps-table}
+use Rattle.blockdisk.proofs.Crashing.{crash-form-kept, crash-keeps-node, crash-keeps-table}
+use Rattle.blockdisk.proofs.Kept.{disk-form-kept}
 use Rattle.blockdisk.proofs.Outstanding.{places-none}
 use Rattle.blockdisk.proofs.Reading.{upstream-of, upstream-some}
 use Rattle.blockdisk.specs.Crash.{crashRows, crashed, diskCrash}
+use Rattle.blockdisk.specs.Form.{diskForm}
 use Rattle.blockdisk.specs.Ops.{diskRows, diskStep, nextDisk}
 use Rattle.blockdisk.specs.Upstream.{diskVars, places}
 use Rattle.blockdisk.specs.declared.DiskState.{DiskState}
 use Rattle.blockdisk.specs.declared.Records.{Records}
 use Rattle.queue.specs.Queue.{emptyRequests}
+use Rattle.sectortype.specs.Form.{zeroNode}
 use Rattle.blocksystem.proofs.Invariant.{NoneQueued}
 use Rattle.blocksystem.proofs.KeepQueues.{Survives}
 use Rattle.blocksystem.specs.Joined.{diskAsked, diskCall, joined, joinedAnswer, settingsOf, startRows}
+
+-- REFUSED
+
+-- whichever of the two refuses, neither cache nor disk moves, and the node is zeros
+pub record Unmoved (d : ℕ) (n : ℕ) (q : Call) (o : Records) (c : CacheState) (s : DiskState) : Type 0 where
+  pub cache : joined d n q o c s .cache ≡ c
+  pub disk : joined d n q o c s .disk ≡ s
+  pub node : joined d n q o c s .node ≡ zeroNode
+
+pub refused-unmoved : (d : ℕ) (n : ℕ) (q : Call) (o : Records) (c : CacheState) (s : DiskState) → (joined d n q o c s .answer ≡ 0 → ⊥) →
+    Unmoved d n q o c s
+unfolding joined
+refused-unmoved d n q o c s ne =
+    record { cache = stays (x .cache) c; disk = stays (diskAsked d n q o s .disk) s; node = stays (x .node) zeroNode }
+  where
+    x : CacheOutcome
+    x = cacheStep (settingsOf d s) c n q
+
+    stays : {A : Type 0} (next before : A) → cond (eqb (joinedAnswer d n q o c s) 0) next before ≡ before
+    stays next before = rw (ne-eqb (joinedAnswer d n q o c s) 0 ne)
 
 -- THE DISK'S HALF
 
@@ -34,7 +60,8 @@ module _ (d : ℕ) (n : ℕ) (q : Call) (o : Records) (s : DiskState) where
     unfolding diskAsked diskStep
     disk-answer = rw e
 
-    pub disk-next : answer (diskRows d s (diskCall n q)) ≡ 0 → diskAsked d n q o s .disk ≡ nextDisk d s (diskCall n q .op) (q .node) (q .table)
+    pub disk-next : answer (diskRows d s (diskCall n q)) ≡ 0 →
+        diskAsked d n q o s .disk ≡ nextDisk d s (diskCall n q .op) (q .node) (q .table)
     unfolding diskAsked diskStep
     disk-next z = rw (e, eq-eqb _ _ z)
 
@@ -88,3 +115,13 @@ module _ (d : ℕ) (n : ℕ) (q : Call) (o : Records) (c : CacheState) (s : Disk
     pub joined-node : joined d n q o c s .node ≡ cacheStep (settingsOf d s) c n q .node
     unfolding joined
     joined-node = rw (eq-eqb _ _ e)
+
+-- and the disk that an accepted call hands back is in its written form
+pub joined-disk-form : (d : ℕ) (n : ℕ) (q : Call) (o : Records) (c : CacheState) (s : DiskState) → joinedAnswer d n q o c s ≡ 0 →
+    diskForm d (joined d n q o c s .disk) ≡ true
+joined-disk-form d n q o c s e =
+    let z = joined-zero d n q o c s .0 e .1 in
+    rw (joined-disk d n q o c s e)
+    (split (isCrash n)
+    (λ t. let a = sym (crash-answer d n q o s t) ∙ z in rw (crash-next d n q o s t a) (crash-form-kept d s o a))
+    (λ t. let a = sym (disk-answer d n q o s t) ∙ z in rw (disk-next d n q o s t a) (disk-form-kept d s (diskCall n q) a)))

@@ -7,12 +7,11 @@ use mathlib.Core.Logic.{_↔_}
 use mathlib.Core.Path.{_∙_, _≡_, ap, refl, subst}
 use borrow.Author.Tests.{eq-eqb, eqb-true, ne-eqb}
 use Rattle.base.proofs.Tests.{and-iff}
-use Rattle.blockcache.specs.Chooser.{chooser}
 use Rattle.blockcache.specs.Ops.{vopLoc}
 use Rattle.blockcache.specs.Steps.{isStart}
 use Rattle.blockcache.specs.declared.Call.{Call}
 use Rattle.blockdisk.specs.declared.Records.{Records}
-use Rattle.blocksystem.specs.Joined.{settingsOf}
+use Rattle.blocksystem.specs.Choosing.{joinedChoice}
 use Rattle.blocksystem.specs.Names.{isNamed, picturesAfter}
 use Rattle.blocksystem.specs.Run.{Every, JoinedCall, State, acceptsStep, after, afterStep, asked, choose, moved, startNamed, startsNamed, step, stepNamed}
 
@@ -30,7 +29,7 @@ hands-on d s n q o = record { cache = refl; disk = refl; accepted = λ e. rw (eq
 
 -- the state after the chooser's call: it changes no name and no picture, and nothing on the disk
 pub record ChoiceHandsOn (d : ℕ) (s : State) : Type 0 where
-  pub cache : after d s (choose ∷ []) .cache ≡ chooser (settingsOf d (s .disk)) (s .cache) .cache
+  pub cache : after d s (choose ∷ []) .cache ≡ joinedChoice d (s .cache) (s .disk) .cache
   pub disk : after d s (choose ∷ []) .disk ≡ s .disk
   pub pictures : after d s (choose ∷ []) .pictures ≡ s .pictures
 

@@ -1,4 +1,5 @@
--- Each joined call is answered as documents 01 and 02 fix: the lowest number whose condition holds, in cache, disk or start; 0 where none does. Assumes nothing.
+-- Each joined call is answered as documents 01 and 02 fix: the lowest number whose condition holds, in cache, disk or start; 0 where none
+-- does. Assumes nothing.
 use Prim.Native.Nat.{_<_, _≤_, ℕ}
 use mathlib.Core.Bool.{Bool, _||_, false, true}
 use mathlib.Core.List.{List}
@@ -6,14 +7,14 @@ use mathlib.Core.Logic.{⊎-elim}
 use mathlib.Core.Path.{_∙_, _≡_, ap, refl, sym}
 use native.Mathlib.Omega.{arith}
 use lib.Dec.{eqb, leb}
-use borrow.Author.Tests.{eq-eqb, eqb-false, eqb-true, leb-false, leb-true, ne-eqb}
+use borrow.Author.Tests.{eq-eqb, eqb-false, eqb-true, leb-false, leb-true}
 use Rattle.base.proofs.Refusals.{accepted-iff, answer-holds, answer-lowest, clear-holds}
 use Rattle.base.proofs.Tests.{clash, or-cases, or-inl, or-inr, or-iff, split}
 use Rattle.base.specs.Refusals.{Row, answer, ascending, holds, lowest}
-use Rattle.blockcache.proofs.Chooser.{block-free, block-small, choice-answer, choice-ascends, count-all, gives-addr, gives-block, gives-cache, refused-choice}
+use Rattle.blockcache.proofs.Chooser.{block-free, block-small, by-answer, by-refused, count-all, gives-addr, gives-block, gives-cache}
 use Rattle.blockcache.proofs.Numbers.{rows-ascending}
 use Rattle.blockcache.proofs.Outcomes.{step-answer}
-use Rattle.blockcache.specs.Chooser.{chooserRows, refusedChoice}
+use Rattle.blockcache.specs.Chooser.{chooser, chooserRows, refusedChoice}
 use Rattle.blockcache.specs.Step.{cacheRows}
 use Rattle.blockcache.specs.Steps.{isCrash}
 use Rattle.blockcache.specs.declared.CacheState.{CacheState}
@@ -24,10 +25,13 @@ use Rattle.blockdisk.proofs.Crashing.{crash-ascending}
 use Rattle.blockdisk.specs.Crash.{crashRows}
 use Rattle.blockdisk.specs.declared.Records.{Records}
 use Rattle.blockdisk.specs.Ops.{diskRows}
-use Rattle.blocksystem.proofs.Accepting.{crash-answer, disk-answer}
+use Rattle.blocksystem.proofs.Accepting.{crash-answer, disk-answer, refused-unmoved}
 use Rattle.blocksystem.proofs.After.{every-iff}
+use Rattle.blocksystem.proofs.Choosing.{choice-is, choice-zero}
+use Rattle.blocksystem.specs.Choosing.{joinedChoice}
 use Rattle.blocksystem.specs.Joined.{diskAsked, diskCall, joined, joinedAnswer, settingsOf, startRows}
-use Rattle.blocksystem.specs.Run.{Answered, AnsweredAs, ChoiceAnswered, JoinedCall, State, StepAnswered, after, choice, choose, conditions, diskSide, step}
+use Rattle.blocksystem.specs.Run.{Answered, AnsweredAs, ChoiceAnswered, JoinedCall, State, StepAnswered, after, choice, choiceRows}
+use Rattle.blocksystem.specs.Run.{choose, conditions, diskSide, step}
 
 -- a is the lowest number of which P holds; 0 where P holds of none
 pub record Lowest (a : ℕ) (P : ℕ → Bool) : Type 0 where
@@ -72,7 +76,8 @@ lowest-of a b P Q x y =
 pub rows-lowest : (rs : List Row) → ascending rs ≡ true → Lowest (answer rs) (λ k. holds k rs)
 rows-lowest rs up = record { none = λ z k. clear-holds rs (accepted-iff rs up .0 z) k; own = answer-holds rs; least = answer-lowest 0 rs up }
 
-pub cache-lowest : (g : Settings) (c : CacheState) (n : ℕ) (q : Call) → Lowest (answer (cacheRows g c n q)) (λ k. holds k (cacheRows g c n q))
+pub cache-lowest : (g : Settings) (c : CacheState) (n : ℕ) (q : Call) →
+    Lowest (answer (cacheRows g c n q)) (λ k. holds k (cacheRows g c n q))
 cache-lowest g c n q = rows-lowest (cacheRows g c n q) (rows-ascending g c n q)
 
 module _ (d : ℕ) (s : State) (n : ℕ) (q : Call) (o : Records) where
@@ -104,9 +109,9 @@ module _ (d : ℕ) (s : State) (n : ℕ) (q : Call) (o : Records) where
         accepted = (l .none, (λ h. split (eqb a 0) (eqb-true a 0) (λ t. clash (l .own (eqb-false a 0 t)) (h a))));
         refused = l .own;
         lowest = λ k lt. split (conditions d s n q o k) (λ t. absurd (let le : a ≤ k = l .least k t in omega arith)) (λ t. t);
-        cache-unchanged = λ ne. rw (ne-eqb a 0 ne);
-        disk-unchanged = λ ne. rw (ne-eqb a 0 ne);
-        no-node = λ ne. rw (ne-eqb a 0 ne);
+        cache-unchanged = λ ne. refused-unmoved d n q o (s .cache) (s .disk) ne .cache;
+        disk-unchanged = λ ne. refused-unmoved d n q o (s .cache) (s .disk) ne .disk;
+        no-node = λ ne. refused-unmoved d n q o (s .cache) (s .disk) ne .node;
         cache-next = λ e. rw (eq-eqb a 0 e);
         disk-next = λ e. rw (eq-eqb a 0 e);
         node-read = λ e. rw (eq-eqb a 0 e);
@@ -114,23 +119,27 @@ module _ (d : ℕ) (s : State) (n : ℕ) (q : Call) (o : Records) where
 
 -- the chooser's call
 choice-answered : (d : ℕ) (s : State) → ChoiceAnswered d s
+unfolding joinedChoice
 choice-answered d s =
     let g = settingsOf d (s .disk) in
     let c = s .cache in
-    let a = answer (chooserRows g c) in
-    let is : choice d s .answer ≡ a = choice-answer g c in
-    let l = rows-lowest (chooserRows g c) (choice-ascends g c) in
+    let rows = choiceRows d s in
+    let a = answer rows in
+    let is : choice d s .answer ≡ a = by-answer g c rows in
+    let l = rows-lowest rows refl in
+    let formed : (choice d s .answer ≡ 0 → choice d s ≡ chooser g c) = choice-is d c (s .disk) in
+    let own : (choice d s .answer ≡ 0 → answer (chooserRows g c) ≡ 0) = λ e. choice-zero d c (s .disk) e .1 in
     record {
       accepted = ((λ e. l .none (sym is ∙ e)), (λ h. is ∙ split (eqb a 0) (eqb-true a 0) (λ t. clash (l .own (eqb-false a 0 t)) (h a))));
       refused = λ ne. rw is (l .own (λ e. ne (is ∙ e)));
-      lowest = λ k lt. split (holds k (chooserRows g c)) (λ t. absurd (let le : a ≤ k = l .least k t in omega arith)) (λ t. t);
-      unchanged = λ ne. refused-choice g c (λ e. ne (is ∙ e)) ∙ ap (λ n. refusedChoice n c) (sym is);
-      block = λ e. gives-block g c (sym is ∙ e);
-      small = λ e. rw (gives-block g c (sym is ∙ e)) (block-small g c);
-      is-free = λ e. rw (gives-block g c (sym is ∙ e)) (block-free g c (sym is ∙ e));
-      addr = λ e. rw (gives-block g c (sym is ∙ e)) (gives-addr g c (sym is ∙ e));
-      count = λ e. count-all g c (sym is ∙ e);
-      next = λ e. rw (gives-block g c (sym is ∙ e)) (gives-cache g c (sym is ∙ e));
+      lowest = λ k lt. split (holds k rows) (λ t. absurd (let le : a ≤ k = l .least k t in omega arith)) (λ t. t);
+      unchanged = λ ne. by-refused g c rows (λ e. ne (is ∙ e)) ∙ ap (λ n. refusedChoice n c) (sym is);
+      block = λ e. rw (formed e) (gives-block g c (own e));
+      small = λ e. rw (formed e, gives-block g c (own e)) (block-small g c);
+      is-free = λ e. rw (formed e, gives-block g c (own e)) (block-free g c (own e));
+      addr = λ e. rw (formed e, gives-block g c (own e)) (gives-addr g c (own e));
+      count = λ e. rw (formed e) (count-all g c (own e));
+      next = λ e. rw (formed e, gives-block g c (own e)) (gives-cache g c (own e));
     }
 
 pub answered-as : (d : ℕ) (s : State) (k : JoinedCall) → AnsweredAs d s k

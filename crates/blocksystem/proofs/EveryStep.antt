@@ -8,7 +8,7 @@ use mathlib.Core.Path.{_∙_, _≡_, ap, refl, subst, sym}
 use borrow.Author.Tests.{eq-eqb, eqb-false, eqb-true}
 use lib.Dec.{eqb}
 use Rattle.base.proofs.Maps.{flagged-some}
-use Rattle.base.proofs.Tests.{and-both, and-iff, clash, split}
+use Rattle.base.proofs.Tests.{and-both, clash, split}
 use Rattle.base.specs.Maps.{put}
 use Rattle.blockcache.proofs.Numbers.{step-of-number}
 use Rattle.blockcache.specs.Abstract.{callOp}
@@ -31,18 +31,17 @@ use Rattle.blocksystem.proofs.Invariant.{PictureMaps, pictureMaps, Pict
 use Rattle.blocksystem.proofs.KeepQueues.{Started}
 use Rattle.blocksystem.proofs.KeepSteps.{alloc-kept, clean-up-kept, dirty-kept, evict-kept, freeze-kept, let-go-kept, no-op-kept, page-in-node-req-kept, page-in-node-resp-kept}
 use Rattle.blocksystem.proofs.KeepSteps.{page-in-table-req-kept, page-in-table-resp-kept, read-kept, receive-loc-kept, unalloc-kept, write-back-node-req-kept}
+use Rattle.blocksystem.proofs.Naming.{is-named-iff, names-iff}
 use Rattle.blocksystem.proofs.KeepSteps.{write-back-node-resp-kept, write-back-table-req-kept, write-back-table-resp-kept}
 use Rattle.blocksystem.specs.Allowed.{joinedOp, joinedVop}
 use Rattle.blocksystem.specs.Joined.{diskCall}
 use Rattle.blocksystem.specs.Names.{isNamed, names, nodePictured, pictureOf, picturesAfter, picturesOf, startedAt, stepPictures, withWorking}
 use Rattle.blocksystem.specs.declared.Pictures.{Pictures}
 use Rattle.disklayout.specs.declared.Location.{Location}
-use Rattle.disklayout.proofs.Facts.{same-loc-iff}
 use Rattle.sectortype.proofs.Forms.{empty-nodes-form, with-slot-form, zero-slot-form}
 use Rattle.sectortype.proofs.Maps.{nodes-del, nodes-put}
 use Rattle.sectortype.specs.Abstract.{nodesMap}
 use Rattle.sectortype.specs.Form.{emptyNodes, nodeForm, nodesForm, withSlot, zeroSlot}
-use Rattle.disklayout.specs.Layout.{sameLoc}
 use Rattle.sectortype.specs.declared.Nodes.{Nodes}
 
 -- A START AT A NAMED PLACE
@@ -54,11 +53,11 @@ started t l h =
       no-second = refl;
       working = refl;
       named = split (names (t .first) l)
-          (λ a. let e = and-iff (t .first .present) (sameLoc (t .first .place) l) .0 a in inl (same-loc-iff (t .first .place) l .0 (e .1), rw a))
-          (λ a. let b : names (t .second) l ≡ true = rw a at h in
-          let e = and-iff (t .second .present) (sameLoc (t .second .place) l) .0 b in
-          let p : t .second .place ≡ l = same-loc-iff (t .second .place) l .0 (e .1) in
-          inr (rw (e .0) (ap some p), rw (a, b)));
+          (λ a. inl (names-iff (t .first) l .0 a .1, rw a))
+          (λ a. let (m, which, there, p) = is-named-iff t l .0 h in
+          let b = names-iff m l .1 (there, p) in
+          ⊎-elim (λ (i : m ≡ t .first). clash (subst (λ x. names x l ≡ true) i b) a)
+          (λ (i : m ≡ t .second). inr (rw (← i, there) (ap some p), rw (a, subst (λ x. names x l ≡ true) i b))) which);
     }
 
 -- THE PICTURES ARE KEPT
@@ -225,21 +224,22 @@ module _ (n : ℕ) (q : Call) (t : Pictures) (not4 : n ≡ 4 → ⊥) (not5 : n 
   unfolding picturesAfter
   pictures-same = of-number (stepOf n) refl
 
--- and all but four of these leave the frozen name as it is
+-- and all but four of these leave both names as they are
 module _ (n : ℕ) (q : Call) (t : Pictures) (not4 : n ≡ 4 → ⊥) (not10 : n ≡ 10 → ⊥) (not12 : n ≡ 12 → ⊥) (not13 : n ≡ 13 → ⊥) where
-  abbrev same-name : ℕ → Type 0
-  same-name m = picturesAfter m q t .second ≡ t .second
+  abbrev SameNames : Pictures → Type 0
+  SameNames u = (u .first ≡ t .first) × (u .second ≡ t .second)
 
-  works : (m : ℕ) → n ≡ m → same-name m → same-name n
-  works m e h = subst same-name (sym e) h
+  works : (m : ℕ) → n ≡ m → SameNames (picturesAfter m q t) → SameNames (picturesAfter n q t)
+  works m e h = subst (λ k. SameNames (picturesAfter k q t)) (sym e) h
 
-  pub second-same : same-name n
+  pub names-same : SameNames (picturesAfter n q t)
   unfolding picturesAfter stepOf steps
-  second-same =
-      split (eqb n 5) (λ a. works 5 (eqb-true n 5 a) refl)
-      (λ a. split (eqb n 15) (λ b. works 15 (eqb-true n 15 b) refl)
-      (λ b. split (eqb n 16) (λ e. works 16 (eqb-true n 16 e) refl)
-      (λ e. ap (λ x. x .second) (pictures-same n q t not4 (eqb-false n 5 a) not10 not12 not13 (eqb-false n 15 b) (eqb-false n 16 e)))))
+  names-same =
+      split (eqb n 5) (λ a. works 5 (eqb-true n 5 a) (refl, refl))
+      (λ a. split (eqb n 15) (λ b. works 15 (eqb-true n 15 b) (refl, refl))
+      (λ b. split (eqb n 16) (λ e. works 16 (eqb-true n 16 e) (refl, refl))
+      (λ e. let same = pictures-same n q t not4 (eqb-false n 5 a) not10 not12 not13 (eqb-false n 15 b) (eqb-false n 16 e) in
+      (ap (λ x. x .first) same, ap (λ x. x .second) same))))
 
 -- WHICH STEP SENDS A PERSISTENT PLACE
 

@@ -1,7 +1,7 @@
 -- A newly formatted device: its root is read at its place through the table stored at the place that is named, and the invariant holds. And which
 -- formattings are accepted. Assumes nothing.
 use Prim.Native.Nat.{_≤_, suc, zero, ℕ}
-use mathlib.Core.Bool.{_&&_, false, true}
+use mathlib.Core.Bool.{Bool, _&&_, cond, false, true}
 use mathlib.Core.Logic.{_↔_, _⊎_, ⊎-elim}
 use mathlib.Core.Option.{some}
 use mathlib.Core.Path.{_∙_, _≡_, ap, refl, sym}
@@ -42,6 +42,7 @@ use Rattle.blocksystem.proofs.Laws.{same-put}
 use Rattle.blocksystem.specs.Format.{emptyDisk, formatted, formattedDisk, formattedRecords, rootNode, rootPlace, rootTable, tablePlaceOf}
 use Rattle.blocksystem.specs.Names.{firstPictures, withRoot}
 use Rattle.blocksystem.specs.Run.{start}
+use Rattle.blocksystem.specs.declared.Outcome.{Outcome}
 
 -- THE TWO PLACES, DEVICE BY DEVICE
 
@@ -242,23 +243,34 @@ module _ (d : ℕ) (x : Contents) (on : made d ≡ true) where
 -- WHICH FORMATTINGS ARE ACCEPTED
 
 module _ (d : ℕ) (x : Contents) (r : ℕ) where
-  refused-is : (made d && isRule r) ≡ false → formatted d x r ≡ record { answer = 1; node = zeroNode; cache = emptyCache; disk = emptyDisk }
-  unfolding formatted
-  refused-is e = rw e
-
-  accepted-by : formatted d x r .answer ≡ 0 → (made d && isRule r) ≡ true
-  accepted-by e = split (made d && isRule r) (λ t. t) (λ t. absurd (let w : _≡_ {A = ℕ} 1 0 = sym (ap (λ o. o .answer) (refused-is t)) ∙ e in omega arith))
-
   -- those of the three devices under one of the two rules
   pub formatted-iff : (formatted d x r .answer ≡ 0) ↔ ((d ≤ 2) × ((r ≡ 1) ⊎ (r ≡ 2)))
+  unfolding formatted
   formatted-iff = (
-    (λ e. let h = and-iff (made d) (isRule r) .0 (accepted-by e) in (leb-iff d 2 .0 (h .0), rule-iff r .0 (h .1))),
+    (λ e. let h = and-iff (made d) (isRule r) .0 (taken (made d && isRule r) e) in (leb-iff d 2 .0 (h .0), rule-iff r .0 (h .1))),
     (λ (on, rule). ap (λ o. o .answer) (formatted-is d x (leb-iff d 2 .1 on) r (rule-iff r .1 rule))),
   )
+    where
+      accepted : Outcome
+      accepted = record { answer = 0; node = zeroNode; cache = emptyCache; disk = formattedDisk d x r }
+
+      refused : Outcome
+      refused = record { answer = 1; node = zeroNode; cache = emptyCache; disk = emptyDisk }
+
+      taken : (b : Bool) → cond b accepted refused .answer ≡ 0 → b ≡ true
+      taken true e = refl
+      taken false e = absurd (let w : _≡_ {A = ℕ} 1 0 = e in omega arith)
 
   -- the disk then carries the rule that was named
   pub formatted-rule : formatted d x r .answer ≡ 0 → formatted d x r .disk .rule ≡ r
-  formatted-rule e = let h = and-iff (made d) (isRule r) .0 (accepted-by e) in ap (λ o. o .disk .rule) (formatted-is d x (h .0) r (h .1))
+  formatted-rule e =
+      let (on, rule) = formatted-iff .0 e in
+      ap (λ o. o .disk .rule) (formatted-is d x (leb-iff d 2 .1 on) r (rule-iff r .1 rule))
+
+  refused-is : (made d && isRule r) ≡ false →
+      formatted d x r ≡ record { answer = 1; node = zeroNode; cache = emptyCache; disk = emptyDisk }
+  unfolding formatted
+  refused-is e = rw e
 
   -- else it is 1 and zeros, the rule too
   pub formatted-refused : (formatted d x r .answer ≡ 0 → ⊥) →

@@ -111,15 +111,6 @@ module _ (d : ℕ) (s : State) (q : Call) (o : Records) where
 
   -- UNDER EITHER RULE
 
-  -- under rule 1 accepted exactly where all is in its form and upstream allows it
-  pub joined-freeze-rule-1 : s .disk .rule ≡ 1 → (asked d s 12 q o .answer ≡ 0) ↔ (InForm d s q × Allowed d (s .cache) 12 q)
-  joined-freeze-rule-1 one = (
-    (λ e. let a = answered-as d s (step 12 q o) .accepted .0 e in
-        let w = formed (a 1) in
-        (w, freeze-rule-1 g (s .cache) q one .0 (sym (cache-decides w (idle (a 3))) ∙ e) .1)),
-    (λ (w, k). cache-decides w (idle-call k) ∙ freeze-rule-1 g (s .cache) q one .1 (form-limits w, k)),
-  )
-
   -- 25 exactly where all is in its form, upstream allows the Freeze, the disk carries rule 2 and a frozen place is set
   pub joined-25-iff : (asked d s 12 q o .answer ≡ 25) ↔ (InForm d s q × Allowed d (s .cache) 12 q × (s .disk .rule ≡ 2) × FrozenPlaceSet (cacheVars (s .cache)))
   joined-25-iff = (
@@ -129,4 +120,13 @@ module _ (d : ℕ) (s : State) (q : Call) (o : Records) where
         let x = freeze-25-iff g (s .cache) q .0 (sym (cache-decides w i) ∙ e) in
         (w, x .1, x .2, x .3)),
     (λ (w, k, two, u). cache-decides w (idle-call k) ∙ freeze-25-iff g (s .cache) q .1 (form-limits w, k, two, u)),
+  )
+
+  -- under rule 1 accepted exactly where all is in its form and upstream allows it
+  pub joined-freeze-rule-1 : s .disk .rule ≡ 1 → (asked d s 12 q o .answer ≡ 0) ↔ (InForm d s q × Allowed d (s .cache) 12 q)
+  joined-freeze-rule-1 one = (
+    (λ e. let a = answered-as d s (step 12 q o) .accepted .0 e in
+        let w = formed (a 1) in
+        (w, freeze-rule-1 g (s .cache) q one .0 (sym (cache-decides w (idle (a 3))) ∙ e) .1)),
+    (λ (w, k). cache-decides w (idle-call k) ∙ freeze-rule-1 g (s .cache) q one .1 (form-limits w, k)),
   )

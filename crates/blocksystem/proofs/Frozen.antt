@@ -1,4 +1,5 @@
--- Every joined call keeps the disk's rule; and under rule 2 a frozen place stays named until a clean-up or a start is accepted. Assumes nothing.
+-- Every joined call keeps the disk's rule. From the invariant, which any list keeps in which each accepted start is given a place then named:
+-- under rule 2 a frozen place stays named until a clean-up or a start is accepted.
 use Prim.Native.Nat.{ℕ}
 use mathlib.Core.Bool.{_||_, false, false≢true, true}
 use mathlib.Core.List.{List, [], _++_, _∷_}
@@ -22,7 +23,7 @@ use Rattle.blockdisk.specs.declared.Records.{Records}
 use Rattle.disklayout.specs.declared.Location.{Location}
 use Rattle.blocksystem.proofs.Accepting.{joined-zero}
 use Rattle.blocksystem.proofs.After.{run-cut, run-one, starts-cut}
-use Rattle.blocksystem.proofs.EveryStep.{second-same}
+use Rattle.blocksystem.proofs.EveryStep.{names-same}
 use Rattle.blocksystem.proofs.Freezing.{accepted-form, joined-25-iff}
 use Rattle.blocksystem.proofs.Invariant.{InPhase, Invariant, pictureMaps}
 use Rattle.blocksystem.proofs.Keep.{first-keeps, run-keeps}
@@ -67,7 +68,7 @@ module _ (d : ℕ) (s : State) (v : Invariant d s) (there : s .pictures .second 
       sym (r .frozen-place .place-is) ∙ rw there refl
 
   -- so no answer to its write is accepted
-  not-4 : Accepted 4 → ⊥
+  pub not-4 : Accepted 4 → ⊥
   unfolding stepOf steps
   not-4 e =
       let to = store-allowed g (s .cache) 4 q (joined-zero d 4 q o (s .cache) (s .disk) .0 e .0) in
@@ -89,7 +90,7 @@ module _ (d : ℕ) (s : State) (v : Invariant d s) (there : s .pictures .second 
   step-stays : (n : ℕ) → s .disk .rule ≡ 2 → Accepted n → (isCleanUp n || isStart n) ≡ false → picturesAfter n q (s .pictures) .second ≡ s .pictures .second
   step-stays n two e h =
       let b = or-iff (isCleanUp n) (isStart n) .0 h in
-      second-same n q (s .pictures) (λ x. not-4 (rw x at e)) (eqb-false n 10 (b .1)) (λ x. not-12 two (rw x at e)) (eqb-false n 13 (b .0))
+      names-same n q (s .pictures) (λ x. not-4 (rw x at e)) (eqb-false n 10 (b .1)) (λ x. not-12 two (rw x at e)) (eqb-false n 13 (b .0)) .1
 
 -- ANY CALL
 

@@ -7,7 +7,6 @@ use mathlib.Core.Path.{_∙_, _≡_, refl, subst, sym}
 use borrow.Author.Tests.{eqb-true}
 use Rattle.base.proofs.Tests.{and-iff, split}
 use Rattle.base.specs.Refusals.{answer}
-use Rattle.blockcache.proofs.Chooser.{choice-form, choice-vars}
 use Rattle.blockcache.proofs.Demand2.{store-allowed}
 use Rattle.blockcache.proofs.Kept.{cache-form-kept, inv-kept}
 use Rattle.blockcache.proofs.LetGo.{no-op-unawaited}
@@ -28,6 +27,7 @@ use Rattle.blockdisk.specs.Upstream.{diskVars, dopOf, Next}
 use Rattle.blockdisk.specs.declared.Records.{Records}
 use Rattle.blocksystem.proofs.After.{step-named-iff}
 use Rattle.blocksystem.proofs.Accepting.{crash-answer, crash-next, disk-answer, disk-next, joined-cache, joined-disk, joined-zero, survives}
+use Rattle.blocksystem.proofs.Choosing.{choice-keeps-form, choice-keeps-vars}
 use Rattle.blocksystem.proofs.EveryStep.{number-form, step-kept}
 use Rattle.blocksystem.proofs.Invariant.{Invariant, pictureMaps}
 use Rattle.blocksystem.proofs.KeepQueues.{keep-crash}
@@ -127,14 +127,13 @@ module _ (d : ℕ) (s : State) (n : ℕ) (q : Call) (o : Records) (v : Invariant
 
 choice-keeps : (d : ℕ) (s : State) → Invariant d s → Invariant d (afterChoice d s)
 choice-keeps d s v =
-    let g = settingsOf d (s .disk) in
     record {
       made-device = v .made-device;
-      cache-form = choice-form g (s .cache) (v .cache-form);
+      cache-form = choice-keeps-form d (s .cache) (s .disk) (v .cache-form);
       disk-form = v .disk-form;
       pictures-form = v .pictures-form;
       first-named = v .first-named;
-      whole = rw (choice-vars g (s .cache)) (v .whole);
+      whole = rw (choice-keeps-vars d (s .cache) (s .disk)) (v .whole);
     }
 
 -- ANY CALL

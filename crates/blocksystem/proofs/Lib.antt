@@ -2,6 +2,7 @@
 pub mod Accepting
 pub mod After
 pub mod Answering
+pub mod Choosing
 pub mod Counting
 pub mod Demand2
 pub mod Demand3
@@ -11,6 +12,7 @@ pub mod Formatted
 pub mod FormattedInit
 pub mod Freezing
 pub mod Frozen
+pub mod Graphs
 pub mod Invariant
 pub mod Keep
 pub mod KeepNodes
@@ -20,8 +22,11 @@ pub mod KeepTables
 pub mod KeepWrite
 pub mod Laws
 pub mod LetGo
+pub mod Naming
 pub mod NodeWait
 pub mod PictureForms
+pub mod Premises
+pub mod Preserved
 pub mod Restart
 pub mod Screen
 pub mod ScreenReads
@@ -29,5 +34,6 @@ pub mod ScreenReady
 pub mod Starting
 pub mod TableWait
 pub mod Tallies
+pub mod TwoNames
 pub mod WaitLaws
 pub mod Waits

@@ -6,7 +6,7 @@ use mathlib.Core.Option.{Option, some}
 use mathlib.Core.Path.{_∙_, _≡_, ap, refl, subst, sym}
 use native.Mathlib.Omega.{arith}
 use Rattle.base.proofs.Maps.{some-of}
-use Rattle.base.proofs.Tests.{and-iff, none-iff, or-cases, split}
+use Rattle.base.proofs.Tests.{none-iff, split}
 use Rattle.base.specs.Maps.{isSome}
 use Rattle.base.specs.Refusals.{holds}
 use Rattle.blockcache.specs.Ops.{vopLoc}
@@ -20,16 +20,15 @@ use Rattle.blockdisk.specs.declared.DiskOp.the-variants.{NoDiskOp, ReqReadIndir
 use Rattle.blockdisk.specs.declared.DiskOp.the-variants.{RespWriteIndirectionTableOp, RespWriteNodeOp}
 use Rattle.blockdisk.specs.declared.DiskState.{DiskState}
 use Rattle.disklayout.specs.declared.Location.{Location}
-use Rattle.disklayout.proofs.Facts.{same-loc-iff}
 use Rattle.sectortype.specs.Abstract.{nodesMap}
-use Rattle.disklayout.specs.Layout.{sameLoc}
 use Rattle.sectortype.specs.declared.Node.{Node}
 use Rattle.sectortype.specs.declared.Table.{Table}
 use Rattle.blocksystem.proofs.Answering.{answered-as}
 use Rattle.blocksystem.proofs.Invariant.{Invariant, KeptOn}
 use Rattle.blocksystem.proofs.Laws.{kept-keys}
+use Rattle.blocksystem.proofs.Naming.{is-named-iff}
 use Rattle.blocksystem.proofs.Starting.{wf-succs-iff}
-use Rattle.blocksystem.specs.Names.{isNamed, names}
+use Rattle.blocksystem.specs.Names.{isNamed}
 use Rattle.blocksystem.specs.Promise.{StartsWhole}
 use Rattle.blocksystem.specs.Run.{State, conditions, step}
 use Rattle.blocksystem.specs.Start.{WFSuccs as wholeGraph}
@@ -40,7 +39,7 @@ module _ (d : ℕ) (s : State) (v : Invariant d s) (l : Location) (pic : ℕ →
   nodes = diskVars d (s .disk) .nodes
 
   -- the graph read through the place is its picture
-  graph-pictured : (ref : ℕ) → DiskGraph (k .table) nodes ref ≡ pic ref
+  pub graph-pictured : (ref : ℕ) → DiskGraph (k .table) nodes ref ≡ pic ref
   unfolding DiskGraph
   graph-pictured ref =
       split (isSome (k .table .locs ref))
@@ -78,16 +77,14 @@ module _ (d : ℕ) (s : State) (v : Invariant d s) (l : Location) (pic : ℕ →
 -- a whole graph is stored at a named place ..
 pub named-whole : (d : ℕ) (s : State) → Invariant d s → (l : Location) → isNamed (s .pictures) l ≡ true → wholeGraph d (s .disk .records) l ≡ true
 named-whole d s v l h =
-    let f = disk-form-iff d (s .disk) .0 (v .disk-form) in
-    wf-succs-iff d (s .disk) f (s .cache) l .1
+    let (m, which, there, p) = is-named-iff (s .pictures) l .0 h in
+    wf-succs-iff d (s .disk) (disk-form-iff d (s .disk) .0 (v .disk-form)) (s .cache) l .1
     (⊎-elim
-    (λ a. let e = and-iff (s .pictures .first .present) (sameLoc (s .pictures .first .place) l) .0 a in
-    let p : s .pictures .first .place ≡ l = same-loc-iff (s .pictures .first .place) l .0 (e .1) in
-    rw p at (kept-succs d s v (s .pictures .first .place) (nodesMap (s .pictures .first .picture)) (v .whole .first)))
-    (λ a. let e = and-iff (s .pictures .second .present) (sameLoc (s .pictures .second .place) l) .0 a in
-    let p : s .pictures .second .place ≡ l = same-loc-iff (s .pictures .second .place) l .0 (e .1) in
-    kept-succs d s v l (nodesMap (s .pictures .second .picture)) (v .whole .second l (rw (e .0) (ap some p))))
-    (or-cases (names (s .pictures .first) l) (names (s .pictures .second) l) h))
+    (λ (i : m ≡ s .pictures .first).
+    rw (sym (ap (λ x. x .place) i) ∙ p) at (kept-succs d s v (s .pictures .first .place) (nodesMap (s .pictures .first .picture)) (v .whole .first)))
+    (λ (i : m ≡ s .pictures .second).
+    kept-succs d s v l (nodesMap (s .pictures .second .picture)) (v .whole .second l (rw (← i, there) (ap some p))))
+    which)
 
 -- .. so 20 is never given to a start there: no row of cache or disk has that number
 disk-never : (d : ℕ) (s : DiskState) (op : DiskOp) (n : Node) (t : Table) → holds 20 (opRows d s op n t) ≡ false

@@ -1,10 +1,20 @@
--- The chooser's call on cache and disk (document 02, Q-1): the cache is asked under the rule that the disk carries, and the disk stays.
+-- The chooser's call on cache and disk (document 02, Q-1): the cache is asked under the rule that the disk carries. The state of a joined
+-- call is cache and disk, so number 1 asks for the disk's written form too, as in a joined read; the disk stays as it is.
 use Prim.Native.Nat.{ℕ}
-use Rattle.blockcache.specs.Chooser.{chooser}
+use mathlib.Core.Bool.{_&&_, not}
+use mathlib.Core.List.{List, _∷_}
+use Rattle.base.specs.Refusals.{Row, _when_}
+use Rattle.blockcache.specs.Chooser.{blockRows, choiceBy}
+use Rattle.blockcache.specs.Form.{cacheForm, settingsForm}
 use Rattle.blockcache.specs.declared.CacheState.{CacheState}
 use Rattle.blockcache.specs.declared.Choice.{Choice}
+use Rattle.blockdisk.specs.Form.{diskForm}
 use Rattle.blockdisk.specs.declared.DiskState.{DiskState}
 use Rattle.blocksystem.specs.Joined.{settingsOf}
 
-abbrev pub joinedChoice : ℕ → CacheState → DiskState → Choice
-joinedChoice d c s = chooser (settingsOf d s) c
+module _ (d : ℕ) (c : CacheState) (s : DiskState) where
+  abbrev pub joinedChoiceRows : List Row
+  joinedChoiceRows = (1 when not (diskForm d s && settingsForm (settingsOf d s) && cacheForm d c)) ∷ blockRows (settingsOf d s) c
+
+  unfoldable pub joinedChoice : Choice
+  joinedChoice = choiceBy (settingsOf d s) c joinedChoiceRows

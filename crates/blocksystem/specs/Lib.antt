@@ -11,5 +11,6 @@ pub mod Promise
 pub mod Run
 pub mod Screen
 pub mod Start
+pub mod TwoNames
 pub mod Upstream
 pub mod Waits

@@ -13,6 +13,7 @@ use Rattle.blocksystem.specs.Names.{isNamed}
 use Rattle.blocksystem.specs.Run.{Answered, JoinedCall, State, after, asked, nothingLost}
 use Rattle.blocksystem.specs.Screen.{ReadyShown, readsDiffering}
 use Rattle.blocksystem.specs.Fairness.{Fairness, GivenUsable, LowestAfterLoad}
+use Rattle.blocksystem.specs.TwoNames.{TwoNames}
 use Rattle.blocksystem.specs.Waits.{NoWaitForEver}
 
 -- a start at a named place is never refused with 20: a whole graph is stored there
@@ -22,12 +23,14 @@ StartsWhole d s = (q : Call) (o : Records) → isNamed (s .pictures) (vopLoc (q 
 pub record Promised (d : ℕ) (s : State) (calls : List JoinedCall) : Type 0 where
   -- demand 3: each call is answered as documents 01 and 02 fix ..
   pub answered : Answered d s calls
-  -- .. and afterwards lost, added and altered are each 0 for a named place
+  -- .. and afterwards lost, added and altered are each 0 for each named place
   pub kept : nothingLost d (after d s calls)
   -- there is a named place ..
   pub named : after d s calls .pictures .first .present ≡ true
-  -- .. and 20 is never given to a start there
+  -- .. 20 is never given to a start there ..
   pub starts : StartsWhole d (after d s calls)
+  -- .. and step 4 has set no name over another
+  pub two-names : TwoNames d s calls
   -- the screen: no accepted read handed out another node than the working picture's ..
   pub reads : readsDiffering d s calls ≡ 0
   -- .. and in Ready it has exactly the allocated references; each is cached, or stored on the disk at its ephemeral location; the cache, if it has it, and that

@@ -7,7 +7,7 @@ use mathlib.Core.Path.{_≡_}
 use lib.Dec.{eqb}
 use Rattle.base.specs.Refusals.{Row, holds}
 use Rattle.base.specs.Scan.{countBelow}
-use Rattle.blockcache.specs.Chooser.{chooserRows, nextFit, isFree, marked, refusedChoice}
+use Rattle.blockcache.specs.Chooser.{nextFit, isFree, marked, refusedChoice}
 use Rattle.blockcache.specs.Form.{cacheForm, callForm}
 use Rattle.blockcache.specs.Next.{withLast}
 use Rattle.blockcache.specs.Ops.{vopLoc}
@@ -26,7 +26,7 @@ use Rattle.disklayout.specs.Device.{deviceOf}
 use Rattle.sectortype.specs.Form.{zeroNode}
 use Rattle.sectortype.specs.declared.Contents.{Contents}
 use Rattle.blocksystem.specs.Audit.{counted, noneCounted}
-use Rattle.blocksystem.specs.Choosing.{joinedChoice}
+use Rattle.blocksystem.specs.Choosing.{joinedChoice, joinedChoiceRows}
 use Rattle.blocksystem.specs.Format.{formatted}
 use Rattle.blocksystem.specs.Joined.{diskAsked, diskCall, joined, settingsOf, startRows}
 use Rattle.blocksystem.specs.Names.{firstPictures, isNamed, picturesAfter}
@@ -104,7 +104,7 @@ module _ (d : ℕ) where
   choice s = joinedChoice d (s .cache) (s .disk)
 
   abbrev pub choiceRows : State → List Row
-  choiceRows s = chooserRows (settingsOf d (s .disk)) (s .cache)
+  choiceRows s = joinedChoiceRows d (s .cache) (s .disk)
 
   -- no location of the three tables and no outstanding write has the block's address
   abbrev pub free : State → ℕ → Bool
@@ -166,7 +166,7 @@ module _ (d : ℕ) where
   startsNamed s [] = true
   startsNamed s (k ∷ ks) = startNamed s k && startsNamed (moved s k) ks
 
-  -- for a named place: lost, added and altered are each 0
+  -- for each named place: lost, added and altered are each 0
   abbrev pub nothingLost : State → Type 0
   nothingLost s =
       (s .pictures .first .present ≡ true → counted d (s .disk .records) (s .pictures .first) ≡ noneCounted)

@@ -47,7 +47,7 @@ pub(crate) fn awaits_table(a: Awaited, id: u64) -> bool
 }
 
 // The number where the condition holds, else what the later conditions give. A step with many conditions asks them all and puts them in
-// order by this, in a function of its own; one with one or two returns at the first that holds.
+// order by this, in a function of its own; one with one or two, and a page-in answer, returns at the first that holds.
 pub(crate) fn first_of(c: bool, n: u64, rest: u64) -> u64
     ensures { λ r. ⌜ r ≡ cond c n rest ⌝ }
 {

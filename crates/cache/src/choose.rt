@@ -10,7 +10,7 @@ use blockcache::CacheState;
 use blockcache::Choice;
 
 // Zeros, and the cache as it was.
-fn refused(c: CacheState, n: u64) -> Choice
+pub fn refused_choice(c: CacheState, n: u64) -> Choice
     ensures { λ r. ⌜ r ≡ refusedChoice n c ⌝ }
 {
     Choice {
@@ -30,23 +30,23 @@ impl Cache {
         let g = self.settings;
         let named = settings_form(g);
         if !named {
-            return refused(self.state, 1);
+            return refused_choice(self.state, 1);
         }
         let form = cache_form(g.device, self.state);
         if !form {
-            return refused(self.state, 1);
+            return refused_choice(self.state, 1);
         }
         let c = self.state;
         let phase = c.phase;
         let ready = is_ready(phase);
         if !ready {
-            return refused(self.state, 4);
+            return refused_choice(self.state, 4);
         }
         let b = c.blocks;
         let marks = b.marks;
         let free = bitmap::free_count(marks);
         if free == 0 {
-            return refused(self.state, 21);
+            return refused_choice(self.state, 21);
         }
         let block = bitmap::next_free(marks, b.last);
         let at = layout::node_block_addr(g.device, block);

@@ -23,5 +23,6 @@ pub struct Cache {
 }
 
 pub use answers::is_ready;
+pub use choose::refused_choice;
 pub use form::empty_cache;
 pub use ops::vop_loc;

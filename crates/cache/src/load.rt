@@ -12,7 +12,6 @@ use crate::ops::dop_brought;
 use crate::ops::dop_id;
 use crate::ops::dop_loc;
 use crate::ops::vop_loc;
-use crate::scan::table_rejected;
 use blockcache::Awaited;
 use blockcache::Blocks;
 use blockcache::CacheOutcome;
@@ -20,6 +19,7 @@ use blockcache::CacheState;
 use blockcache::Call;
 use blockcache::Phase;
 use blockcache::Tables;
+use blockdisk::Brought;
 use layout::TABLE_KIND;
 use sectortype::Table;
 
@@ -77,6 +77,7 @@ impl Cache {
         answered(c, 0)
     }
 
+    // 9: nothing brought, a table not complete and well formed, or two references at one address.
     pub(crate) fn page_in_indirection_table_resp(self, q: Call) -> CacheOutcome
         ensures { λ o. ⌜ o ≡ pastGate (self .settings) (self .state) q pageInIndirectionTableRespStep ⌝ }
     {
@@ -89,9 +90,13 @@ impl Cache {
         if !awaits {
             return answered(c, 5);
         }
+        let Brought::Something = b else {
+            return answered(c, 9);
+        };
         let t = q.table;
-        let rejected = table_rejected(b, self.settings.device, t);
-        if rejected {
+        let complete = sector::wf_complete_indirection_table(self.settings.device, t);
+        let distinct = sector::distinct_addrs(t);
+        if !complete | !distinct {
             return answered(c, 9);
         }
         let next = loaded(c, t);

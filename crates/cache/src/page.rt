@@ -11,10 +11,10 @@ use crate::answers::first_of;
 use crate::ops::dop_brought;
 use crate::ops::dop_id;
 use crate::ops::dop_loc;
-use crate::scan::node_rejected;
 use crate::scan::reads_of;
 use blockcache::CacheOutcome;
 use blockcache::Call;
+use blockdisk::Brought;
 use queue::Request;
 use sectortype::Slot;
 
@@ -80,6 +80,8 @@ impl Cache {
         answered(c, 0)
     }
 
+    // Returned at the first that holds, so 9 is asked only where the id is awaited, and its reference allocated and not cached: nothing
+    // brought, or successors that differ from the graph's as sets.
     fn page_in_node_resp_refusal(self, q: Call) -> u64
         requires { ⌜ readRef (self .settings) (self .state) q < 64 ⌝ }
         ensures { λ n. ⌜ n ≡ answer (ownRows (self .settings) (self .state) q pageInNodeRespStep) ⌝ }
@@ -91,6 +93,9 @@ impl Cache {
         let o = c.outstanding;
         let w = o.reads;
         let known = queue::has(w, id);
+        if !known {
+            return 5;
+        }
         let x = queue::entry(w, id);
         let k = index(x.reference);
         let ts = c.tables;
@@ -98,11 +103,20 @@ impl Cache {
         let e = t.entries[k];
         let m = c.nodes;
         let slot = m.slots[k];
+        if slot.present | !e.allocated {
+            return 8;
+        }
+        let Brought::Something = b else {
+            return 9;
+        };
         let given = q.node;
-        let rejected = node_rejected(b, known, e, given);
-        let n9 = first_of(rejected, 9, 0);
-        let n8 = first_of(known & (slot.present | !e.allocated), 8, n9);
-        first_of(!known, 5, n8)
+        let wanted = e.succs;
+        let brought = given.succs;
+        let same = sector::same_set(wanted, brought);
+        if !same {
+            return 9;
+        }
+        0
     }
 
     pub(crate) fn page_in_node_resp(self, q: Call) -> CacheOutcome

@@ -1,13 +1,10 @@
 // Questions about the whole cache that a step's refusals ask.
 ghost use mathlib.Core.Path.{_≡_};
 ghost use Prim.Native.Nat.{_<_};
-ghost use Rattle.blockcache.specs.Scan.{reads, writesTo, namesAt, hasPredecessor, heldIn, needsCached, nodeRejected, tableRejected};
+ghost use Rattle.blockcache.specs.Scan.{reads, writesTo, namesAt, hasPredecessor, heldIn, needsCached};
 use blockcache::Tables;
-use blockdisk::Brought;
 use disklayout::Location;
 use queue::Requests;
-use sectortype::Entry;
-use sectortype::Node;
 use sectortype::Table;
 
 // Whether a read of this reference is outstanding.
@@ -105,29 +102,4 @@ pub(crate) fn needs_cached(ts: Tables, r: usize) -> bool
     let f = ts.frozen;
     let e = f.entries[r];
     ts.isfrozen & e.allocated & !e.located
-}
-
-// 9 of a node's page-in: nothing brought, or its successors differ from the graph's as sets, where the id is awaited and the reference allocated.
-pub(crate) fn node_rejected(b: Brought, known: bool, e: Entry, n: Node) -> bool
-    ensures { λ r. ⌜ r ≡ nodeRejected b known e n ⌝ }
-{
-    let s = e.succs;
-    let t = n.succs;
-    let same = sector::same_set(s, t);
-    let Brought::Something = b else {
-        return true;
-    };
-    known & e.allocated & !same
-}
-
-// 9 of a table's page-in: nothing brought, not complete and well formed, or two references at one address.
-pub(crate) fn table_rejected(b: Brought, device: u64, t: Table) -> bool
-    ensures { λ r. ⌜ r ≡ tableRejected b device t ⌝ }
-{
-    let complete = sector::wf_complete_indirection_table(device, t);
-    let distinct = sector::distinct_addrs(t);
-    let Brought::Something = b else {
-        return true;
-    };
-    !complete | !distinct
 }

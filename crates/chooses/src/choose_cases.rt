@@ -2,6 +2,7 @@
 // 262144 + k * 65536.
 use blockcache::Awaited;
 use blockcache::CacheState;
+use blockdisk::DiskState;
 use fixtures::AREA2;
 use fixtures::BLOCK2;
 use fixtures::RULE_1;
@@ -25,11 +26,8 @@ use fixtures::with_writes;
 use sectortype::Entry;
 use system::Store;
 
-// The store's chooser. The disk carries the rule, and is otherwise not asked.
-fn asked(name: &[u8], device: u64, rule: u64, c: CacheState) -> CacheState {
-    let none = disk::empty_records();
-    let mut disk = storing(none);
-    disk.rule = rule;
+// The store's chooser, on this disk.
+pub(crate) fn asked_with(name: &[u8], device: u64, c: CacheState, disk: DiskState) -> CacheState {
     let r = Store {
         device,
         cache: c,
@@ -43,6 +41,14 @@ fn asked(name: &[u8], device: u64, rule: u64, c: CacheState) -> CacheState {
     after
 }
 
+// On a disk that stores nothing and carries this rule.
+fn asked(name: &[u8], device: u64, rule: u64, c: CacheState) -> CacheState {
+    let none = disk::empty_records();
+    let mut disk = storing(none);
+    disk.rule = rule;
+    asked_with(name, device, c, disk)
+}
+
 // On device 0, with this block given last.
 fn chosen(name: &[u8], c: CacheState, last: u64) -> CacheState {
     let d = with_last(c, last);
@@ -50,7 +56,7 @@ fn chosen(name: &[u8], c: CacheState, last: u64) -> CacheState {
 }
 
 // All 128 blocks: the persistent table's 64 references in blocks 0 to 63, the ephemeral table's in 64 to 127.
-fn full() -> CacheState {
+pub(crate) fn full() -> CacheState {
     let c = ready();
     let low = table_of(0, 64);
     let high = table_of(64, 128);

@@ -3,9 +3,11 @@
 // `case=NAME answer=N low=X high=Y last=L` for a step on the cache alone, with the two words of the marks that it leaves. (`forms` has the marks that
 // are refused.)
 mod choose_cases;
+mod disk_cases;
 mod step_cases;
 
 fn main() {
     choose_cases::run();
+    disk_cases::run();
     step_cases::run();
 }

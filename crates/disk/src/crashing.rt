@@ -2,8 +2,6 @@
 ghost use mathlib.Core.Path.{_≡_};
 ghost use Rattle.blockdisk.specs.Crash.{sameTableRecord, sameNodeRecord, keptTable, keptNode, tablesKept, nodesKept, recordsKept, emptyQueues, diskCrash};
 use crate::Disk;
-use crate::form::is_rule;
-use crate::form::queues_ok;
 use crate::form::records_ok;
 use blockdisk::DiskOutcome;
 use blockdisk::NodeRecord;
@@ -120,11 +118,7 @@ impl Disk {
         let mut s = self.state;
         let old = s.records;
         let queues = s.queues;
-        let stored = records_ok(self.device, old);
-        let waiting = queues_ok(self.device, queues);
-        let ruled = is_rule(s.rule);
-        let known = self.device <= 2;
-        let form = known & ruled & stored.form & stored.placed & waiting;
+        let form = self.well_formed();
         let c = records_ok(self.device, offered);
         let good = form & c.form;
         if !good {

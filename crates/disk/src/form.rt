@@ -7,7 +7,9 @@ ghost use Rattle.disklayout.specs.Blocks.{TablePlaceIn};
 ghost use Rattle.disklayout.specs.Calls.{flag, runningOn};
 ghost use Rattle.disklayout.specs.Device.{deviceOf};
 ghost use Rattle.sectortype.specs.Form.{locZero};
-ghost use Rattle.blockdisk.specs.Form.{nodeRecordChecked, tablesChecked, nodesChecked, recordsChecked, isRule, tableAllowed, tableRequestOk, nodeRequestOk, tableQueueForm, nodeQueueForm, queuesForm};
+ghost use Rattle.blockdisk.specs.Form.{diskForm, nodeRecordChecked, tablesChecked, nodesChecked, recordsChecked, isRule};
+ghost use Rattle.blockdisk.specs.Form.{tableAllowed, tableRequestOk, nodeRequestOk, tableQueueForm, nodeQueueForm, queuesForm};
+use crate::Disk;
 use blockdisk::Checked;
 use blockdisk::NodeRecord;
 use blockdisk::Queues;
@@ -200,4 +202,20 @@ pub(crate) fn queues_ok(device: u64, qs: Queues) -> bool
     let r = table_queue_ok(device, c);
     let s = node_queue_ok(device, d);
     p & q & r & s
+}
+
+impl Disk {
+    // Whether the disk is in its written form: number 1's question, for a call that asks the disk nothing else, and for a crash. `next`
+    // asks it of the disk's parts itself, as a call that takes the whole disk copies it.
+    pub fn well_formed(self) -> bool
+        ensures { λ b. ⌜ b ≡ diskForm (self .device) (self .state) ⌝ }
+    {
+        let s = self.state;
+        let records = s.records;
+        let queues = s.queues;
+        let stored = records_ok(self.device, records);
+        let waiting = queues_ok(self.device, queues);
+        let ruled = is_rule(s.rule);
+        (self.device <= 2) & ruled & stored.form & stored.placed & waiting
+    }
 }

@@ -64,7 +64,7 @@ pub fn table_at(device: u64, r: Records, loc: Location) -> TableRecord
 pub fn node_at(device: u64, r: Records, loc: Location) -> NodeRecord
     ensures { λ x. ⌜ x ≡ readNode device r loc ⌝ }
 {
-    let block = layout::node_block_of(device, loc.addr);
+    let block = layout::node_block_by_walk(device, loc.addr);
     let k = (block.value % 128) as usize;
     let x = r.nodes[k];
     let at = x.loc;
@@ -97,7 +97,7 @@ pub(crate) fn with_table(device: u64, r: Records, loc: Location, table: Table) -
 pub(crate) fn with_node(device: u64, r: Records, loc: Location, node: Node) -> Records
     ensures { λ x. ⌜ x ≡ withNode device r loc node ⌝ }
 {
-    let block = layout::node_block_of(device, loc.addr);
+    let block = layout::node_block_by_walk(device, loc.addr);
     let k = (block.value % 128) as usize;
     let mut nodes = r.nodes;
     let x = NodeRecord {

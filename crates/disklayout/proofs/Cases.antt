@@ -1,16 +1,17 @@
--- The starred cases of document 01's "Device 0 at its edges", JournalPosAdd at the edge of 64 bits, and what a place is: shown from the
--- definitions by one statement over one list. Then 01's line for each device, as `placemap` prints it. Assumes nothing.
+-- The starred cases of document 01's "Device 0 at its edges", JournalPosAdd at the edge of 64 bits, what a place is, and which block has
+-- an address: shown from the definitions by one statement over one list. Then 01's line for each device, as `placemap` prints it. Assumes
+-- nothing.
 use mathlib.Core.Path.{_≡_, refl}
 use mathlib.Core.Bool.{Bool, true, false}
 use mathlib.Core.List.{List, [], _∷_, map}
-use mathlib.Core.Option.{Option, some}
+use mathlib.Core.Option.{Option, some, none}
 use Prim.Native.Nat.{ℕ, _^_}
 use lib.Dec.{ltb}
 use Rattle.disklayout.specs.declared.Device.{Device}
 use Rattle.disklayout.specs.declared.Location.{Location}
 use Rattle.disklayout.specs.Calls.{numberIf, placeKind}
 use Rattle.disklayout.specs.Device.{deviceOf, devices}
-use Rattle.disklayout.specs.Blocks.{FirstNodeAddr, NodeBlocksEnd}
+use Rattle.disklayout.specs.Blocks.{FirstNodeAddr, NodeBlocksEnd, NodeBlockOf}
 use Rattle.disklayout.specs.Layout.{IndirectionTable1Addr, IndirectionTable2Addr, JournalEndAddr, JournalStartAddr, ValidIndirectionTableAddr, ValidIndirectionTableLocation, ValidNodeAddr}
 use Rattle.disklayout.specs.Layout.{ValidNodeLocation, ValidJournalLocation, ValidSuperblock1Location, ValidSuperblock2Location, overlap}
 use Rattle.disklayout.specs.Kinds.{kindOf, kindNumber}
@@ -29,10 +30,12 @@ pub data Case : Type 0 where
   back : ℕ → ℕ → Case
   pos-add : ℕ → ℕ → Case
   kind-on : ℕ → Location → Case
+  block-on : ℕ → ℕ → Case
 
 pub data Answer : Type 0 where
   says : Bool → Answer
   at : Option Location → Answer
+  block : Option ℕ → Answer
   returns : ℕ → ℕ → Answer
 
 pub ask : Case → Answer
@@ -44,6 +47,7 @@ ask (front s n) = at (JournalFrontLocation (deviceOf 0) s n)
 ask (back s n) = at (JournalBackLocation (deviceOf 0) s n)
 ask (pos-add s n) = let r = numberIf 0 (ltb (JournalPosAdd (deviceOf 0) s n) (2 ^ 64)) (JournalPosAdd (deviceOf 0) s n) in returns (r .answer) (r .value)
 ask (kind-on d l) = let r = placeKind d (kindOf (deviceOf d) l) in returns (r .answer) (kindNumber (r .kind))
+ask (block-on d a) = block (NodeBlockOf (deviceOf d) a)
 
 infix 40 _gives_
 pub data Edge : Type 0 where
@@ -109,11 +113,24 @@ edges =
     (kind-on 2 (loc 4190208 4096) gives returns 0 0) ∷
     (kind-on 3 (loc 0 4096) gives returns 1 0) ∷
     (kind-on 3 (loc 262144 4096) gives returns 1 0) ∷
+    -- the first block and the last on each device, the address at their end, which no block has, and that of the block before the first
+    (block-on 0 196608 gives block none) ∷
+    (block-on 0 262144 gives block (some 0)) ∷
+    (block-on 0 8585216 gives block (some 127)) ∷
+    (block-on 0 8650752 gives block none) ∷
+    (block-on 1 786432 gives block none) ∷
+    (block-on 1 917504 gives block (some 0)) ∷
+    (block-on 1 17563648 gives block (some 127)) ∷
+    (block-on 1 17694720 gives block none) ∷
+    (block-on 2 3145728 gives block none) ∷
+    (block-on 2 4194304 gives block (some 0)) ∷
+    (block-on 2 137363456 gives block (some 127)) ∷
+    (block-on 2 138412032 gives block none) ∷
     []
 
 -- one name for the definitions that the list is about
 definitions : ℕ
-unfolding ValidIndirectionTableAddr ValidIndirectionTableLocation ValidNodeAddr ValidNodeLocation ValidJournalLocation ValidSuperblock1Location ValidSuperblock2Location overlap kindOf kindNumber
+unfolding ValidIndirectionTableAddr ValidIndirectionTableLocation ValidNodeAddr ValidNodeLocation ValidJournalLocation ValidSuperblock1Location ValidSuperblock2Location overlap kindOf kindNumber NodeBlockOf
 definitions = 0
 
 pub edges-shown : map asked edges ≡ map expected edges

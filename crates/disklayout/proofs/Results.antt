@@ -1,8 +1,8 @@
 -- What a result says where the device is made, and where it is not. Assumes nothing.
-use mathlib.Core.Path.{_≡_}
-use mathlib.Core.Bool.{Bool, true, false}
+use mathlib.Core.Path.{_≡_, refl}
+use mathlib.Core.Bool.{Bool, true, false, cond}
 use mathlib.Core.Logic.{_↔_}
-use mathlib.Core.Option.{Option}
+use mathlib.Core.Option.{Option, none}
 use Prim.Native.Nat.{ℕ, _≤_}
 use borrow.Author.Tests.{leb-true, le-leb}
 use Rattle.base.specs.Maps.{isSome}
@@ -10,11 +10,16 @@ use Rattle.base.proofs.Tests.{and-iff}
 use Rattle.disklayout.specs.declared.Kind.{Kind}
 use Rattle.disklayout.specs.declared.Kind.the-variants.{None}
 use Rattle.disklayout.specs.declared.Location.{Location}
-use Rattle.disklayout.specs.Calls.{number, flag, place, placeKind, numberOption, orZero, zeroLoc}
+use Rattle.disklayout.specs.Calls.{number, flag, place, placeKind, numberOption, numberOptionWhen, orZero, zeroLoc}
 use Rattle.disklayout.specs.Device.{made}
 
 pub made-iff : (d : ℕ) → (made d ≡ true) ↔ (d ≤ 2)
 made-iff d = (leb-true d 2, le-leb d 2)
+
+-- an option that is handed on where ok holds
+pub option-handed : (ok : Bool) (o : Option ℕ) → cond ok (numberOptionWhen true o) (numberOptionWhen false none) ≡ numberOptionWhen ok o
+option-handed true o = refl
+option-handed false o = refl
 
 module _ (d : ℕ) where
   -- a question passes where the device is made and the answer is yes

@@ -1,14 +1,24 @@
 // The forms of a result: 0 with the result where ok holds, else 1 with zeros, or with the kind none.
 ghost use mathlib.Core.Path.{_≡_};
-ghost use Rattle.disklayout.specs.Calls.{numberWhen, flagWhen, placeWhen, placeKindWhen};
+ghost use mathlib.Core.Bool.{true, false, cond};
+ghost use mathlib.Core.Option.{some, none};
+ghost use Rattle.disklayout.specs.Calls.{numberWhen, flagWhen, placeWhen, numberOptionWhen, placeKindWhen};
 use disklayout::Flag;
 use disklayout::Kind;
 use disklayout::Location;
 use disklayout::Number;
+use disklayout::NumberOption;
 use disklayout::Place;
 use disklayout::PlaceKind;
 
 pub(crate) const NOWHERE: Location = Location { addr: 0, len: 0 };
+
+// What a finder gives on a row: no number, or one (`found`).
+pub(crate) const NO_NUMBER: NumberOption = NumberOption {
+    answer: 0,
+    exists: false,
+    value: 0,
+};
 
 pub(crate) fn number_when(ok: bool, value: u64) -> Number
     ensures { λ r. ⌜ r ≡ numberWhen ok value ⌝ }
@@ -58,6 +68,31 @@ pub(crate) fn kind_when(ok: bool, kind: Kind) -> PlaceKind
         PlaceKind {
             answer: 1,
             kind: Kind::None,
+        }
+    }
+}
+
+pub(crate) fn found(value: u64) -> NumberOption
+    ensures { λ r. ⌜ r ≡ numberOptionWhen true (some value) ⌝ }
+{
+    NumberOption {
+        answer: 0,
+        exists: true,
+        value,
+    }
+}
+
+// The result is what a finder has answered on the device's row, a number or none.
+pub(crate) fn number_option_when(ok: bool, answered: NumberOption) -> NumberOption
+    ensures { λ r. ⌜ r ≡ cond ok answered (numberOptionWhen false none) ⌝ }
+{
+    if ok {
+        answered
+    } else {
+        NumberOption {
+            answer: 1,
+            exists: false,
+            value: 0,
         }
     }
 }

@@ -1,13 +1,16 @@
 // Document 01's node blocks and table areas: the arithmetic over any good row, and the calls.
 ghost use mathlib.Core.Path.{_≡_};
 ghost use mathlib.Core.Bool.{true};
-ghost use Prim.Native.Nat.{_<_};
+ghost use Prim.Native.Nat.{_+_, _^_, _<_};
 ghost use lib.Dec.{ltb};
 ghost use Rattle.disklayout.specs.Calls.{number, numberIf, numberOptionWhen, numberOption, flag};
 ghost use Rattle.disklayout.specs.Device.{Good, deviceOf};
 ghost use Rattle.disklayout.specs.Blocks.{FirstNodeAddr, NodeBlockAddr, NodeBlocksEnd, NodeBlockOf};
 ghost use Rattle.disklayout.specs.Blocks.{TableAreaAddr, TableAreaOf, NodePlaceLength, TablePlaceIn, NodePlace};
+use crate::answers::NO_NUMBER;
 use crate::answers::flag_when;
+use crate::answers::found;
+use crate::answers::number_option_when;
 use crate::answers::number_when;
 use crate::areas::first_node;
 use crate::areas::is_node_addr;
@@ -44,9 +47,17 @@ fn area_addr(w: Device, k: u64) -> u64
     table1(w) + k * w.table
 }
 
+// A running address, a block further.
+fn next_addr(w: Device, at: u64) -> u64
+    requires { ⌜ at + w .block < 2 ^ 64 ⌝ }
+    ensures { λ r. ⌜ r ≡ at + w .block ⌝ }
+{
+    at + w.block
+}
+
 // The walk from block 0 keeps a running address: the first node address, and a block's size more at each try. It is left at the block found, or
 // once the running address is past the one asked for. At a try no product and no quotient is taken (document 02, Q-4).
-fn block_of(w: Device, addr: u64) -> NumberOption
+fn walk_to_block(w: Device, addr: u64) -> NumberOption
     requires { ⌜ Good w ⌝ }
     ensures { λ r. ⌜ r ≡ numberOptionWhen true (NodeBlockOf w addr) ⌝ }
 {
@@ -57,25 +68,18 @@ fn block_of(w: Device, addr: u64) -> NumberOption
             if addr < at {
                 break;
             }
-            return NumberOption {
-                answer: 0,
-                exists: true,
-                value: k,
-            };
+            return found(k);
         }
-        at += w.block;
+        at = next_addr(w, at);
         k += 1;
     }
-    NumberOption {
-        answer: 0,
-        exists: false,
-        value: 0,
-    }
+    NO_NUMBER
 }
 
-// The same by one quotient, where no block is looked for: the marks ask it of every location in three tables at each call (document 02, Q-1), and a
-// walk for each would cost more than the rest of the call.
-fn index_of(w: Device, addr: u64) -> NumberOption
+// The same with no walk: the test of the address takes a product, first node block times block size, and a remainder; where it passes, a
+// quotient gives the number. The marks ask it of every location in three tables at each call (document 02, Q-1), and a walk for each would
+// cost more than the rest of the call.
+fn block_by_division(w: Device, addr: u64) -> NumberOption
     requires { ⌜ Good w ⌝ }
     ensures { λ r. ⌜ r ≡ numberOptionWhen true (NodeBlockOf w addr) ⌝ }
 {
@@ -83,18 +87,10 @@ fn index_of(w: Device, addr: u64) -> NumberOption
     if valid {
         let k = addr / w.block - w.first;
         if k < BLOCKS {
-            return NumberOption {
-                answer: 0,
-                exists: true,
-                value: k,
-            };
+            return found(k);
         }
     }
-    NumberOption {
-        answer: 0,
-        exists: false,
-        value: 0,
-    }
+    NO_NUMBER
 }
 
 fn area_of(w: Device, addr: u64) -> NumberOption
@@ -103,25 +99,13 @@ fn area_of(w: Device, addr: u64) -> NumberOption
 {
     let one = table1(w);
     if addr == one {
-        return NumberOption {
-            answer: 0,
-            exists: true,
-            value: 0,
-        };
+        return found(0);
     }
     let two = table2(w);
     if addr == two {
-        return NumberOption {
-            answer: 0,
-            exists: true,
-            value: 1,
-        };
+        return found(1);
     }
-    NumberOption {
-        answer: 0,
-        exists: false,
-        value: 0,
-    }
+    NO_NUMBER
 }
 
 // For a walk over the blocks, which has the address of each.
@@ -186,49 +170,31 @@ pub fn node_block_addr(device: u64, k: u64) -> Number
     }
 }
 
-pub fn node_block_of(device: u64, addr: u64) -> NumberOption
+// The number of the block that has the address, or none: two calls with one contract. This one walks, and multiplies at no try (document
+// 02, Q-4): for whoever looks for one block, as the disk does.
+pub fn node_block_by_walk(device: u64, addr: u64) -> NumberOption
     ensures { λ r. ⌜ r ≡ numberOption device (NodeBlockOf (deviceOf device) addr) ⌝ }
 {
     let w = row(device);
-    let ok = device <= 2;
-    if ok {
-        return block_of(w, addr);
-    }
-    NumberOption {
-        answer: 1,
-        exists: false,
-        value: 0,
-    }
+    let answered = walk_to_block(w, addr);
+    number_option_when(device <= 2, answered)
 }
 
-pub fn node_block_index(device: u64, addr: u64) -> NumberOption
+// This one divides: for whoever asks of one location after another, as the marks do (document 02, Q-1).
+pub fn node_block_by_division(device: u64, addr: u64) -> NumberOption
     ensures { λ r. ⌜ r ≡ numberOption device (NodeBlockOf (deviceOf device) addr) ⌝ }
 {
     let w = row(device);
-    let ok = device <= 2;
-    if ok {
-        return index_of(w, addr);
-    }
-    NumberOption {
-        answer: 1,
-        exists: false,
-        value: 0,
-    }
+    let answered = block_by_division(w, addr);
+    number_option_when(device <= 2, answered)
 }
 
 pub fn table_area_of(device: u64, addr: u64) -> NumberOption
     ensures { λ r. ⌜ r ≡ numberOption device (TableAreaOf (deviceOf device) addr) ⌝ }
 {
     let w = row(device);
-    let ok = device <= 2;
-    if ok {
-        return area_of(w, addr);
-    }
-    NumberOption {
-        answer: 1,
-        exists: false,
-        value: 0,
-    }
+    let answered = area_of(w, addr);
+    number_option_when(device <= 2, answered)
 }
 
 pub fn node_place_length(device: u64, len: u64) -> Flag

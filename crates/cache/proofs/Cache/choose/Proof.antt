@@ -14,32 +14,32 @@ use Rattle.cache.proofs.Cache.choose.Tie as tie
 settings-form-requires : tie.Need-settings-form-requires
 settings-form-requires c κs = search needs
 
-refused-requires : tie.Need-refused-requires
-refused-requires c κs = search needs
+refused-choice-requires : tie.Need-refused-choice-requires
+refused-choice-requires c κs = search needs
 
 returns : tie.Need-returns
 returns c =
     let n = c .before .before in
     let a = n .before .before .args in
-    c .refused .ensures ∙ sym (choice-unnamed (a .self .settings) (a .self .state) (sym (n .settings-form .ensures) ∙ not-true-iff _ .0 (c .before .if1 .taken)))
+    c .refused-choice .ensures ∙ sym (choice-unnamed (a .self .settings) (a .self .state) (sym (n .settings-form .ensures) ∙ not-true-iff _ .0 (c .before .if1 .taken)))
 
 cache-form-requires : tie.Need-cache-form-requires
 cache-form-requires c κs = and-left _ _ (sym (c .before .settings-form .ensures) ∙ not-iff _ .0 (c .if1 .left))
 
-refused-requires-2 : tie.Need-refused-requires-2
-refused-requires-2 c κs = search needs
+refused-choice-requires-2 : tie.Need-refused-choice-requires-2
+refused-choice-requires-2 c κs = search needs
 
 returns-2 : tie.Need-returns-2
 returns-2 c =
     let f = c .before .before in
     let a = f .before .before .before .before .args in
-    c .refused2 .ensures ∙ sym (choice-unformed (a .self .settings) (a .self .state) (sym (f .cache-form .ensures) ∙ not-true-iff _ .0 (c .before .if2 .taken)))
+    c .refused-choice2 .ensures ∙ sym (choice-unformed (a .self .settings) (a .self .state) (sym (f .cache-form .ensures) ∙ not-true-iff _ .0 (c .before .if2 .taken)))
 
 is-ready-requires : tie.Need-is-ready-requires
 is-ready-requires c κs = search needs
 
-refused-requires-3 : tie.Need-refused-requires-3
-refused-requires-3 c κs = search needs
+refused-choice-requires-3 : tie.Need-refused-choice-requires-3
+refused-choice-requires-3 c κs = search needs
 
 returns-3 : tie.Need-returns-3
 returns-3 c =
@@ -48,14 +48,14 @@ returns-3 c =
     let f = t .before in
     let n = f .before .before in
     let a = n .before .before .args in
-    c .refused3 .ensures ∙ sym (choice-unready (a .self .settings) (a .self .state) (sym (n .settings-form .ensures) ∙ not-iff _ .0 (f .before .if1 .left))
+    c .refused-choice3 .ensures ∙ sym (choice-unready (a .self .settings) (a .self .state) (sym (n .settings-form .ensures) ∙ not-iff _ .0 (f .before .if1 .left))
     (sym (f .cache-form .ensures) ∙ not-iff _ .0 (t .if2 .left)) (sym (r .is-ready .ensures) ∙ not-true-iff _ .0 (c .before .if3 .taken)))
 
 free-count-requires : tie.Need-free-count-requires
 free-count-requires c κs = search needs
 
-refused-requires-4 : tie.Need-refused-requires-4
-refused-requires-4 c κs = search needs
+refused-choice-requires-4 : tie.Need-refused-choice-requires-4
+refused-choice-requires-4 c κs = search needs
 
 returns-4 : tie.Need-returns-4
 returns-4 c =
@@ -66,7 +66,7 @@ returns-4 c =
     let f = t .before in
     let n = f .before .before in
     let a = n .before .before .args in
-    c .refused4 .ensures ∙ none-free (a .self .settings) (a .self .state) (sym (n .settings-form .ensures) ∙ not-iff _ .0 (f .before .if1 .left))
+    c .refused-choice4 .ensures ∙ none-free (a .self .settings) (a .self .state) (sym (n .settings-form .ensures) ∙ not-iff _ .0 (f .before .if1 .left))
     (sym (f .cache-form .ensures) ∙ not-iff _ .0 (t .if2 .left)) (sym (r .is-ready .ensures) ∙ not-iff _ .0 (x .if3 .left))
     (sym (u .free-count .ensures) ∙ c .before .if4 .taken)
 
@@ -102,16 +102,16 @@ choose-spec =
     tie.close
     (tie.spec
     settings-form-requires
-    refused-requires
+    refused-choice-requires
     returns
     cache-form-requires
-    refused-requires-2
+    refused-choice-requires-2
     returns-2
     is-ready-requires
-    refused-requires-3
+    refused-choice-requires-3
     returns-3
     free-count-requires
-    refused-requires-4
+    refused-choice-requires-4
     returns-4
     next-free-requires
     node-block-addr-requires

@@ -4,8 +4,8 @@ use Rattle.blockdisk.proofs.Numbers.{node-set}
 use Rattle.disk.proofs.read.with_node.Statement.{statement}
 use Rattle.disk.proofs.read.with_node.Tie as tie
 
-node-block-of-requires : tie.Need-node-block-of-requires
-node-block-of-requires c κs = search needs
+node-block-by-walk-requires : tie.Need-node-block-by-walk-requires
+node-block-by-walk-requires c κs = search needs
 
 mul-nodes : tie.Need-mul-nodes
 mul-nodes c = search needs
@@ -17,7 +17,7 @@ returns : tie.Need-returns
 returns c =
     let n = c .before .before .before in
     let a = n .before .args in
-    node-set (a .device) (a .r) (a .loc) (n .node-block-of .result) (a .node) (n .node-block-of .ensures)
+    node-set (a .device) (a .r) (a .loc) (n .node-block-by-walk .result) (a .node) (n .node-block-by-walk .ensures)
 
 pub with-node-spec : {M : Type 1} → statement M
-with-node-spec = tie.close (tie.spec node-block-of-requires mul-nodes array-set-from-nodes returns)
+with-node-spec = tie.close (tie.spec node-block-by-walk-requires mul-nodes array-set-from-nodes returns)

@@ -1,5 +1,7 @@
 -- By the address first, then by what the callees ensure. Assumes nothing.
 use mathlib.Core.Path.{sym, _∙_}
+use native.Mathlib.Omega.{arith}
+use Rattle.disklayout.specs.Kinds.{kindOf}
 use Rattle.disklayout.specs.Layout.{ValidSuperblock1Location, ValidSuperblock2Location, ValidNodeLocation}
 use Rattle.disklayout.proofs.PlaceKinds.{kind-low, kind-high, kind-at-node, kind-between}
 use borrow.Author.Needs.{needs}
@@ -10,23 +12,18 @@ same-loc-requires : tie.Need-same-loc-requires
 same-loc-requires c κs = search needs
 
 returns : tie.Need-returns
-unfolding ValidSuperblock1Location ValidSuperblock2Location
-returns c =
-    let c1 = c .before in
-    let c2 = c1 .before in
-    rw (kind-low _ (c2 .before .before .pre) (c2 .before .before .args .loc) (c2 .if1 .taken), sym (c1 .same-loc .ensures) ∙ c .if2 .taken)
+unfolding ValidSuperblock1Location kindOf
+returns c = rw (sym (c .before .same-loc .ensures) ∙ c .if2 .taken)
 
 same-loc-requires-2 : tie.Need-same-loc-requires-2
 same-loc-requires-2 c κs = search needs
 
 returns-2 : tie.Need-returns-2
-unfolding ValidSuperblock1Location ValidSuperblock2Location
+unfolding ValidSuperblock1Location ValidSuperblock2Location kindOf
 returns-2 c =
     let c1 = c .before in
     let c2 = c1 .before in
-    let c3 = c2 .before in
-    let c4 = c3 .before in
-    rw (kind-low _ (c4 .before .before .pre) (c4 .before .before .args .loc) (c4 .if1 .taken), sym (c3 .same-loc .ensures) ∙ c2 .if2 .left, sym (c1 .same-loc2 .ensures) ∙ c .if3 .taken)
+    rw (sym (c2 .before .same-loc .ensures) ∙ c2 .if2 .left, sym (c1 .same-loc2 .ensures) ∙ c .if3 .taken)
 
 returns-3 : tie.Need-returns-3
 unfolding ValidSuperblock1Location ValidSuperblock2Location
@@ -35,7 +32,8 @@ returns-3 c =
     let c2 = c1 .before in
     let c3 = c2 .before in
     let c4 = c3 .before in
-    rw (kind-low _ (c4 .before .before .pre) (c4 .before .before .args .loc) (c4 .if1 .taken), sym (c3 .same-loc .ensures) ∙ c2 .if2 .left, sym (c1 .same-loc2 .ensures) ∙ c .if3 .left)
+    let low = kind-low _ (c4 .before .before .pre) (c4 .before .before .args .loc) (omega (arith, c4 .if1 .taken)) in
+    rw (low, sym (c3 .same-loc .ensures) ∙ c2 .if2 .left, sym (c1 .same-loc2 .ensures) ∙ c .if3 .left)
 
 first-node-requires : tie.Need-first-node-requires
 first-node-requires c κs = search needs
