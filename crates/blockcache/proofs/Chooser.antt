@@ -20,7 +20,7 @@ use Rattle.blockcache.proofs.MarkedBlocks.{marked-held}
 use Rattle.blockcache.proofs.Numbers.{call-accepted-iff, step-of-number}
 use Rattle.blockcache.proofs.NextFit.{next-fit-passes, after-small}
 use Rattle.blockcache.specs.Abstract.{cacheVars}
-use Rattle.blockcache.specs.Chooser.{choiceBy, chooser, chooserRows, chosenBlock, isFree, marked, refusedChoice}
+use Rattle.blockcache.specs.Chooser.{choiceBy, chooser, chooserRows, chosenBlock, givenChoice, isFree, marked, refusedChoice}
 use Rattle.blockcache.specs.Form.{cacheForm, isReady, settingsForm}
 use Rattle.blockcache.specs.Next.{withLast}
 use Rattle.blockcache.specs.Scan.{heldIn}
@@ -28,6 +28,7 @@ use Rattle.blockcache.specs.Step.{cacheNext, cacheRows}
 use Rattle.blockcache.specs.Steps.{isLoad, stepOf, steps}
 use Rattle.blockcache.specs.declared.CacheState.{CacheState}
 use Rattle.blockcache.specs.declared.Call.{Call}
+use Rattle.blockcache.specs.declared.Choice.{Choice}
 use Rattle.blockcache.specs.declared.Settings.{Settings}
 use Rattle.blockdisk.specs.Form.{isRule}
 use Rattle.blockdisk.specs.declared.DiskOp.the-variants.{ReqWriteNodeOp}
@@ -45,6 +46,10 @@ module _ (g : Settings) (c : CacheState) where
 
   -- BY ANY ROWS
 
+  -- the next free block, with its address and how many are free
+  abbrev given : Choice
+  given = givenChoice (chosenBlock g c) (NodeBlockAddr (deviceOf (g .device)) (chosenBlock g c)) (countBelow (isFree g c) 128) c
+
   module _ (rs : List Row) where
     pub by-answer : choiceBy g c rs .answer ≡ answer rs
     unfolding choiceBy
@@ -53,6 +58,10 @@ module _ (g : Settings) (c : CacheState) where
     pub by-refused : (answer rs ≡ 0 → ⊥) → choiceBy g c rs ≡ refusedChoice (answer rs) c
     unfolding choiceBy
     by-refused ne = rw (ne-eqb (answer rs) 0 ne)
+
+    pub by-given : answer rs ≡ 0 → choiceBy g c rs ≡ given
+    unfolding choiceBy
+    by-given e = rw (eq-eqb (answer rs) 0 e)
 
   -- WHAT THE ANSWER SAYS
 
@@ -94,25 +103,25 @@ module _ (g : Settings) (c : CacheState) where
   block-free e = let h = choice-accepted e in next-fit-passes (isFree g c) (c .blocks .last) (last-small h) (h .free)
 
   module _ (e : answer rows ≡ 0) where
+    gives : chooser g c ≡ given
+    unfolding chooser
+    gives = by-given rows e
+
     pub gives-block : chooser g c .block ≡ chosenBlock g c
-    unfolding chooser choiceBy
-    gives-block = rw (eq-eqb (answer rows) 0 e)
+    gives-block = ap (λ x. x .block) gives
 
     pub gives-addr : chooser g c .addr ≡ NodeBlockAddr (deviceOf (g .device)) (chosenBlock g c)
-    unfolding chooser choiceBy
-    gives-addr = rw (eq-eqb (answer rows) 0 e)
+    gives-addr = ap (λ x. x .addr) gives
 
     pub gives-count : chooser g c .free ≡ countBelow (isFree g c) 128
-    unfolding chooser choiceBy
-    gives-count = rw (eq-eqb (answer rows) 0 e)
+    gives-count = ap (λ x. x .free) gives
 
     -- free and marked blocks make 128
     pub count-all : chooser g c .free + countBelow (marked g c) 128 ≡ 128
     count-all = rw gives-count (let n = count-not (marked g c) 128 in omega arith)
 
     pub gives-cache : chooser g c .cache ≡ withLast c (chosenBlock g c)
-    unfolding chooser choiceBy
-    gives-cache = rw (eq-eqb (answer rows) 0 e)
+    gives-cache = ap (λ x. x .cache) gives
 
   pub refused-choice : (answer rows ≡ 0 → ⊥) → chooser g c ≡ refusedChoice (answer rows) c
   unfolding chooser

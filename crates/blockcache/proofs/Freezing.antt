@@ -67,7 +67,8 @@ module _ (g : Settings) (c : CacheState) (q : Call) where
       ((λ e. let h = a .0 e in (n .0 (h .0) .0, h .1)), (λ (m, k). a .1 (n .1 (m, free), k)))
 
   -- Freeze has the same rows under both but for 25
-  pub freeze-rule-2 : answer (cacheRows (withRule g 2) c 12 q) ≡ freezeAnswer (c .places .isfrozen) (answer (cacheRows (withRule g 1) c 12 q))
+  pub freeze-rule-2 : answer (cacheRows (withRule g 2) c 12 q)
+      ≡ freezeAnswer (c .places .isfrozen) (answer (cacheRows (withRule g 1) c 12 q))
   unfolding stepOf steps
   freeze-rule-2 = last-row _ _ _ _ _ _
 

@@ -33,12 +33,15 @@ use Rattle.blocksystem.specs.Run.{JoinedCall, State, after, nothingLost,
 -- where the invariant holds, nothing is lost, added or altered
 pub holds-nothing-lost : (d : ℕ) (s : State) → Invariant d s → nothingLost d s
 holds-nothing-lost d s v =
+    let first = s .pictures .first in
+    let second = s .pictures .second in
     nothing-lost-iff d s .1
     (λ m which there.
     none-of-iff (counted d (s .disk .records) m) .0
-    (⊎-elim (λ (i : m ≡ s .pictures .first). rw i (none-counted d (s .disk) (s .pictures .first) (v .whole .first) (v .pictures-form .first)))
-    (λ (i : m ≡ s .pictures .second).
-    rw i (none-counted d (s .disk) (s .pictures .second) (v .whole .second (s .pictures .second .place) (rw (← i, there))) (v .pictures-form .second)))
+    (⊎-elim (λ (i : m ≡ first). rw i (none-counted d (s .disk) first (v .whole .first) (v .pictures-form .first)))
+    (λ (i : m ≡ second).
+    let kept = v .whole .second (second .place) (rw (← i, there)) in
+    rw i (none-counted d (s .disk) second kept (v .pictures-form .second)))
     which))
 
 pub nothing-lost : (d r : ℕ) → made d ≡ true → isRule r ≡ true → (x : Contents) (calls : List JoinedCall) →

@@ -189,7 +189,8 @@ module _ (d : ℕ) where
       let kept : isRule (t .disk .rule) ≡ true = rw (call-keeps-rule d s (step 9 q o)) rule in
       let a : answer (chooserRows g (t .cache)) ≡ 0 = rw c (gives-after-load d (s .disk .rule) (s .cache) q z (t .disk .rule) kept) in
       let l : last t ≡ 127 = ap (λ c. c .blocks .last) c ∙ loaded-last d (s .cache) q in
-      let own : choice d t ≡ chooser g (t .cache) = choice-formed d (t .cache) (t .disk) (joined-disk-form d 9 q o (s .cache) (s .disk) e) in
+      let formed = joined-disk-form d 9 q o (s .cache) (s .disk) e in
+      let own : choice d t ≡ chooser g (t .cache) = choice-formed d (t .cache) (t .disk) formed in
       rw own (
         choice-answer g (t .cache) ∙ a,
         gives-block g (t .cache) a ∙ ap (nextFit (isFree g (t .cache))) l ∙ next-fit-from-end (isFree g (t .cache)) (choice-accepted g (t .cache) a .free),
@@ -258,7 +259,8 @@ module _ (d : ℕ) where
     -- and it is so again, after a read too
     after-choice : (s : State) → CanChoose s → CanChoose (afterChoice d s)
     after-choice s h =
-        let c = ap (λ x. x .cache) (choice-formed d (s .cache) (s .disk) (h .disk)) ∙ gives-cache (settingsOf d (s .disk)) (s .cache) (own-rows s h) in
+        let own = choice-formed d (s .cache) (s .disk) (h .disk) in
+        let c = ap (λ x. x .cache) own ∙ gives-cache (settingsOf d (s .disk)) (s .cache) (own-rows s h) in
         record { disk = h .disk; form = formed-next s choose (h .form); ready = rw c (h .ready); stays = rw c (h .stays) }
 
     after-read : (s : State) (q : Call) (o : Records) → CanChoose s → CanChoose (afterStep d s 17 q o)
@@ -267,7 +269,12 @@ module _ (d : ℕ) where
         split (acceptsStep d s 17 q o)
         (λ t. let e : joinedAnswer d 17 q o (s .cache) (s .disk) ≡ 0 = eqb-true _ _ t in
         let c = joined-cache d 17 q o (s .cache) (s .disk) e in
-        record { disk = joined-disk-form d 17 q o (s .cache) (s .disk) e; form = formed-next s (step 17 q o) (h .form); ready = rw c (h .ready); stays = rw c (h .stays) })
+        record {
+          disk = joined-disk-form d 17 q o (s .cache) (s .disk) e;
+          form = formed-next s (step 17 q o) (h .form);
+          ready = rw c (h .ready);
+          stays = rw c (h .stays);
+        })
         (λ t. rw t h)
 
     again : (s : State) (k : JoinedCall) → isQuiet k ≡ true → CanChoose s → CanChoose (moved d s k)
@@ -282,7 +289,9 @@ module _ (d : ℕ) where
     all-given : (calls : List JoinedCall) (s : State) → allQuiet calls ≡ true → CanChoose s → length (given d s calls) ≡ choices calls
     unfolding given allQuiet choices
     all-given [] s q h = refl
-    all-given (step n x o ∷ ks) s q h = let e = and-iff (isRead n) (allQuiet ks) .0 q in all-given ks (afterStep d s n x o) (e .1) (again s (step n x o) (e .0) h)
+    all-given (step n x o ∷ ks) s q h =
+        let e = and-iff (isRead n) (allQuiet ks) .0 q in
+        all-given ks (afterStep d s n x o) (e .1) (again s (step n x o) (e .0) h)
     all-given (choose ∷ ks) s q h = rw (gives s h) (ap suc (all-given ks (afterChoice d s) q (after-choice s h)))
 
     free-throughout : (calls : List JoinedCall) (s : State) → allQuiet calls ≡ true → CanChoose s → StaysFree d b s calls

@@ -1,5 +1,5 @@
--- Every joined call keeps the disk's rule. From the invariant, which any list keeps in which each accepted start is given a place then named:
--- under rule 2 a frozen place stays named until a clean-up or a start is accepted.
+-- Every joined call keeps the disk's rule. From the invariant, which any list keeps in which each accepted start is given a place then
+-- named: under rule 2 a frozen place stays named until a clean-up or a start is accepted.
 use Prim.Native.Nat.{ℕ}
 use mathlib.Core.Bool.{_||_, false, false≢true, true}
 use mathlib.Core.List.{List, [], _++_, _∷_}

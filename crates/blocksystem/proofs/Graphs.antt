@@ -120,7 +120,9 @@ module _ (d : ℕ) (s : State) (v : Invariant d s) where
   pub named-graph : (m : Named) → NameIn (s .pictures) m → m .present ≡ true → DiskGraphMap d vars (m .place) (nodesMap (m .picture))
   named-graph m which there =
       ⊎-elim (λ (i : m ≡ first). rw i (place-graph (first .place) (nodesMap (first .picture)) (v .whole .first)))
-      (λ (i : m ≡ second). rw i (place-graph (second .place) (nodesMap (second .picture)) (v .whole .second (second .place) (rw (← i, there)))))
+      (λ (i : m ≡ second).
+      let kept = v .whole .second (second .place) (rw (← i, there)) in
+      rw i (place-graph (second .place) (nodesMap (second .picture)) kept))
       which
 
   pub named-disk-graph : (m : Named) → NameIn (s .pictures) m → m .present ≡ true →
@@ -241,22 +243,19 @@ module _ (d : ℕ) (s : State) (v : Invariant d s) where
   same-frozen : (g : Map Node) → FrozenGraph vars g → g ≡ frozenShown
   same-frozen g k = k .is ∙ sym (frozen-picture-is (k .x) (k .is-ready) (k .table) (k .is-frozen))
 
+  only-shown : (o : Option (Map Node)) → o ≡ some shown → (g : Map Node) → (EphemeralGraph vars g ⊎ LoadingGraph d vars g) → o ≡ some g
+  only-shown o i g k = i ∙ ap some (sym (⊎-elim (same-ephemeral g) (same-loading g) k))
+
   -- the ephemeral graph is the working picture; there is none in Unready
   ephemeral-in : (m : MVariables) → cacheVars (s .cache) ≡ m → (o : Option (Map Node)) →
       EphemeralGraphOpt d vars o ↔ (o ≡ received m (some shown))
   ephemeral-in (ready x) e o = (
     (λ h. h .given shown (inl (ephemeral-working x e))),
-    (λ i. record {
-      given = λ g. ⊎-elim (λ k. i ∙ ap some (sym (same-ephemeral g k))) (λ k. i ∙ ap some (sym (same-loading g k)));
-      not-given = λ none-is. absurd (none-is shown (inl (ephemeral-working x e)));
-    }),
+    (λ i. record { given = only-shown o i; not-given = λ none-is. absurd (none-is shown (inl (ephemeral-working x e))) }),
   )
   ephemeral-in (loadingIndirectionTable l read) e o = (
     (λ h. h .given shown (inr (loading-working l read e))),
-    (λ i. record {
-      given = λ g. ⊎-elim (λ k. i ∙ ap some (sym (same-ephemeral g k))) (λ k. i ∙ ap some (sym (same-loading g k)));
-      not-given = λ none-is. absurd (none-is shown (inr (loading-working l read e)));
-    }),
+    (λ i. record { given = only-shown o i; not-given = λ none-is. absurd (none-is shown (inr (loading-working l read e))) }),
   )
   ephemeral-in unready e o =
       let neither : ((g : Map Node) → (EphemeralGraph vars g ⊎ LoadingGraph d vars g) → ⊥) =
@@ -275,7 +274,8 @@ module _ (d : ℕ) (s : State) (v : Invariant d s) where
 
   used-iff : (m : MVariables) → UseFrozenGraph m ↔ (isSome (frozenOf m) ≡ true)
   used-iff (ready x) = ((λ (y, e, t). let i : x ≡ y = cc in rw i t), (λ t. (x, refl, t)))
-  used-iff (loadingIndirectionTable l read) = ((λ (y, e, t). absurd (let z : _≡_ {A = ℕ} 0 1 = cc in omega arith)), (λ t. absurd (false≢true t)))
+  used-iff (loadingIndirectionTable l read) =
+      ((λ (y, e, t). absurd (let z : _≡_ {A = ℕ} 0 1 = cc in omega arith)), (λ t. absurd (false≢true t)))
   used-iff unready = ((λ (y, e, t). absurd (let z : _≡_ {A = ℕ} 0 1 = cc in omega arith)), (λ t. absurd (false≢true t)))
 
   pub frozen-opt : (o : Option (Map Node)) →

@@ -61,7 +61,10 @@ none-of-iff c = (
 pub nothing-lost-iff : (d : ℕ) (s : State) → nothingLost d s ↔ ((m : Named) → NameIn (s .pictures) m → m .present ≡ true →
     NoneOf (counted d (s .disk .records) m))
 nothing-lost-iff d s =
-    let zeros : ((m : Named) → (counted d (s .disk .records) m ≡ noneCounted) ↔ NoneOf (counted d (s .disk .records) m)) = λ m. none-of-iff (counted d (s .disk .records) m) in (
-      (λ h m which p. ⊎-elim (λ i. rw i (zeros (s .pictures .first) .0 (h .0 (rw i at p)))) (λ i. rw i (zeros (s .pictures .second) .0 (h .1 (rw i at p)))) which),
-      (λ h. ((λ p. zeros (s .pictures .first) .1 (h (s .pictures .first) (inl refl) p)), (λ p. zeros (s .pictures .second) .1 (h (s .pictures .second) (inr refl) p)))),
+    let first = s .pictures .first in
+    let second = s .pictures .second in
+    let zeros : ((m : Named) → (counted d (s .disk .records) m ≡ noneCounted) ↔ NoneOf (counted d (s .disk .records) m)) =
+    λ m. none-of-iff (counted d (s .disk .records) m) in (
+      (λ h m which p. ⊎-elim (λ i. rw i (zeros first .0 (h .0 (rw i at p)))) (λ i. rw i (zeros second .0 (h .1 (rw i at p)))) which),
+      (λ h. ((λ p. zeros first .1 (h first (inl refl) p)), (λ p. zeros second .1 (h second (inr refl) p)))),
     )

@@ -70,7 +70,9 @@ module _ (d : ℕ) where
   -- NO LOAD
 
   abbrev LoadsRefused : State → List JoinedCall → Type 0
-  LoadsRefused s calls = (front back : List JoinedCall) (q : Call) (o : Records) → calls ≡ front ++ (step 9 q o ∷ back) → asked d (after d s front) 9 q o .answer ≡ 0 → ⊥
+  LoadsRefused s calls =
+      (front back : List JoinedCall) (q : Call) (o : Records) → calls ≡ front ++ (step 9 q o ∷ back) →
+      asked d (after d s front) 9 q o .answer ≡ 0 → ⊥
 
   each-no-load : (s : State) (calls : List JoinedCall) → LoadsRefused s calls → Every d (λ t k. loads d t k ≡ false) s calls
   each-no-load s calls h =

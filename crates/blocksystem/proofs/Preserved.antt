@@ -2,7 +2,7 @@
 -- DiskChangesPreservesPersistentAndFrozen holds of each call. No call changes the graph of the persistent place, nor of the frozen one,
 -- nor, before a place is received, of any place at which a whole graph is stored.
 use Prim.Native.Nat.{ℕ}
-use mathlib.Core.Bool.{Bool, _||_, false, false≢true, not, true}
+use mathlib.Core.Bool.{Bool, _||_, false, false≢true, true}
 use mathlib.Core.List.{List}
 use mathlib.Core.Logic.{inl}
 use mathlib.Core.Option.{none, some}
@@ -10,16 +10,18 @@ use mathlib.Core.Path.{_∙_, _≡_, ap, fun-ext, refl, subst, sym}
 use borrow.Author.Tests.{eqb-false, eqb-true}
 use lib.Dec.{eqb}
 use Rattle.base.proofs.Maps.{put-same, some-of}
-use Rattle.base.proofs.Refusals.{Clear, accepted-iff}
-use Rattle.base.proofs.Tests.{and-iff, clash, never, not-iff, some-iff, split}
+use Rattle.base.proofs.Refusals.{Clear}
+use Rattle.base.proofs.Tests.{clash, never, not-iff, some-iff, split}
 use Rattle.base.specs.Maps.{isSome}
-use Rattle.blockcache.proofs.Numbers.{rows-ascending}
+use Rattle.blockcache.proofs.EveryStep.{number-of-step}
+use Rattle.blockcache.proofs.Numbers.{call-accepted-iff}
 use Rattle.blockcache.proofs.OpKinds.{on-ready-iff, ready-is}
 use Rattle.blockcache.specs.Abstract.{cacheVars}
 use Rattle.blockcache.specs.Form.{isReady}
 use Rattle.blockcache.specs.Ops.{dopKind, noDop, nodeWriteReq, tableReadResp, tableWriteReq, tableWriteResp}
-use Rattle.blockcache.specs.Step.{cacheRows}
-use Rattle.blockcache.specs.Steps.{isCrash, isLoad, stepOf, steps}
+use Rattle.blockcache.specs.Rows.{stepRows, takes}
+use Rattle.blockcache.specs.Steps.{Step, cleanUpStep, freezeStep, isCrash, isRead, numberOf, pageInIndirectionTableRespStep}
+use Rattle.blockcache.specs.Steps.{receiveLocStep, writeBackIndirectionTableRespStep}
 use Rattle.blockcache.specs.Upstream.{Ready, Variables as MVariables, loadingIndirectionTable, ready, unready}
 use Rattle.blockcache.specs.declared.CacheState.{CacheState}
 use Rattle.blockcache.specs.declared.Call.{Call}
@@ -43,6 +45,7 @@ use Rattle.blocksystem.proofs.Fairness.{stays-unready}
 use Rattle.blocksystem.proofs.Graphs.{frozen-graph-of-loc, named-graph, persistent-graph, place-graph}
 use Rattle.blocksystem.proofs.Invariant.{InPhase, Invariant, PictureMaps, UnreadyOk, pictureMaps}
 use Rattle.blocksystem.proofs.Keep.{call-keeps, run-every}
+use Rattle.blocksystem.proofs.Premises.{loads-iff}
 use Rattle.blocksystem.proofs.KeepQueues.{Survives}
 use Rattle.blocksystem.specs.Fairness.{loads}
 use Rattle.blocksystem.specs.Joined.{diskCall, joined, joinedAnswer, settingsOf}
@@ -122,7 +125,8 @@ module _ (d : ℕ) (s s' : State) (v : Invariant d s) where
       }
 
   -- a state with the same names, in which the invariant holds too
-  module _ (v' : Invariant d s') (first : s' .pictures .first ≡ s .pictures .first) (second : s' .pictures .second ≡ s .pictures .second) where
+  module _ (v' : Invariant d s') (first : s' .pictures .first ≡ s .pictures .first)
+      (second : s' .pictures .second ≡ s .pictures .second) where
     persistent-kept : (l : Location) → PersistentLoc (cacheVars (s .cache)) ≡ some l → GraphPreserved d (vars d s) (vars d s') l
     persistent-kept l e =
         let (i, g) = persistent-graph d s v l e in
@@ -169,34 +173,20 @@ module _ (d : ℕ) (s : State) (q : Call) (o : Records) where
   abbrev opKind : ℕ → ℕ
   opKind n = dopKind (diskCall n q .op)
 
-  -- a step that is accepted with its disk operation of kind k
-  kind-is : (n k : ℕ) → not (eqb (opKind n) k) ≡ false → isWrite k ≡ false → isWrite (opKind n) ≡ false
-  kind-is n k h w = let e : opKind n ≡ k = eqb-true (opKind n) k (not-iff _ .0 h) in rw e w
+  -- the disk operation of an accepted step is one that the step takes
+  disk-taken : (which : Step) → Accepted (numberOf which) → takes (s .cache .phase) (q .vop) (q .dop) which .disk ≡ true
+  disk-taken which e =
+      let x = call-accepted-iff g (s .cache) (numberOf which) q .0 (joined-zero d (numberOf which) q o (s .cache) (s .disk) .0 e .0) in
+      let same : some (x .step) ≡ some which = sym (x .is) ∙ number-of-step which in
+      let one : x .step ≡ which = cc in
+      not-iff _ .0 (subst (λ y. Clear (stepRows g (s .cache) q y)) one (x .clear) .1 .0)
 
-  cache-clear : (n : ℕ) → Accepted n → Clear (cacheRows g (s .cache) n q)
-  cache-clear n e =
-      accepted-iff (cacheRows g (s .cache) n q) (rows-ascending g (s .cache) n q) .0 (joined-zero d n q o (s .cache) (s .disk) .0 e .0)
-
-  -- the steps that change a name, and a load, write nothing
-  writes-not-4 : Accepted 4 → isWrite (opKind 4) ≡ false
-  unfolding stepOf steps
-  writes-not-4 e = kind-is 4 tableWriteResp (cache-clear 4 e .1 .1 .0) refl
-
-  writes-not-9 : Accepted 9 → isWrite (opKind 9) ≡ false
-  unfolding stepOf steps
-  writes-not-9 e = kind-is 9 tableReadResp (cache-clear 9 e .1 .1 .0) refl
-
-  writes-not-10 : Accepted 10 → isWrite (opKind 10) ≡ false
-  unfolding stepOf steps
-  writes-not-10 e = kind-is 10 noDop (cache-clear 10 e .1 .1 .0) refl
-
-  writes-not-12 : Accepted 12 → isWrite (opKind 12) ≡ false
-  unfolding stepOf steps
-  writes-not-12 e = kind-is 12 noDop (cache-clear 12 e .1 .1 .0) refl
-
-  writes-not-13 : Accepted 13 → isWrite (opKind 13) ≡ false
-  unfolding stepOf steps
-  writes-not-13 e = kind-is 13 noDop (cache-clear 13 e .1 .1 .0) refl
+  -- so a step that takes operations of one kind, which is no request to write, writes nothing
+  writes-none : (which : Step) (k : ℕ) → takes (s .cache .phase) (q .vop) (q .dop) which .disk ≡ eqb (dopKind (q .dop)) k →
+      isRead (numberOf which) ≡ false → isWrite k ≡ false → Accepted (numberOf which) → isWrite (opKind (numberOf which)) ≡ false
+  writes-none which k only no-read none-written e =
+      let is : dopKind (q .dop) ≡ k = eqb-true (dopKind (q .dop)) k (sym only ∙ disk-taken which e) in
+      rw (no-read, is) none-written
 
   -- and a step that writes nothing leaves the contents
   no-write : (n : ℕ) → isCrash n ≡ false → Accepted n → isWrite (opKind n) ≡ false →
@@ -244,14 +234,17 @@ module _ (d : ℕ) (s : State) (n : ℕ) (q : Call) (o : Records) (e : Accepted 
   writes-ready ne w v' =
       let c = diskCall n q in
       let a = sym (disk-answer d n q o (s .disk) ne) ∙ joined-zero d n q o (s .cache) (s .disk) .0 e .1 in
-      let moves = ap (diskVars d) (joined-disk d n q o (s .cache) (s .disk) e ∙ disk-next d n q o (s .disk) ne a) ∙ disk-moves d (s .disk) c a in
+      let after = joined-disk d n q o (s .cache) (s .disk) e ∙ disk-next d n q o (s .disk) ne a in
+      let moves = ap (diskVars d) after ∙ disk-moves d (s .disk) c a in
       let (x, is) = queued-ready (diskVars d (s .disk)) (c .op) (q .node) (q .table) w (cacheVars (s' .cache)) (pictureMaps (s' .pictures))
       (subst (λ y. InPhase (cacheVars (s' .cache)) y (pictureMaps (s' .pictures))) moves (v' .whole .phase)) in
       let on = on-ready-iff (s' .cache) (λ y. Unit {0}) .0 (x, is, tt) .0 in
       let no-load : loads d s (step n q o) ≡ false =
       split (loads d s (step n q o))
-      (λ t. let nine : n ≡ 9 = eqb-true n 9 (and-iff (acceptsStep d s n q o) (isLoad n) .0 t .1) in
-      clash w (subst (λ m. isWrite (opKind d s q o m) ≡ false) (sym nine) (writes-not-9 d s q o (subst (Accepted d s q o) nine e))))
+      (λ t. let (x, y, same, z) = loads-iff d s (step n q o) .0 t in
+      let nine : n ≡ 9 = cc in
+      let none = writes-none d s q o pageInIndirectionTableRespStep tableReadResp refl refl refl (subst (Accepted d s q o) nine e) in
+      clash w (subst (λ m. isWrite (opKind d s q o m) ≡ false) (sym nine) none))
       (λ t. t) in
       split (isReady (s .cache)) (λ t. t) (λ t. clash on (stays-unready d s (step n q o) t no-load))
 
@@ -276,7 +269,8 @@ module _ (d : ℕ) (s : State) (n : ℕ) (q : Call) (o : Records) (v : Invariant
       let a = sym (crash-answer d n q o (s .disk) t) ∙ joined-zero d n q o (s .cache) (s .disk) .0 e .1 in
       let after = joined-disk d n q o (s .cache) (s .disk) e ∙ crash-next d n q o (s .disk) t a in
       let kept = subst (λ x. Survives (diskVars d (s .disk)) (diskVars d x)) (sym after) (survives d (s .disk) o a) in
-      let idle : UnreadyOk (diskVars d (s .disk)) = subst (λ m. InPhase m (diskVars d (s .disk)) (pictureMaps (s .pictures))) is (v .whole .phase) in
+      let idle : UnreadyOk (diskVars d (s .disk)) =
+      subst (λ m. InPhase m (diskVars d (s .disk)) (pictureMaps (s .pictures))) is (v .whole .phase) in
       graph-preserved d (vars d s) (vars d next) l w
       (kept .tables l (w .whole .table) (w .whole .there) (λ id k h x. idle .no-table-writes id k h))
       (λ ref k m i h. kept .nodes k m h (λ id j y x. idle .no-node-writes id j y))
@@ -317,10 +311,11 @@ module _ (d : ℕ) (s : State) (n : ℕ) (q : Call) (o : Records) (v : Invariant
 
   step-preserves : DiskChangesPreservesPersistentAndFrozen d (vars d s) (vars d next)
   step-preserves =
-      split (eqb n 4) (λ t. of-number 4 (eqb-true n 4 t) refl (writes-not-4 d s q o))
-      (λ a. split (eqb n 10) (λ t. of-number 10 (eqb-true n 10 t) refl (writes-not-10 d s q o))
-      (λ b. split (eqb n 12) (λ t. of-number 12 (eqb-true n 12 t) refl (writes-not-12 d s q o))
-      (λ c. split (eqb n 13) (λ t. of-number 13 (eqb-true n 13 t) refl (writes-not-13 d s q o))
+      let none = writes-none d s q o in
+      split (eqb n 4) (λ t. of-number 4 (eqb-true n 4 t) refl (none writeBackIndirectionTableRespStep tableWriteResp refl refl refl))
+      (λ a. split (eqb n 10) (λ t. of-number 10 (eqb-true n 10 t) refl (none receiveLocStep noDop refl refl refl))
+      (λ b. split (eqb n 12) (λ t. of-number 12 (eqb-true n 12 t) refl (none freezeStep noDop refl refl refl))
+      (λ c. split (eqb n 13) (λ t. of-number 13 (eqb-true n 13 t) refl (none cleanUpStep noDop refl refl refl))
       (λ x. keeps-names (eqb-false n 4 a) (eqb-false n 10 b) (eqb-false n 12 c) (eqb-false n 13 x)))))
 
 -- ANY CALL, and each of a list

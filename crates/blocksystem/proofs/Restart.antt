@@ -81,7 +81,8 @@ named-whole d s v l h =
     wf-succs-iff d (s .disk) (disk-form-iff d (s .disk) .0 (v .disk-form)) (s .cache) l .1
     (⊎-elim
     (λ (i : m ≡ s .pictures .first).
-    rw (sym (ap (λ x. x .place) i) ∙ p) at (kept-succs d s v (s .pictures .first .place) (nodesMap (s .pictures .first .picture)) (v .whole .first)))
+    let first = s .pictures .first in
+    rw (sym (ap (λ x. x .place) i) ∙ p) at (kept-succs d s v (first .place) (nodesMap (first .picture)) (v .whole .first)))
     (λ (i : m ≡ s .pictures .second).
     kept-succs d s v l (nodesMap (s .pictures .second .picture)) (v .whole .second l (rw (← i, there) (ap some p))))
     which)

@@ -13,6 +13,7 @@ use Rattle.blockdisk.specs.declared.DiskState.{DiskState}
 use Rattle.blocksystem.specs.Joined.{settingsOf}
 
 module _ (d : ℕ) (c : CacheState) (s : DiskState) where
+  -- 1 for the disk as for settings and cache; then 4 and 21, which are the cache's
   abbrev pub joinedChoiceRows : List Row
   joinedChoiceRows = (1 when not (diskForm d s && settingsForm (settingsOf d s) && cacheForm d c)) ∷ blockRows (settingsOf d s) c
 

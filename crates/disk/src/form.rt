@@ -5,7 +5,7 @@ ghost use Prim.Native.Nat.{ℕ, _<_};
 ghost use lib.Dec.{eqb};
 ghost use Rattle.disklayout.specs.Blocks.{TablePlaceIn};
 ghost use Rattle.disklayout.specs.Calls.{flag, runningOn};
-ghost use Rattle.disklayout.specs.Device.{deviceOf};
+ghost use Rattle.disklayout.specs.Device.{deviceOf, made};
 ghost use Rattle.sectortype.specs.Form.{locZero};
 ghost use Rattle.blockdisk.specs.Form.{diskForm, nodeRecordChecked, tablesChecked, nodesChecked, recordsChecked, isRule};
 ghost use Rattle.blockdisk.specs.Form.{tableAllowed, tableRequestOk, nodeRequestOk, tableQueueForm, nodeQueueForm, queuesForm};
@@ -204,9 +204,17 @@ pub(crate) fn queues_ok(device: u64, qs: Queues) -> bool
     p & q & r & s
 }
 
+// Number 1's question of a disk, told by its device and rule and by what its records and queues were found to be.
+pub(crate) fn disk_ok(device: u64, rule: u64, stored: Checked, waiting: bool) -> bool
+    ensures { λ b. ⌜ b ≡ (made device && isRule rule && stored .form && stored .placed && waiting) ⌝ }
+{
+    let ruled = is_rule(rule);
+    (device <= 2) & ruled & stored.form & stored.placed & waiting
+}
+
 impl Disk {
-    // Whether the disk is in its written form: number 1's question, for a call that asks the disk nothing else, and for a crash. `next`
-    // asks it of the disk's parts itself, as a call that takes the whole disk copies it.
+    // Whether the disk is in its written form, for a call that asks the disk nothing else, and for a crash. `next` asks the disk's parts
+    // itself, as a call that takes the whole disk copies it.
     pub fn well_formed(self) -> bool
         ensures { λ b. ⌜ b ≡ diskForm (self .device) (self .state) ⌝ }
     {
@@ -215,7 +223,6 @@ impl Disk {
         let queues = s.queues;
         let stored = records_ok(self.device, records);
         let waiting = queues_ok(self.device, queues);
-        let ruled = is_rule(s.rule);
-        (self.device <= 2) & ruled & stored.form & stored.placed & waiting
+        disk_ok(self.device, s.rule, stored, waiting)
     }
 }

@@ -6,7 +6,7 @@ ghost use Rattle.sectortype.specs.Form.{zeroNode, emptyTable};
 ghost use Rattle.sectortype.specs.Same.{sameNode, sameTable};
 ghost use Rattle.blockdisk.specs.Ops.{requestOf, requestOutcome, answerOutcome, somethingIn, opOutcome, diskStep};
 use crate::Disk;
-use crate::form::is_rule;
+use crate::form::disk_ok;
 use crate::form::queues_ok;
 use crate::form::records_ok;
 use crate::form::table_allowed;
@@ -302,10 +302,9 @@ impl Disk {
         let queues = s.queues;
         let stored = records_ok(self.device, records);
         let waiting = queues_ok(self.device, queues);
-        let ruled = is_rule(s.rule);
+        let form = disk_ok(self.device, s.rule, stored, waiting);
         let node_ok = sector::node_form(node);
         let table_ok = sector::table_form(table);
-        let form = (self.device <= 2) & ruled & stored.form & stored.placed & waiting;
         let good = form & node_ok & table_ok;
         if !good {
             return DiskOutcome { answer: 1, disk: s };

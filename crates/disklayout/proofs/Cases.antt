@@ -129,8 +129,12 @@ edges =
     []
 
 -- one name for the definitions that the list is about
+tests : ℕ
+unfolding ValidIndirectionTableAddr ValidIndirectionTableLocation ValidNodeAddr ValidNodeLocation ValidJournalLocation
+tests = 0
+
 definitions : ℕ
-unfolding ValidIndirectionTableAddr ValidIndirectionTableLocation ValidNodeAddr ValidNodeLocation ValidJournalLocation ValidSuperblock1Location ValidSuperblock2Location overlap kindOf kindNumber NodeBlockOf
+unfolding tests ValidSuperblock1Location ValidSuperblock2Location overlap kindOf kindNumber NodeBlockOf
 definitions = 0
 
 pub edges-shown : map asked edges ≡ map expected edges

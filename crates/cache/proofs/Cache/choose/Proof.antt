@@ -21,7 +21,8 @@ returns : tie.Need-returns
 returns c =
     let n = c .before .before in
     let a = n .before .before .args in
-    c .refused-choice .ensures ∙ sym (choice-unnamed (a .self .settings) (a .self .state) (sym (n .settings-form .ensures) ∙ not-true-iff _ .0 (c .before .if1 .taken)))
+    let unnamed = sym (n .settings-form .ensures) ∙ not-true-iff _ .0 (c .before .if1 .taken) in
+    c .refused-choice .ensures ∙ sym (choice-unnamed (a .self .settings) (a .self .state) unnamed)
 
 cache-form-requires : tie.Need-cache-form-requires
 cache-form-requires c κs = and-left _ _ (sym (c .before .settings-form .ensures) ∙ not-iff _ .0 (c .if1 .left))
@@ -33,7 +34,8 @@ returns-2 : tie.Need-returns-2
 returns-2 c =
     let f = c .before .before in
     let a = f .before .before .before .before .args in
-    c .refused-choice2 .ensures ∙ sym (choice-unformed (a .self .settings) (a .self .state) (sym (f .cache-form .ensures) ∙ not-true-iff _ .0 (c .before .if2 .taken)))
+    let unformed = sym (f .cache-form .ensures) ∙ not-true-iff _ .0 (c .before .if2 .taken) in
+    c .refused-choice2 .ensures ∙ sym (choice-unformed (a .self .settings) (a .self .state) unformed)
 
 is-ready-requires : tie.Need-is-ready-requires
 is-ready-requires c κs = search needs
@@ -48,8 +50,10 @@ returns-3 c =
     let f = t .before in
     let n = f .before .before in
     let a = n .before .before .args in
-    c .refused-choice3 .ensures ∙ sym (choice-unready (a .self .settings) (a .self .state) (sym (n .settings-form .ensures) ∙ not-iff _ .0 (f .before .if1 .left))
-    (sym (f .cache-form .ensures) ∙ not-iff _ .0 (t .if2 .left)) (sym (r .is-ready .ensures) ∙ not-true-iff _ .0 (c .before .if3 .taken)))
+    let named = sym (n .settings-form .ensures) ∙ not-iff _ .0 (f .before .if1 .left) in
+    let form = sym (f .cache-form .ensures) ∙ not-iff _ .0 (t .if2 .left) in
+    let unready = sym (r .is-ready .ensures) ∙ not-true-iff _ .0 (c .before .if3 .taken) in
+    c .refused-choice3 .ensures ∙ sym (choice-unready (a .self .settings) (a .self .state) named form unready)
 
 free-count-requires : tie.Need-free-count-requires
 free-count-requires c κs = search needs
@@ -66,9 +70,11 @@ returns-4 c =
     let f = t .before in
     let n = f .before .before in
     let a = n .before .before .args in
-    c .refused-choice4 .ensures ∙ none-free (a .self .settings) (a .self .state) (sym (n .settings-form .ensures) ∙ not-iff _ .0 (f .before .if1 .left))
-    (sym (f .cache-form .ensures) ∙ not-iff _ .0 (t .if2 .left)) (sym (r .is-ready .ensures) ∙ not-iff _ .0 (x .if3 .left))
-    (sym (u .free-count .ensures) ∙ c .before .if4 .taken)
+    let named = sym (n .settings-form .ensures) ∙ not-iff _ .0 (f .before .if1 .left) in
+    let form = sym (f .cache-form .ensures) ∙ not-iff _ .0 (t .if2 .left) in
+    let ready = sym (r .is-ready .ensures) ∙ not-iff _ .0 (x .if3 .left) in
+    let none = sym (u .free-count .ensures) ∙ c .before .if4 .taken in
+    c .refused-choice4 .ensures ∙ none-free (a .self .settings) (a .self .state) named form ready none
 
 next-free-requires : tie.Need-next-free-requires
 next-free-requires c κs = search needs

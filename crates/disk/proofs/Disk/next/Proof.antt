@@ -14,8 +14,8 @@ records-ok-requires c κs = search needs
 queues-ok-requires : tie.Need-queues-ok-requires
 queues-ok-requires c κs = search needs
 
-is-rule-requires : tie.Need-is-rule-requires
-is-rule-requires c κs = search needs
+disk-ok-requires : tie.Need-disk-ok-requires
+disk-ok-requires c κs = search needs
 
 node-form-requires : tie.Need-node-form-requires
 node-form-requires c κs = search needs
@@ -26,23 +26,23 @@ table-form-requires c κs = search needs
 returns : tie.Need-returns
 unfolding diskForm diskStep answer
 returns c =
-    let t = c .before .before .before .before in
+    let t = c .before in
     let u = t .before .before in
     let q = u .before in
     simp
-    (rw (t .table-form .ensures, t .before .node-form .ensures, u .is-rule .ensures, q .queues-ok .ensures, q .before .records-ok .ensures)
+    (rw (t .table-form .ensures, t .before .node-form .ensures, u .disk-ok .ensures, q .queues-ok .ensures, q .before .records-ok .ensures)
     at (c .if1 .taken))
 
 -- past the test, the operation alone decides
-formed : (i : tie.Else1) → let a = i .before .before .before .before .before .before .before .before .before .before .before .before .before .before .args in
+formed : (i : tie.Else1) → let a = i .before .before .before .before .before .before .before .before .before .before .before .args in
     diskStep (a .self .device) (a .self .state) (a .call) ≡ opOutcome (a .self .device) (a .self .state) (a .call .op) (a .call .node) (a .call .table)
 unfolding diskForm diskStep answer
 formed i =
-    let t = i .before .before .before .before in
+    let t = i .before in
     let u = t .before .before in
     let q = u .before in
     simp
-    (rw (t .table-form .ensures, t .before .node-form .ensures, u .is-rule .ensures, q .queues-ok .ensures, q .before .records-ok .ensures)
+    (rw (t .table-form .ensures, t .before .node-form .ensures, u .disk-ok .ensures, q .queues-ok .ensures, q .before .records-ok .ensures)
     at (i .if1 .left))
 
 enum-known-op : tie.Need-enum-known-op
@@ -132,7 +132,7 @@ next-spec =
     (tie.spec
     records-ok-requires
     queues-ok-requires
-    is-rule-requires
+    disk-ok-requires
     node-form-requires
     table-form-requires
     returns

@@ -10,14 +10,12 @@ records-ok-requires c κs = search needs
 queues-ok-requires : tie.Need-queues-ok-requires
 queues-ok-requires c κs = search needs
 
-is-rule-requires : tie.Need-is-rule-requires
-is-rule-requires c κs = search needs
+disk-ok-requires : tie.Need-disk-ok-requires
+disk-ok-requires c κs = search needs
 
 returns : tie.Need-returns
 unfolding diskForm
-returns c =
-    let r = c .before .before .before in
-    simp (r .is-rule .ensures, r .before .queues-ok .ensures, r .before .before .records-ok .ensures)
+returns c = simp (c .disk-ok .ensures, c .before .queues-ok .ensures, c .before .before .records-ok .ensures)
 
 pub well-formed-spec : {M : Type 1} → statement M
-well-formed-spec = tie.close (tie.spec records-ok-requires queues-ok-requires is-rule-requires returns)
+well-formed-spec = tie.close (tie.spec records-ok-requires queues-ok-requires disk-ok-requires returns)

@@ -16,7 +16,8 @@ returns : tie.Need-returns
 returns c =
     let w = c .before .before in
     let a = w .before .before .args .self in
-    c .refused-choice .ensures ∙ sym (choice-misformed (a .device) (a .cache) (a .disk) (sym (w .well-formed .ensures) ∙ not-true-iff _ .0 (c .before .if1 .taken)))
+    let misformed = sym (w .well-formed .ensures) ∙ not-true-iff _ .0 (c .before .if1 .taken) in
+    c .refused-choice .ensures ∙ sym (choice-misformed (a .device) (a .cache) (a .disk) misformed)
 
 choose-requires : tie.Need-choose-requires
 choose-requires c κs = search needs
@@ -26,7 +27,8 @@ returns-2 c =
     let i = c .before .before in
     let w = i .before in
     let a = w .before .before .args .self in
-    c .choose .ensures ∙ sym (choice-formed (a .device) (a .cache) (a .disk) (sym (w .well-formed .ensures) ∙ not-iff _ .0 (i .if1 .left)))
+    let formed = sym (w .well-formed .ensures) ∙ not-iff _ .0 (i .if1 .left) in
+    c .choose .ensures ∙ sym (choice-formed (a .device) (a .cache) (a .disk) formed)
 
 pub choose-spec : {M : Type 1} → statement M
 choose-spec = tie.close (tie.spec well-formed-requires refused-choice-requires returns choose-requires returns-2)
