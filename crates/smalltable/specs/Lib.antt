@@ -1,0 +1,5 @@
+-- What the contracts of `numbering` cite, and what the theorems speak of.
+pub mod Loading
+pub mod Numbers
+pub mod SmallTable
+pub mod Tables
