@@ -7,6 +7,7 @@ from parts.lines import AREA1,EX,OK,P,c,example,l
 from parts.lives import before_format,edges,last_blocks,life
 from parts.rules import rule_rows,rules
 from parts.screen import screen_rows
+from parts.small import small,small_rows
 from parts.steps import letgo_rows,rows
 from parts.stories import contents,crash,day,letgo,places,refusals,screen
 from parts.words import contents_words,place_words,words
@@ -29,6 +30,8 @@ rule_rows()
 example('choose','A free block: the chooser gives the next one in turn, goes round after the last, and begins anew after a load.',choose)
 example('full','A full device: each write goes to the block that the chooser gave, until all 128 are marked; then blocks become free again.',full)
 choose_rows()
+example('small','A table by its number: what a loader that is given the wrong table answers, and the right one.',small)
+small_rows()
 c(b'The last line has no line feed.')
 l('audit','place=%s %s'%(AREA1,OK))
 

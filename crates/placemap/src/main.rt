@@ -1,11 +1,7 @@
 // Prints a line for each device: its number, journal start, journal end, both table addresses, first node address, end of the node
 // blocks. Each number is the layout library's.
-use libc::STDOUT_FILENO;
-
-fn field(name: &[u8], n: u64) {
-    io::write_all(STDOUT_FILENO, name);
-    io::print_decimal(STDOUT_FILENO, n);
-}
+use output::text;
+use output::word;
 
 fn line(device: u64) {
     let start = layout::journal_start_addr(device);
@@ -14,14 +10,14 @@ fn line(device: u64) {
     let two = layout::indirection_table2_addr(device);
     let node = layout::first_node_addr(device);
     let last = layout::node_blocks_end(device);
-    field(b"device=", device);
-    field(b" journal=", start.value);
-    field(b" journal_end=", end.value);
-    field(b" table1=", one.value);
-    field(b" table2=", two.value);
-    field(b" node=", node.value);
-    field(b" end=", last.value);
-    io::write_all(STDOUT_FILENO, b"\n");
+    word(b"device=", device);
+    word(b" journal=", start.value);
+    word(b" journal_end=", end.value);
+    word(b" table1=", one.value);
+    word(b" table2=", two.value);
+    word(b" node=", node.value);
+    word(b" end=", last.value);
+    text(b"\n");
 }
 
 fn main() {

@@ -3,7 +3,9 @@
 ghost use mathlib.Core.Path.{_≡_};
 ghost use Prim.Native.Nat.{ℕ, _/_, _%_, _<_};
 ghost use lib.ListN.{length, getD};
-use libc::STDOUT_FILENO;
+use output::number as print_number;
+use output::text;
+use output::word;
 
 const BLOCK: usize = 4096;
 
@@ -54,26 +56,21 @@ fn block_number(block: &[u8]) -> u64
     wide(number)
 }
 
-fn field(name: &[u8], n: u64) {
-    io::write_all(STDOUT_FILENO, name);
-    io::print_decimal(STDOUT_FILENO, n);
-}
-
 fn print_block(first: bool, number: u64) {
     if !first {
-        io::write_all(STDOUT_FILENO, b",");
+        text(b",");
     }
     if number == MIXED {
-        io::write_all(STDOUT_FILENO, b"?");
+        text(b"?");
     } else {
-        io::print_decimal(STDOUT_FILENO, number);
+        print_number(number);
     }
 }
 
 // Bytes behind the last whole block.
 fn print_left(bytes: usize) {
     if bytes != 0 {
-        field(b"+", bytes as u64);
+        word(b"+", bytes as u64);
     }
 }
 
@@ -91,23 +88,23 @@ fn print_blocks(part: &[u8]) {
 }
 
 fn line(device: u64, area: &[u8], start: u64, blocks: u64) {
-    field(b"device=", device);
-    field(b" bytes=", area.len() as u64);
-    field(b" start=", start);
-    field(b" blocks=", blocks);
-    field(
+    word(b"device=", device);
+    word(b" bytes=", area.len() as u64);
+    word(b" start=", start);
+    word(b" blocks=", blocks);
+    word(
         b" front_result=",
         journalarea::front_result(device, area, start, blocks),
     );
-    io::write_all(STDOUT_FILENO, b" front=");
+    text(b" front=");
     print_blocks(journalarea::front(device, area, start, blocks));
-    field(
+    word(
         b" back_result=",
         journalarea::back_result(device, area, start, blocks),
     );
-    io::write_all(STDOUT_FILENO, b" back=");
+    text(b" back=");
     print_blocks(journalarea::back(device, area, start, blocks));
-    io::write_all(STDOUT_FILENO, b"\n");
+    text(b"\n");
 }
 
 // Ranges of device 0's journal, accepted and refused.

@@ -4,11 +4,12 @@ use blocksystem::Counts;
 use disklayout::Kind;
 use disklayout::Location;
 use disklayout::PlaceKind;
-use libc::STDOUT_FILENO;
+use output::list;
+use output::number;
+use output::text;
+use output::word;
 use sectortype::Contents;
 use sectortype::Node;
-use sectortype::Succs;
-use words::digits::wide;
 
 // The lines passed, and how many of them were calls, accepted, refused and errors.
 pub struct Tally {
@@ -27,16 +28,6 @@ pub fn nothing() -> Tally {
         refused: 0,
         errors: 0,
     }
-}
-
-pub fn text(s: &[u8]) {
-    io::write_all(STDOUT_FILENO, s);
-}
-
-// A word with a number: the key, `=` and all, and the digits.
-pub fn word(key: &[u8], n: u64) {
-    io::write_all(STDOUT_FILENO, key);
-    io::print_decimal(STDOUT_FILENO, n);
 }
 
 pub fn error(line: u64) {
@@ -82,28 +73,13 @@ pub fn place(line: u64, p: PlaceKind) {
     text(b"\n");
 }
 
-// A list's references, joined by commas.
-fn list(l: Succs) {
-    let count = l.count as usize;
-    let mut i: usize = 0;
-    while i < 8 {
-        if i < count {
-            if i > 0 {
-                text(b",");
-            }
-            io::print_decimal(STDOUT_FILENO, wide(l.at[i]));
-        }
-        i += 1;
-    }
-}
-
 // `LOW` where high is 0, else `HIGH.LOW`.
 fn contents(c: Contents) {
     if c.high > 0 {
-        io::print_decimal(STDOUT_FILENO, c.high);
+        number(c.high);
         text(b".");
     }
-    io::print_decimal(STDOUT_FILENO, c.low);
+    number(c.low);
 }
 
 // Whether a node that was handed out is the working picture's.

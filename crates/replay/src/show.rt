@@ -1,18 +1,19 @@
 // The two lines of `show`.
-use crate::print;
 use blockcache::CacheState;
 use blockcache::Phase;
 use blockdisk::DiskState;
 use cache::is_ready;
+use output::text;
+use output::word;
 use queue::Requests;
 use sectortype::Table;
 use words::digits::wide;
 
 fn phase_name(phase: Phase) {
     match phase {
-        Phase::Unready => print::text(b"Unready"),
-        Phase::Loading => print::text(b"Loading"),
-        Phase::Ready => print::text(b"Ready"),
+        Phase::Unready => text(b"Unready"),
+        Phase::Loading => text(b"Loading"),
+        Phase::Ready => text(b"Ready"),
     }
 }
 
@@ -27,14 +28,14 @@ fn counted(ready: bool, n: u8) -> u64 {
 pub fn sizes(line: u64, cache: CacheState) {
     let phase = cache.phase;
     let ready = is_ready(phase);
-    print::word(b"line=", line);
-    print::text(b" phase=");
+    word(b"line=", line);
+    text(b" phase=");
     phase_name(phase);
-    print::word(b" allocated=", counted(ready, cache.tables.ephemeral.count));
-    print::word(b" cached=", counted(ready, cache.nodes.count));
-    print::word(b" writes=", counted(ready, cache.outstanding.writes.count));
-    print::word(b" reads=", counted(ready, cache.outstanding.reads.count));
-    print::text(b"\n");
+    word(b" allocated=", counted(ready, cache.tables.ephemeral.count));
+    word(b" cached=", counted(ready, cache.nodes.count));
+    word(b" writes=", counted(ready, cache.outstanding.writes.count));
+    word(b" reads=", counted(ready, cache.outstanding.reads.count));
+    text(b"\n");
 }
 
 // The address of each reference's location; 0, at which no node block of a device that is made begins, where the reference has none.
@@ -134,8 +135,8 @@ fn letters(device: u64, cache: CacheState, disk: DiskState) -> [u8; 128] {
 
 pub fn blocks(line: u64, device: u64, cache: CacheState, disk: DiskState) {
     let row = letters(device, cache, disk);
-    print::word(b"line=", line);
-    print::text(b" blocks=");
-    print::text(&row);
-    print::text(b"\n");
+    word(b"line=", line);
+    text(b" blocks=");
+    text(&row);
+    text(b"\n");
 }

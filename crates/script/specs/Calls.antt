@@ -16,6 +16,7 @@ use Rattle.blockdisk.specs.declared.DiskOp.the-variants.{RespReadNodeOp, RespWr
 use Rattle.blockcache.specs.Form.{isReady}
 use Rattle.blockcache.specs.declared.CacheState.{CacheState}
 use Rattle.blockcache.specs.declared.Call.{Call}
+use Rattle.smalltable.specs.Tables.{smallTable}
 use Rattle.script.specs.declared.calls.BroughtNode.{BroughtNode}
 use Rattle.script.specs.declared.calls.BroughtTable.{BroughtTable}
 use Rattle.script.specs.declared.request.NodeSource.{NodeSource}
@@ -73,7 +74,7 @@ storedTable d s id =
 abbrev pub cacheTable : Bool → Table → BroughtTable
 cacheTable present t = someTable (cond present t emptyTable)
 
--- by where the table comes from: t is the one written out, and a cache that is not Ready has no tables
+-- by where the table comes from: t is the one written out; a cache that is not Ready has no tables; a small table is the device's, the empty one past 545
 abbrev pub tableValue : TableSource → Table → ℕ → ℕ → CacheState → DiskState → BroughtTable
 tableValue table.Nothing t id d c s = nothingTable
 tableValue table.Written t id d c s = someTable t
@@ -81,6 +82,7 @@ tableValue table.Stored t id d c s = storedTable d s id
 tableValue table.Frozen t id d c s = cacheTable (isReady c && c .tables .isfrozen) (c .tables .frozen)
 tableValue table.Ephemeral t id d c s = cacheTable (isReady c) (c .tables .ephemeral)
 tableValue table.Persistent t id d c s = cacheTable (isReady c) (c .tables .persistent)
+tableValue (table.Small k) t id d c s = someTable (smallTable d k .table)
 
 -- THE CALL
 

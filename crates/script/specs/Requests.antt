@@ -10,7 +10,8 @@ use Rattle.blockdisk.specs.declared.DiskOp.{DiskOp}
 use Rattle.blockdisk.specs.declared.DiskOp.the-variants.{NoDiskOp}
 use Rattle.blockcache.specs.declared.VersionOp.{VersionOp}
 use Rattle.blockcache.specs.declared.VersionOp.the-variants.{StatesInternalOp}
-use Rattle.words.specs.Bytes.{sameOf, LOC}
+use Rattle.words.specs.Bytes.{sameOf, startsOf, LOC}
+use Rattle.words.specs.Numbers.{numberOf}
 use Rattle.words.specs.declared.text.Keys.the-variants as keys
 use Rattle.words.specs.Cut.{wordOf, fitOf, numberWord, placeWord}
 use Rattle.words.specs.Parsed.{nodeOf, tableReadOf}
@@ -58,7 +59,16 @@ tableFrom s = record { ok = true; source = s; table = emptyTable }
 abbrev pub tableWritten : List ℕ → TableWord
 tableWritten w = record { ok = tableReadOf w .ok; source = table.Written; table = tableReadOf w .table }
 
--- none, empty, stored, frozen, ephemeral, persistent, or a table written out
+-- behind small/ a number, any one: past the last it stands for the empty table (specs/Calls.antt)
+abbrev pub smallFrom : Digits → TableWord
+smallFrom (digits.Value k) = tableFrom (table.Small k)
+smallFrom digits.Bad = record { ok = false; source = table.Nothing; table = emptyTable }
+
+-- small/K, or a table written out
+unfoldable pub tableTextOf : List ℕ → TableWord
+tableTextOf w = cond (startsOf w (115 ∷ 109 ∷ 97 ∷ 108 ∷ 108 ∷ 47 ∷ [])) (smallFrom (numberOf (drop 6 w))) (tableWritten w)
+
+-- none, empty, stored, frozen, ephemeral, persistent, small/K, or a table written out
 unfoldable pub tableWordOf : List ℕ → TableWord
 tableWordOf w =
     cond (sameOf w (110 ∷ 111 ∷ 110 ∷ 101 ∷ [])) (tableFrom table.Nothing)
@@ -67,7 +77,7 @@ tableWordOf w =
     (cond (sameOf w (102 ∷ 114 ∷ 111 ∷ 122 ∷ 101 ∷ 110 ∷ [])) (tableFrom table.Frozen)
     (cond (sameOf w (101 ∷ 112 ∷ 104 ∷ 101 ∷ 109 ∷ 101 ∷ 114 ∷ 97 ∷ 108 ∷ [])) (tableFrom table.Ephemeral)
     (cond (sameOf w (112 ∷ 101 ∷ 114 ∷ 115 ∷ 105 ∷ 115 ∷ 116 ∷ 101 ∷ 110 ∷ 116 ∷ [])) (tableFrom table.Persistent)
-    (tableWritten w))))))
+    (tableTextOf w))))))
 
 -- table=
 unfoldable pub tableWord : List ℕ → TableWord

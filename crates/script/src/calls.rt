@@ -162,6 +162,10 @@ fn table_value(
         TableSource::Frozen => cache_table(ready & tables.isfrozen, tables.frozen),
         TableSource::Ephemeral => cache_table(ready, tables.ephemeral),
         TableSource::Persistent => cache_table(ready, tables.persistent),
+        TableSource::Small(k) => {
+            let small = numbering::small_table(device, k);
+            some_table(small.table)
+        }
     }
 }
 

@@ -1,7 +1,8 @@
 // What a step line asks for, before it is known what the cache and the disk hold.
 ghost use mathlib.Core.Path.{_≡_};
 ghost use Rattle.script.specs.Requests.{nodeFrom, nodeWritten, nodeWordOf, nodeWord, tableFrom, tableWritten, tableWordOf, tableWord, stepWordsFit, noOperations, operationsOf, requestFrom};
-ghost use Rattle.script.specs.Requests.{requestOf};
+ghost use Rattle.script.specs.Requests.{requestOf, smallFrom, tableTextOf};
+ghost use Rattle.words.specs.Numbers.{numberOf};
 use crate::operations::DiskRead;
 use crate::operations::Uiop;
 use crate::operations::VersionRead;
@@ -14,6 +15,7 @@ use sectortype::Node;
 use sectortype::Table;
 use words::digits::Digits;
 use words::digits::Place;
+use words::digits::number;
 use words::digits::number_word;
 use words::digits::place_word;
 use words::lists::node;
@@ -21,6 +23,7 @@ use words::tables::table;
 use words::text::Keys;
 use words::text::after;
 use words::text::same;
+use words::text::starts;
 use words::text::word;
 use words::text::words_fit;
 
@@ -32,7 +35,7 @@ pub enum NodeSource {
     Cached,
 }
 
-// The same for its table; `empty` counts as written out.
+// The same for its table; `empty` counts as written out, and a small table has its number.
 pub enum TableSource {
     Nothing,
     Written,
@@ -40,6 +43,7 @@ pub enum TableSource {
     Frozen,
     Ephemeral,
     Persistent,
+    Small(u64),
 }
 
 // The source, with the node itself where it is written out, else zeros.
@@ -138,6 +142,30 @@ fn table_written(w: &[u8]) -> TableWord
     }
 }
 
+// A small table, from what stands behind `small/`: any number, as the store says which have a table.
+fn table_small(w: &[u8]) -> TableWord
+    ensures { λ r. ⌜ r ≡ smallFrom (numberOf (now (w .entry))) ⌝ }
+{
+    let Digits::Value(k) = number(w) else {
+        return TableWord {
+            ok: false,
+            source: TableSource::Nothing,
+            table: sector::empty_table(),
+        };
+    };
+    table_from(TableSource::Small(k))
+}
+
+// A small table by its number, or a table written out.
+fn table_text(w: &[u8]) -> TableWord
+    ensures { λ r. ⌜ r ≡ tableTextOf (now (w .entry)) ⌝ }
+{
+    if starts(w, b"small/") {
+        return table_small(after(w, 6));
+    }
+    table_written(w)
+}
+
 fn table_of(w: &[u8]) -> TableWord
     ensures { λ r. ⌜ r ≡ tableWordOf (now (w .entry)) ⌝ }
 {
@@ -159,7 +187,7 @@ fn table_of(w: &[u8]) -> TableWord
     if same(w, b"persistent") {
         return table_from(TableSource::Persistent);
     }
-    table_written(w)
+    table_text(w)
 }
 
 fn node_word(rest: &[u8]) -> NodeWord

@@ -42,6 +42,15 @@ enum-told-6 c = search needs
 cache-table-requires-3 : tie.Need-cache-table-requires-3
 cache-table-requires-3 c κs = search needs
 
+enum-known-source : tie.Need-enum-known-source
+enum-known-source c = search needs
+
+small-table-requires : tie.Need-small-table-requires
+small-table-requires c κs = search needs
+
+some-table-requires-2 : tie.Need-some-table-requires-2
+some-table-requires-2 c κs = search needs
+
 returns : tie.Need-returns
 returns c = simp (c .before .enum-told .given .1) (c .nothing-table .ensures)
 
@@ -60,6 +69,9 @@ returns-5 c = simp (c .before .enum-told5 .given .1, c .cache-table2 .ensures, c
 returns-6 : tie.Need-returns-6
 returns-6 c = simp (c .before .enum-told6 .given .1, c .cache-table3 .ensures, c .before .before .before .before .is-ready .ensures)
 
+returns-7 : tie.Need-returns-7
+returns-7 c = simp (c .before .before .before .source .given .1, c .some-table2 .ensures, c .before .small-table .ensures)
+
 pub table-value-spec : {M : Type 1} → statement M
 table-value-spec =
     tie.close
@@ -77,9 +89,13 @@ table-value-spec =
     cache-table-requires-2
     enum-told-6
     cache-table-requires-3
+    enum-known-source
+    small-table-requires
+    some-table-requires-2
     returns
     returns-2
     returns-3
     returns-4
     returns-5
-    returns-6)
+    returns-6
+    returns-7)

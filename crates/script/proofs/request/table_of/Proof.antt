@@ -146,8 +146,8 @@ returns-6 c =
       sym (c12 .same .ensures) ∙ c11 .if1 .left,
     ) (c .table-from6 .ensures)
 
-table-written-requires : tie.Need-table-written-requires
-table-written-requires c κs = search needs
+table-text-requires : tie.Need-table-text-requires
+table-text-requires c κs = search needs
 
 returns-7 : tie.Need-returns-7
 unfolding tableWordOf
@@ -171,7 +171,7 @@ returns-7 c =
       sym (c8 .same3 .ensures) ∙ c7 .if3 .left,
       sym (c10 .same2 .ensures) ∙ c9 .if2 .left,
       sym (c12 .same .ensures) ∙ c11 .if1 .left,
-    ) (c .table-written .ensures)
+    ) (c .table-text .ensures)
 
 pub table-of-spec : {M : Type 1} → statement M
 table-of-spec =
@@ -201,5 +201,5 @@ table-of-spec =
     same-requires-6
     table-from-requires-6
     returns-6
-    table-written-requires
+    table-text-requires
     returns-7)

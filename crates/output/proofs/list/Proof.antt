@@ -1,8 +1,8 @@
 -- Each turn passes a place. Assumes nothing.
 use Prim.Native.Nat.{_-_, _≤_}
 use borrow.Author.Needs.{needs}
-use Rattle.replay.proofs.print.list.Statement.{statement}
-use Rattle.replay.proofs.print.list.Tie as tie
+use Rattle.output.proofs.list.Statement.{statement}
+use Rattle.output.proofs.list.Tie as tie
 
 abbrev Inv-loop : tie.InvT-loop
 Inv-loop l count i₀ t5 i = i ≤ 8
@@ -28,8 +28,8 @@ element-copy-out-wide c = search needs
 wide-requires : tie.Need-wide-requires Inv-loop μ-loop
 wide-requires c κs = search needs
 
-print-decimal-requires : tie.Need-print-decimal-requires Inv-loop μ-loop
-print-decimal-requires c κs = search needs
+number-requires : tie.Need-number-requires Inv-loop μ-loop
+number-requires c κs = search needs
 
 add-i : tie.Need-add-i Inv-loop μ-loop
 add-i c = search needs
@@ -55,7 +55,7 @@ list-spec =
     text-requires
     element-copy-out-wide
     wide-requires
-    print-decimal-requires
+    number-requires
     add-i
     loop-less
     loop-again
