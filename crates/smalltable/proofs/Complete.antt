@@ -10,6 +10,7 @@ use Rattle.base.proofs.Tests.{and-both, split}
 use Rattle.base.specs.Scan.{allBelow}
 use Rattle.disklayout.proofs.Devices.{device-good}
 use Rattle.disklayout.proofs.NodeBlocks.{block-addr-injective, block-valid}
+use Rattle.disklayout.specs.Blocks.{NodeBlockAddr}
 use Rattle.disklayout.specs.Device.{deviceOf, devices, made}
 use Rattle.disklayout.specs.Layout.{NodeBlockSize, ValidNodeLocation}
 use Rattle.sectortype.proofs.Forms.{located-allocated}
@@ -20,7 +21,6 @@ use Rattle.sectortype.specs.Graph.{DistinctAddrs, GraphClosed, LocsComplete, Lo
 use Rattle.sectortype.specs.Graph.{allocatedIn, closedAt, locOk, locatedIn, within}
 use Rattle.sectortype.specs.declared.Table.{Table}
 use Rattle.smalltable.specs.SmallTable.{SmallTable}
-use Rattle.smalltable.specs.Tables.{smallLoc}
 
 -- a block of each device holds 4,096 bytes
 abbrev wide : ℕ → Bool
@@ -31,7 +31,7 @@ unfolding allBelow deviceOf devices
 blocks-wide = refl
 
 module _ (d : ℕ) (on : made d ≡ true) where
-  place-valid : (r : ℕ) → ValidNodeLocation (deviceOf d) (smallLoc d r) ≡ true
+  place-valid : (r : ℕ) → ValidNodeLocation (deviceOf d) (record { addr = NodeBlockAddr (deviceOf d) r; len = 4096 }) ≡ true
   unfolding ValidNodeLocation
   place-valid r = and-both (block-valid (deviceOf d) (device-good d) r) (all-at wide 3 d blocks-wide (omega (arith, leb-true d 2 on)))
 

@@ -1,4 +1,5 @@
 -- The laws and theorems of small tables.
+pub mod Asked
 pub mod Complete
 pub mod Joined
 pub mod Lists

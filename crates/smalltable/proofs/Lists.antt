@@ -56,7 +56,7 @@ list-of l h =
     let n = succs-iff (listOf l) .0 f .1 .0 in
     record {
       form = f;
-      ascending = λ k c. (simp tests at (all-at (ascendsAt (listOf l)) 8 k (e .0 .0 .1) (omega arith))) c;
+      ascending = λ k c. omega (arith, (simp tests at (all-at (ascendsAt (listOf l)) 8 k (e .0 .0 .1) (omega arith))) c);
       names = λ q m. (simp (or-true-iff, not-iff, and-iff, ltb-iff) at (all-at (namesAt l) 64 q (e .0 .1) (has-succ-bounded (listOf l) q f m))) m;
       back = e .1;
     }

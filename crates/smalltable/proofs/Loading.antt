@@ -34,7 +34,7 @@ use Rattle.smalltable.specs.SmallTable.{SmallTable}
 use Rattle.smalltable.specs.Tables.{smallTable}
 
 -- which phase it is
-is-loading : (p : Phase) → loadingPhase p ≡ true → p ≡ Loading
+pub is-loading : (p : Phase) → loadingPhase p ≡ true → p ≡ Loading
 is-loading Unready e = absurd (false≢true e)
 is-loading Loading e = refl
 is-loading Ready e = absurd (false≢true e)

@@ -1,4 +1,4 @@
--- Numbers and sets: each number below 546 has good sets, each good four sets have one number, and a greater number's sets come later. Three tests that are
+-- Numbers and sets: a greater number's sets come later, each number below 546 has good sets, and each good four sets have one number. Three tests that are
 -- computed over all numbers and all sets, and what they say. Assumes nothing.
 use Prim.Native.Nat.{_%_, _*_, _+_, _-_, _/_, _<_, suc, zero, ℕ}
 use mathlib.Core.Bool.{Bool, _&&_, _||_, cond, false, false≢true, not, true}
@@ -16,6 +16,46 @@ use Rattle.base.specs.Scan.{allBelow}
 use Rattle.smalltable.specs.Numbers.{listAt, sets, smallSets, smallTables}
 use Rattle.smalltable.specs.SmallTable.{Before, inOrder}
 use Rattle.smalltable.specs.declared.Sets.{Sets}
+
+-- THE ORDER
+
+-- the same as `Before`, as a test
+abbrev before : List ℕ → List ℕ → Bool
+before [] ys = false
+before (x ∷ xs) [] = false
+before (x ∷ xs) (y ∷ ys) = ltb x y || (eqb x y && before xs ys)
+
+abbrev orderTest : ℕ → Bool
+orderTest n = before (inOrder (smallSets n)) (inOrder (smallSets (suc n)))
+
+order-passes : allBelow orderTest (smallTables - 1) ≡ true
+unfolding allBelow smallSets
+order-passes = refl
+
+pub before-trans : (xs ys zs : List ℕ) → Before xs ys → Before ys zs → Before xs zs
+before-trans [] ys zs p q = p
+before-trans (x ∷ xs) [] zs p q = absurd p
+before-trans (x ∷ xs) (y ∷ ys) [] p q = q
+before-trans (x ∷ xs) (y ∷ ys) (z ∷ zs) (inl a) (inl b) = inl (omega arith)
+before-trans (x ∷ xs) (y ∷ ys) (z ∷ zs) (inl a) (inr b) = let e : y ≡ z = b .0 in inl (omega arith)
+before-trans (x ∷ xs) (y ∷ ys) (z ∷ zs) (inr a) (inl b) = let e : x ≡ y = a .0 in inl (omega arith)
+before-trans (x ∷ xs) (y ∷ ys) (z ∷ zs) (inr a) (inr b) = inr (a .0 ∙ b .0, before-trans xs ys zs (a .1) (b .1))
+
+before-true : (xs ys : List ℕ) → before xs ys ≡ true → Before xs ys
+before-true [] ys e = absurd (false≢true e)
+before-true (x ∷ xs) [] e = absurd (false≢true e)
+before-true (x ∷ xs) (y ∷ ys) e =
+    split (ltb x y) (λ t. inl (ltb-true x y t))
+    (λ t. let h = and-iff (eqb x y) (before xs ys) .0 (rw t at e) in inr (eqb-true x y (h .0), before-true xs ys (h .1)))
+
+-- a greater number's sets come later
+pub sets-in-order : (m n : ℕ) → m < n → n < smallTables → Before (inOrder (smallSets m)) (inOrder (smallSets n))
+sets-in-order m zero l h = absurd (not-suc-le-zero l)
+sets-in-order m (suc n) l h =
+    let next = before-true (inOrder (smallSets n)) (inOrder (smallSets (suc n))) (all-at orderTest (smallTables - 1) n order-passes (omega arith)) in
+    below-or-last m n l
+    (λ b. before-trans (inOrder (smallSets m)) (inOrder (smallSets n)) (inOrder (smallSets (suc n))) (sets-in-order m n b (omega arith)) next)
+    (λ e. rw e next)
 
 -- WHICH FOUR SETS ARE A SMALL TABLE'S
 
@@ -72,19 +112,6 @@ sets-pass : allBelow (λ s. allBelow (λ a. allBelow (λ b. allBelow (λ c. sets
 unfolding allBelow goodSets smallSets numberOf
 sets-pass = refl
 
--- the same as `Before`, as a test
-abbrev before : List ℕ → List ℕ → Bool
-before [] ys = false
-before (x ∷ xs) [] = false
-before (x ∷ xs) (y ∷ ys) = ltb x y || (eqb x y && before xs ys)
-
-abbrev orderTest : ℕ → Bool
-orderTest n = before (inOrder (smallSets n)) (inOrder (smallSets (suc n)))
-
-order-passes : allBelow orderTest (smallTables - 1) ≡ true
-unfolding allBelow smallSets
-order-passes = refl
-
 -- WHAT THEY SAY
 
 pub record NumberSets (n : ℕ) : Type 0 where
@@ -107,30 +134,3 @@ sets-number s m g =
     let h = (simp tests at e3) g in
     let x = h .1 in
     (h .0, λ i. record { allocated = x .0 .0 .0 i; list0 = x .0 .0 .1 i; list1 = x .0 .1 i; list2 = x .1 i })
-
--- THE ORDER
-
-pub before-trans : (xs ys zs : List ℕ) → Before xs ys → Before ys zs → Before xs zs
-before-trans [] ys zs p q = p
-before-trans (x ∷ xs) [] zs p q = absurd p
-before-trans (x ∷ xs) (y ∷ ys) [] p q = q
-before-trans (x ∷ xs) (y ∷ ys) (z ∷ zs) (inl a) (inl b) = inl (omega arith)
-before-trans (x ∷ xs) (y ∷ ys) (z ∷ zs) (inl a) (inr b) = let e : y ≡ z = b .0 in inl (omega arith)
-before-trans (x ∷ xs) (y ∷ ys) (z ∷ zs) (inr a) (inl b) = let e : x ≡ y = a .0 in inl (omega arith)
-before-trans (x ∷ xs) (y ∷ ys) (z ∷ zs) (inr a) (inr b) = inr (a .0 ∙ b .0, before-trans xs ys zs (a .1) (b .1))
-
-before-true : (xs ys : List ℕ) → before xs ys ≡ true → Before xs ys
-before-true [] ys e = absurd (false≢true e)
-before-true (x ∷ xs) [] e = absurd (false≢true e)
-before-true (x ∷ xs) (y ∷ ys) e =
-    split (ltb x y) (λ t. inl (ltb-true x y t))
-    (λ t. let h = and-iff (eqb x y) (before xs ys) .0 (rw t at e) in inr (eqb-true x y (h .0), before-true xs ys (h .1)))
-
--- a greater number's sets come later
-pub sets-in-order : (m n : ℕ) → m < n → n < smallTables → Before (inOrder (smallSets m)) (inOrder (smallSets n))
-sets-in-order m zero l h = absurd (not-suc-le-zero l)
-sets-in-order m (suc n) l h =
-    let next = before-true (inOrder (smallSets n)) (inOrder (smallSets (suc n))) (all-at orderTest (smallTables - 1) n order-passes (omega arith)) in
-    below-or-last m n l
-    (λ b. before-trans (inOrder (smallSets m)) (inOrder (smallSets n)) (inOrder (smallSets (suc n))) (sets-in-order m n b (omega arith)) next)
-    (λ e. rw e next)

@@ -72,7 +72,7 @@ module _ (d : ℕ) (s : Sets) (m : Small s) where
   E r = entryOf d s r
 
   formed : (r : ℕ) → r < 3 → entryForm (E r) ≡ true
-  formed r h = entry-form d (digitAt (s .allocated) r) (listAt s r) r (list-small s m r h)
+  formed r h = entry-form d _ (listAt s r) _ (list-small s m r h)
 
   form0 : tableForm (withEntry emptyTable 0 (E 0)) ≡ true
   form0 = with-entry-form emptyTable 0 (E 0) empty-table-form (omega arith) (formed 0 (omega arith))
@@ -100,7 +100,7 @@ module _ (d : ℕ) (s : Sets) (m : Small s) where
       (sym (in-graph emptyTable j) ∙ ap (λ g. isSome (g j)) empty-graph)
 
   allocated-at : (r : ℕ) → r < 3 → allocatedIn T r ≡ digitAt (s .allocated) r
-  allocated-at r h = ap (λ e. e .allocated) (entry-at r h) ∙ entry-allocated d (digitAt (s .allocated) r) (listAt s r) r
+  allocated-at r h = ap (λ e. e .allocated) (entry-at r h) ∙ entry-allocated d (digitAt (s .allocated) r) _ _
 
   allocated-small : (r : ℕ) → allocatedIn T r ≡ true → r < 3
   allocated-small r a = split (ltb r 3) (λ t. ltb-true r 3 t) (λ t. clash a (none-past r (ltb-false r 3 t)))
@@ -128,7 +128,7 @@ module _ (d : ℕ) (s : Sets) (m : Small s) where
         record {
           form = table-form;
           root = allocated-at 0 (omega arith) ∙ root-in;
-          small = allocated-small;
+          small = λ r a. omega (arith, allocated-small r a);
           located = λ r a. ap (λ e. e .located) (entry-is r a);
           placed = λ r a. ap (λ e. e .loc) (entry-is r a);
           ascending = λ r a. rw (entry-is r a) (list-of (listAt s r) (list-small s m r (allocated-small r a)) .ascending);

@@ -5,12 +5,14 @@ use mathlib.Core.List.{List, [], _∷_}
 use mathlib.Core.Logic.{_⊎_}
 use mathlib.Core.Path.{_≡_}
 use Rattle.base.specs.Bits.{wordOf}
+use Rattle.disklayout.specs.Blocks.{NodeBlockAddr}
+use Rattle.disklayout.specs.Device.{deviceOf}
 use Rattle.sectortype.specs.Form.{entryAt, succAt, tableForm}
 use Rattle.sectortype.specs.Graph.{allocatedIn, hasSucc, locatedIn}
 use Rattle.sectortype.specs.declared.Succs.{Succs}
 use Rattle.sectortype.specs.declared.Table.{Table}
 use Rattle.smalltable.specs.Numbers.{sets, smallTables}
-use Rattle.smalltable.specs.Tables.{smallLoc, smallTable}
+use Rattle.smalltable.specs.Tables.{smallTable}
 use Rattle.smalltable.specs.declared.Sets.{Sets}
 
 -- strictly, so that no reference stands twice
@@ -24,7 +26,7 @@ pub record SmallTable (d : ℕ) (t : Table) : Type 0 where
   pub root : allocatedIn t 0 ≡ true
   pub small : (r : ℕ) → allocatedIn t r ≡ true → r < 3
   pub located : (r : ℕ) → allocatedIn t r ≡ true → locatedIn t r ≡ true
-  pub placed : (r : ℕ) → allocatedIn t r ≡ true → entryAt t r .loc ≡ smallLoc d r
+  pub placed : (r : ℕ) → allocatedIn t r ≡ true → entryAt t r .loc ≡ record { addr = NodeBlockAddr (deviceOf d) r; len = 4096 }
   pub ascending : (r : ℕ) → allocatedIn t r ≡ true → Ascending (entryAt t r .succs)
   pub within : (r q : ℕ) → allocatedIn t r ≡ true → hasSucc (entryAt t r .succs) q ≡ true → allocatedIn t q ≡ true
 
