@@ -1,5 +1,5 @@
-# smalltables.py: what document 02 (Q-13) says that the program smalltables prints. It tries every allocated set and every three lists, in 02's order, and keeps
-# those that 02 allows. From the top: python3 examples/smalltables.py > crates/smalltables/stdout
+# smalltables.py: what document 02 (Q-13) says that the program smalltables prints. It tries every allocated set and every three lists, in
+# 02's order, and keeps those that 02 allows. From the top: python3 examples/smalltables.py > crates/smalltables/stdout
 FIRST,SIZE=262144,65536  # device 0: its first node address, and how long a block is
 
 def members(s): return [r for r in range(3) if s>>r&1]

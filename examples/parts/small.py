@@ -1,5 +1,5 @@
-# Small tables (Q-13): the example's script, and the rows of `table=small/K`. The tables are written out by hand from document 02's order: the sets {0}, {0,1},
-# {0,2} and {0,1,2} begin at 0, 2, 18 and 34, and the list of 0 changes slowest.
+# Small tables (Q-13): the example's script, and the rows of `table=small/K`. The tables are written out by hand from document 02's order:
+# the sets {0}, {0,1}, {0,2} and {0,1,2} begin at 0, 2, 18 and 34, and the list of 0 changes slowest.
 from parts.lines import *
 # each device's two table areas, its first node address and how long a block is
 DEVICES=[(73728,139264,262144,65536),(270336,532480,917504,131072),(1056768,2105344,4194304,1048576)]
@@ -18,12 +18,12 @@ def answer(k,n,id=1): a('step=9 d=RespReadIndirectionTableOp id=%d table=small/%
 
 # THE EXAMPLE
 def small():
-    xa('A new device: its root stands alone and lists nothing, and lies in block 0. That is small table 0.','format device=0 contents=100',0)
+    xa('A new device: its root stands alone in block 0 and lists nothing. That is small table 0.','format device=0 contents=100',0)
     xa('A crash leaves another graph in area 2: references 0 and 2, of which 2 lists both.',
        'step=18 v=CrashOp table2=139264+4096/0@262144+4096:;2@393216+4096:0,2 block=2:393216+4096/72:0,2',0)
     xa('The box is started there ..','step=10 v=SendPersistentLocOp vloc='+AREA2,0)
     xa('.. and asks for the table.','step=8 d=ReqReadIndirectionTableOp id=1 loc='+AREA2,0)
-    xa('9: past the last number stands the empty table, and no cache loads that.','step=9 d=RespReadIndirectionTableOp id=1 table=small/546',9)
+    xa('9: past the last number is the empty table, which no cache loads.','step=9 d=RespReadIndirectionTableOp id=1 table=small/546',9)
     xa('17: the cache would load small table 20, but another one is stored.','step=9 d=RespReadIndirectionTableOp id=1 table=small/20',17)
     xa('Small table 21 is the one that is stored, and it is loaded.','step=9 d=RespReadIndirectionTableOp id=1 table=small/21',0)
     x('References 0 and 2 are in use, in blocks 0 and 2; block 1 is free.','show',*shown([(0,''),(2,'0,2')]))
@@ -90,7 +90,7 @@ def small_stored():
         stored(d,36,[(0,''),(1,''),(2,'1')])
         stored(d,42,[(0,''),(1,'0'),(2,'')])
         stored(d,97,[(0,''),(1,'0,1,2'),(2,'0,1,2')])
-    c(b'Small tables whose root lists something: the last of each set, and one at which the list of 0 has changed and those of 1 and 2 begin anew.')
+    c(b'Small tables whose root lists something: the last of each set, and one at which the list of 0 has just changed.')
     rooted(1,[(0,'0')])
     rooted(17,[(0,'0,1'),(1,'0,1')])
     rooted(33,[(0,'0,2'),(2,'0,2')])
@@ -103,11 +103,14 @@ def small_words():
     a('step=18 v=CrashOp table=small/7',0)
     c(b'What is not of the form.')
     for s in [
-        'small','small/','small/00','small/01','small/0x1','small/-1','small/+1','small/1x','small/1.','small/1.0','small/ 1','small/1:','small/1:0','small/1;1:','small/1,2','small/1/',
-        'small//1','small/1/2','small=1','small1','small:1','Small/1','SMALL/1','smalls/1','/1','/small/1','smal/1','small/18446744073709551616','small/99999999999999999999',
-        'small/1 table=small/1','small/1 table=none','0:;small/1','empty/1','stored/1'
+        'small','small/','small/00','small/01','small/0x1','small/-1','small/+1','small/1x','small/1.','small/1.0','small/ 1','small/1:',
+        'small/1:0','small/1;1:','small/1,2','small/1/','small//1','small/1/2','small=1','small1','small:1','Small/1','SMALL/1','smalls/1',
+        '/1','/small/1','smal/1','small/18446744073709551616','small/99999999999999999999','small/1 table=small/1',
+        'small/1 table=none','0:;small/1','empty/1','stored/1'
     ]: e('step=14 table='+s)
-    for s in ['node=small/1','table1=73728+4096/small/0','table2=139264+4096/small/0','table1=small/0','block=0:262144+4096/small/0']: e('step=18 v=CrashOp '+s)
+    for s in [
+        'node=small/1','table1=73728+4096/small/0','table2=139264+4096/small/0','table1=small/0','block=0:262144+4096/small/0'
+    ]: e('step=18 v=CrashOp '+s)
     e('step=14 small=1'); e('small/1'); e('step=small/1')
     l('audit','place=%s %s'%(AREA1,OK))
     c(b'')

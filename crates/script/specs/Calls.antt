@@ -74,7 +74,7 @@ storedTable d s id =
 abbrev pub cacheTable : Bool → Table → BroughtTable
 cacheTable present t = someTable (cond present t emptyTable)
 
--- by where the table comes from: t is the one written out; a cache that is not Ready has no tables; a small table is the device's, the empty one past 545
+-- by where the table comes from: t is the one written out; a cache that is not Ready has no tables; past 545 a small table is the empty one
 abbrev pub tableValue : TableSource → Table → ℕ → ℕ → CacheState → DiskState → BroughtTable
 tableValue table.Nothing t id d c s = nothingTable
 tableValue table.Written t id d c s = someTable t

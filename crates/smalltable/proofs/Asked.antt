@@ -1,5 +1,5 @@
--- The premises of the two loads are met by the call before: after an accepted step 8, which asks for the table of a place, the cache awaits the read, and the disk
--- has it queued there. So a small table that is stored is loaded when it is asked for. Assumes nothing.
+-- What a load asks for is there after an accepted step 8, which asks for the table of a place: the cache awaits the read, and the disk has
+-- it queued. So a small table that is stored is loaded when it is asked for. Assumes nothing.
 use Prim.Native.Nat.{ℕ}
 use mathlib.Core.Option.{some}
 use mathlib.Core.Path.{_∙_, _≡_, ap, refl, sym}
@@ -61,7 +61,8 @@ module _ (d : ℕ) (c : CacheState) (s : DiskState) (i : ℕ) (l : Location) (r 
   pub asked-awaits : Awaits (settingsOf d disk) cache i r n
   unfolding stepOf steps
   asked-awaits =
-      let k = simp (not-iff, and-iff, or-iff, eqb-iff) at (zero-iff (cacheRows (settingsOf d s) c 8 q) (rows-ascending (settingsOf d s) c 8 q) .0 accepted) in
+      let z = zero-iff (cacheRows (settingsOf d s) c 8 q) (rows-ascending (settingsOf d s) c 8 q) .0 accepted in
+      let k = simp (not-iff, and-iff, or-iff, eqb-iff) at z in
       let f = k .0 .0 in
       rw (disk-is, joined-cache d 8 q o c s e)
       (record {

@@ -1,4 +1,4 @@
--- A small table on a device 0 to 2 is upstream's `WFCompleteIndirectionTable`, and no two of its references have one address. Assumes nothing.
+-- A small table on a device 0 to 2 is upstream's `WFCompleteIndirectionTable`, and no two references have one address. Assumes nothing.
 use Prim.Native.Nat.{ℕ}
 use mathlib.Core.Bool.{Bool, _||_, not, true}
 use mathlib.Core.Path.{_∙_, _≡_, ap, refl, sym}
@@ -17,8 +17,8 @@ use Rattle.sectortype.proofs.Forms.{located-allocated}
 use Rattle.sectortype.proofs.Graphs.{distinct-iff, each-succ-iff}
 use Rattle.sectortype.proofs.Maps.{locs-some}
 use Rattle.sectortype.specs.Form.{entryAt}
-use Rattle.sectortype.specs.Graph.{DistinctAddrs, GraphClosed, LocsComplete, LocsInGraph, LocsValid, WFCompleteIndirectionTable, WFIndirectionTable}
-use Rattle.sectortype.specs.Graph.{allocatedIn, closedAt, locOk, locatedIn, within}
+use Rattle.sectortype.specs.Graph.{DistinctAddrs, GraphClosed, LocsComplete, LocsInGraph, LocsValid}
+use Rattle.sectortype.specs.Graph.{WFCompleteIndirectionTable, WFIndirectionTable, allocatedIn, closedAt, locOk, locatedIn, within}
 use Rattle.sectortype.specs.declared.Table.{Table}
 use Rattle.smalltable.specs.SmallTable.{SmallTable}
 
@@ -59,7 +59,9 @@ module _ (d : ℕ) (on : made d ≡ true) where
     unfolding GraphClosed within
     closed =
         all-of (closedAt t) 64
-        (λ r b. split (allocatedIn t r) (λ a. rw a (each-succ-iff (entryAt t r .succs) (allocatedIn t) .1 (λ q n. m .within r q a n))) (λ a. rw a))
+        (λ r b. split (allocatedIn t r)
+        (λ a. rw a (each-succ-iff (entryAt t r .succs) (allocatedIn t) .1 (λ q n. m .within r q a n)))
+        (λ a. rw a))
 
     pub small-complete : WFCompleteIndirectionTable d t ≡ true
     unfolding WFCompleteIndirectionTable WFIndirectionTable

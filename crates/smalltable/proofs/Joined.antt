@@ -49,7 +49,9 @@ module _ (d : ℕ) (s : DiskState) (i r : ℕ) (n : Node) (t : Table) (m : Small
         (λ e. let k = a .0 e in
             let h = b .0 (k .rows) in
             let x = table-is-iff d (s .records) (k .disk .on) (k .disk .form) asked t (m .form) .0 (not-iff _ .0 (h .right)) in
-            (k .node, record { form = disk-form-iff d s .1 (k .disk); place = asked; queued = places-at reading i (h .there); stored = x })),
+            let u : StoredUnder d s i t =
+            record { form = disk-form-iff d s .1 (k .disk); place = asked; queued = places-at reading i (h .there); stored = x } in
+            (k .node, u)),
         (λ (f, u). let g = disk-form-iff d s .0 (u .form) in
             let there : hasOf reading i ≡ true = sym (places-has reading i) ∙ ap isSome (u .queued) in
             let e : some asked ≡ some (u .place) = sym (places-at reading i there) ∙ u .queued in
@@ -88,7 +90,12 @@ module _ (d : ℕ) (c : CacheState) (s : DiskState) (i r : ℕ) (n : Node) (o : 
   -- so does every number's, on every device and under either rule
   pub every-small-loads-joined : (k : ℕ) → k < smallTables → Awaits (settingsOf d s) c i r n → StoredUnder d s i (smallTable d k .table) →
       joined d 9 (brings i r n (smallTable d k .table)) o c s
-      ≡ record { answer = 0; node = zeroNode; cache = readyWith d (c .places .persistent) (smallTable d k .table); disk = answeredUnder s i }
+      ≡ record {
+        answer = 0;
+        node = zeroNode;
+        cache = readyWith d (c .places .persistent) (smallTable d k .table);
+        disk = answeredUnder s i;
+      }
   every-small-loads-joined k h w u =
       let on = and-iff (made d) (isRule (s .rule)) .0 (w .settings) .0 in
       small-loads-joined (smallTable d k .table) (number-small d on k h) w u

@@ -1,5 +1,5 @@
--- A set of references 0 to 2 and its ascending list decide each other. Two tests that are computed, over the 8 sets and over the 108 lists of up to three
--- references 0 to 2, and what they say. Assumes nothing.
+-- A set of references 0 to 2 and its ascending list decide each other. Two tests that are computed, over the 8 sets and over the 108 lists
+-- of up to three references 0 to 2, and what they say. Assumes nothing.
 use Prim.Native.Nat.{_+_, _<_, _≤_, suc, zero, ℕ}
 use mathlib.Core.Bool.{Bool, _&&_, _||_, not, true}
 use mathlib.Core.List.{_∷_}
@@ -57,7 +57,9 @@ list-of l h =
     record {
       form = f;
       ascending = λ k c. omega (arith, (simp tests at (all-at (ascendsAt (listOf l)) 8 k (e .0 .0 .1) (omega arith))) c);
-      names = λ q m. (simp (or-true-iff, not-iff, and-iff, ltb-iff) at (all-at (namesAt l) 64 q (e .0 .1) (has-succ-bounded (listOf l) q f m))) m;
+      names = λ q m.
+          let t = all-at (namesAt l) 64 q (e .0 .1) (has-succ-bounded (listOf l) q f m) in
+          (simp (or-true-iff, not-iff, and-iff, ltb-iff) at t) m;
       back = e .1;
     }
 
@@ -82,7 +84,17 @@ threeTest n a b c =
     not (succsForm (three n a b c) && (leb n 1 || ltb a b) && (leb n 2 || ltb b c))
     || sameSuccs (three n a b c) (listOf (setOf (three n a b c)))
 
-threes-pass : allBelow (λ n. allBelow (λ a. allBelow (λ b. allBelow (threeTest n a b) 3) 3) 3) 4 ≡ true
+-- for each third, second and first reference
+abbrev thirds : ℕ → ℕ → ℕ → Bool
+thirds n a b = allBelow (threeTest n a b) 3
+
+abbrev seconds : ℕ → ℕ → Bool
+seconds n a = allBelow (thirds n a) 3
+
+abbrev firsts : ℕ → Bool
+firsts n = allBelow (seconds n) 3
+
+threes-pass : allBelow firsts 4 ≡ true
 unfolding allBelow someBelow wordOf listOf listedIf succsForm hasSucc sameSuccs
 threes-pass = refl
 
@@ -117,9 +129,9 @@ module _ (s : Succs) (f : succsForm s ≡ true) (up : Ascending s) (small : (q :
       let a = succAt s 0 in
       let b = succAt s 1 in
       let c = succAt s 2 in
-      let e0 = all-at (λ n. allBelow (λ a. allBelow (λ b. allBelow (threeTest n a b) 3) 3) 3) 4 n threes-pass count-small in
-      let e1 = all-at (λ a. allBelow (λ b. allBelow (threeTest n a b) 3) 3) 3 a e0 (place-small 0 (omega arith)) in
-      let e2 = all-at (λ b. allBelow (threeTest n a b) 3) 3 b e1 (place-small 1 (omega arith)) in
+      let e0 = all-at firsts 4 n threes-pass count-small in
+      let e1 = all-at (seconds n) 3 a e0 (place-small 0 (omega arith)) in
+      let e2 = all-at (thirds n a) 3 b e1 (place-small 1 (omega arith)) in
       let e3 = all-at (threeTest n a b) 3 c e2 (place-small 2 (omega arith)) in
       let w : succsForm (three n a b c) ≡ true = subst (λ x. succsForm x ≡ true) is-three f in
       let g : (leb n 1 || ltb a b) ≡ true = or-true-iff (leb n 1) (ltb a b) .1 (λ t. lt-ltb a b (up 0 (omega (arith, leb-false n 1 t)))) in

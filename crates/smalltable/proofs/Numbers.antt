@@ -1,5 +1,5 @@
--- Numbers and sets: a greater number's sets come later, each number below 546 has good sets, and each good four sets have one number. Three tests that are
--- computed over all numbers and all sets, and what they say. Assumes nothing.
+-- Numbers and sets: a greater number's sets come later, each number below 546 has good sets, and each good four sets have one number. Three
+-- tests that are computed over all numbers and all sets, and what they say. Assumes nothing.
 use Prim.Native.Nat.{_%_, _*_, _+_, _-_, _/_, _<_, suc, zero, ℕ}
 use mathlib.Core.Bool.{Bool, _&&_, _||_, cond, false, false≢true, not, true}
 use mathlib.Core.List.{List, [], _∷_}
@@ -52,9 +52,11 @@ before-true (x ∷ xs) (y ∷ ys) e =
 pub sets-in-order : (m n : ℕ) → m < n → n < smallTables → Before (inOrder (smallSets m)) (inOrder (smallSets n))
 sets-in-order m zero l h = absurd (not-suc-le-zero l)
 sets-in-order m (suc n) l h =
-    let next = before-true (inOrder (smallSets n)) (inOrder (smallSets (suc n))) (all-at orderTest (smallTables - 1) n order-passes (omega arith)) in
+    let first = inOrder (smallSets m) in
+    let last = inOrder (smallSets n) in
+    let next = before-true last (inOrder (smallSets (suc n))) (all-at orderTest (smallTables - 1) n order-passes (omega arith)) in
     below-or-last m n l
-    (λ b. before-trans (inOrder (smallSets m)) (inOrder (smallSets n)) (inOrder (smallSets (suc n))) (sets-in-order m n b (omega arith)) next)
+    (λ b. before-trans first last (inOrder (smallSets (suc n))) (sets-in-order m n b (omega arith)) next)
     (λ e. rw e next)
 
 -- WHICH FOUR SETS ARE A SMALL TABLE'S
@@ -108,7 +110,17 @@ sameSets s t = eqb (s .allocated) (t .allocated) && eqb (s .list0) (t .list0) &&
 abbrev setsTest : Sets → Bool
 setsTest s = not (goodSets s) || (ltb (numberOf s) smallTables && sameSets (smallSets (numberOf s)) s)
 
-sets-pass : allBelow (λ s. allBelow (λ a. allBelow (λ b. allBelow (λ c. setsTest (sets s a b c)) 8) 8) 8) 8 ≡ true
+-- for each list of 2, of 1, of 0
+abbrev lists2 : ℕ → ℕ → ℕ → Bool
+lists2 s a b = allBelow (λ c. setsTest (sets s a b c)) 8
+
+abbrev lists1 : ℕ → ℕ → Bool
+lists1 s a = allBelow (lists2 s a) 8
+
+abbrev lists0 : ℕ → Bool
+lists0 s = allBelow (lists1 s) 8
+
+sets-pass : allBelow lists0 8 ≡ true
 unfolding allBelow goodSets smallSets numberOf
 sets-pass = refl
 
@@ -127,9 +139,9 @@ number-sets n h =
 
 pub sets-number : (s : Sets) → Small s → goodSets s ≡ true → (numberOf s < smallTables) × (smallSets (numberOf s) ≡ s)
 sets-number s m g =
-    let e0 = all-at (λ x. allBelow (λ a. allBelow (λ b. allBelow (λ c. setsTest (sets x a b c)) 8) 8) 8) 8 (s .allocated) sets-pass (m .allocated) in
-    let e1 = all-at (λ a. allBelow (λ b. allBelow (λ c. setsTest (sets (s .allocated) a b c)) 8) 8) 8 (s .list0) e0 (m .list0) in
-    let e2 = all-at (λ b. allBelow (λ c. setsTest (sets (s .allocated) (s .list0) b c)) 8) 8 (s .list1) e1 (m .list1) in
+    let e0 = all-at lists0 8 (s .allocated) sets-pass (m .allocated) in
+    let e1 = all-at (lists1 (s .allocated)) 8 (s .list0) e0 (m .list0) in
+    let e2 = all-at (lists2 (s .allocated) (s .list0)) 8 (s .list1) e1 (m .list1) in
     let e3 = all-at (λ c. setsTest (sets (s .allocated) (s .list0) (s .list1) c)) 8 (s .list2) e2 (m .list2) in
     let h = (simp tests at e3) g in
     let x = h .1 in

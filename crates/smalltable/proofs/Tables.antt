@@ -12,7 +12,8 @@ use Rattle.base.specs.Bits.{digitAt, wordOf}
 use Rattle.base.specs.Maps.{isSome}
 use Rattle.base.specs.Scan.{allBelow, someBelow}
 use Rattle.sectortype.proofs.Equal.{entry-absent}
-use Rattle.sectortype.proofs.Forms.{empty-table-form, entry-at-form, entry-succs, entry-with, table-of-entries, with-entry-form, zero-entry-form}
+use Rattle.sectortype.proofs.Forms.{empty-table-form, entry-at-form, entry-succs, entry-with}
+use Rattle.sectortype.proofs.Forms.{table-of-entries, with-entry-form, zero-entry-form}
 use Rattle.sectortype.proofs.Maps.{empty-graph, in-graph}
 use Rattle.sectortype.specs.Form.{emptyTable, entryAt, entryForm, tableForm, withEntry, zeroEntry, zeroSuccs}
 use Rattle.sectortype.specs.Graph.{allocatedIn, hasSucc}
@@ -22,7 +23,7 @@ use Rattle.smalltable.proofs.Lists.{empty-list, empty-set, list-back, l
 use Rattle.smalltable.proofs.Numbers.{Small, goodSets, listOk, subsetOf}
 use Rattle.smalltable.specs.Numbers.{listAt}
 use Rattle.smalltable.specs.SmallTable.{SmallTable, listSet, setsOf}
-use Rattle.smalltable.specs.Tables.{entryOf, listOf, smallEntry, smallLoc, tableOf}
+use Rattle.smalltable.specs.Tables.{entryIn, listOf, smallEntry, smallLoc, tableOf}
 use Rattle.smalltable.specs.declared.Sets.{Sets}
 
 -- below 3: 0, 1 or 2
@@ -69,7 +70,7 @@ module _ (d : ℕ) (s : Sets) (m : Small s) where
   T = tableOf d s
 
   abbrev E : ℕ → Entry
-  E r = entryOf d s r
+  E r = entryIn d s r
 
   formed : (r : ℕ) → r < 3 → entryForm (E r) ≡ true
   formed r h = entry-form d _ (listAt s r) _ (list-small s m r h)
@@ -87,8 +88,9 @@ module _ (d : ℕ) (s : Sets) (m : Small s) where
   entry-any : (j : ℕ) → entryAt T j ≡ cond (eqb j 2) (E 2) (cond (eqb j 1) (E 1) (cond (eqb j 0) (E 0) (entryAt emptyTable j)))
   unfolding tableOf
   entry-any j =
-      entry-with _ 2 (E 2) j form1 (omega arith)
-      ∙ rw (entry-with (withEntry emptyTable 0 (E 0)) 1 (E 1) j form0 (omega arith), entry-with emptyTable 0 (E 0) j empty-table-form (omega arith))
+      let first = entry-with emptyTable 0 (E 0) j empty-table-form (omega arith) in
+      let second = entry-with (withEntry emptyTable 0 (E 0)) 1 (E 1) j form0 (omega arith) in
+      entry-with _ 2 (E 2) j form1 (omega arith) ∙ rw (second, first)
 
   entry-at : (r : ℕ) → r < 3 → entryAt T r ≡ E r
   entry-at = below-three (λ r. entryAt T r ≡ E r) (entry-any 0) (entry-any 1) (entry-any 2)
@@ -210,7 +212,7 @@ module _ (d : ℕ) (t : Table) (m : SmallTable d t) where
       empty : (r : ℕ) → r < 3 → (digitAt (S .allocated) r || eqb (listAt S r) 0) ≡ true
       empty r h = or-true-iff (digitAt (S .allocated) r) (eqb (listAt S r) 0) .1 (λ a. eq-eqb _ _ (no-list r h (sym (in-set r h) ∙ a)))
 
-  entry-back : (r : ℕ) → r < 3 → entryOf d S r ≡ entryAt t r
+  entry-back : (r : ℕ) → r < 3 → entryIn d S r ≡ entryAt t r
   entry-back r h =
       split (allocatedIn t r)
       (λ a. entry-used d (digitAt (S .allocated) r) (listAt S r) r (in-set r h ∙ a) ∙ whole a)

@@ -29,7 +29,7 @@ use Rattle.sectortype.specs.declared.Table.{Table}
 abbrev pub brings : ℕ → ℕ → Node → Table → Call
 brings i r n t = record { reference = r; vop = StatesInternalOp; dop = RespReadIndirectionTableOp i Something; node = n; table = t }
 
--- the cache is in its written form on a device 0 to 2 under rule 1 or 2, Loading, and awaits id i; the reference and the node are within the limits
+-- device 0 to 2, rule 1 or 2; the cache is in its written form, Loading, and awaits id i; reference and node are within the limits
 pub record Awaits (g : Settings) (c : CacheState) (i r : ℕ) (n : Node) : Type 0 where
   pub settings : settingsForm g ≡ true
   pub cache : cacheForm (g .device) c ≡ true
@@ -51,8 +51,8 @@ pub record StoredUnder (d : ℕ) (s : DiskState) (i : ℕ) (t : Table) : Type 0 
 abbrev pub loadedTables : Table → Tables
 loadedTables t = record { persistent = t; ephemeral = t; isfrozen = false; frozen = emptyTable }
 
--- Ready, with the table loaded from place l as persistent and ephemeral table; nothing frozen, awaited, outstanding or cached; marks as the table has them,
--- and the last block as the one given last
+-- Ready, with the table loaded from place l as persistent and ephemeral table; nothing frozen, awaited, outstanding or cached; the marks
+-- are the table's, and the last block counts as the one given last
 abbrev pub readyWith : ℕ → Location → Table → CacheState
 readyWith d l t =
     record {

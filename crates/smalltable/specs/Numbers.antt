@@ -1,5 +1,5 @@
--- Document 02, Q-13: the sets of a number. The numbers go by the allocated set, then by the lists of 0, 1 and 2, all ascending. A reference that is not
--- allocated has the empty list, 0.
+-- Document 02, Q-13: the four sets of a number. The numbers go by the allocated set, then by the lists of 0, 1 and 2, all ascending. A
+-- reference that is not allocated has the empty list, 0.
 use Prim.Native.Nat.{ℕ, _+_, _-_, _*_, _/_, _%_}
 use mathlib.Core.Bool.{cond}
 use lib.Dec.{eqb, ltb}

@@ -1,4 +1,4 @@
--- Document 02, Q-13: what a complete table on references 0 to 2 is, and what it is for one to come before another. Neither speaks of numbers.
+-- Document 02, Q-13: what a complete table on references 0 to 2 is, when one comes before another, and what it is for one to have a number.
 use Prim.Native.Nat.{ℕ, _+_, _<_}
 use mathlib.Core.Bool.{true}
 use mathlib.Core.List.{List, [], _∷_}
@@ -19,8 +19,8 @@ use Rattle.smalltable.specs.declared.Sets.{Sets}
 abbrev pub Ascending : Succs → Type 0
 Ascending s = (k : ℕ) → k + 1 < s .count → succAt s k < succAt s (k + 1)
 
--- in its written form: the root is allocated, and nothing above 2; each allocated reference has its location, block r at length 4,096; its list ascends,
--- and has allocated references alone
+-- in its written form; the root is allocated, and nothing above 2; each allocated reference r is located, in block r at length 4,096; its
+-- list ascends and has allocated references alone. The numbering isn't spoken of
 pub record SmallTable (d : ℕ) (t : Table) : Type 0 where
   pub form : tableForm t ≡ true
   pub root : allocatedIn t 0 ≡ true

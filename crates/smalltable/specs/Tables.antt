@@ -31,11 +31,11 @@ smallLoc d r = record { addr = NodeBlockAddr (deviceOf d) r; len = 4096 }
 unfoldable pub smallEntry : ℕ → Bool → ℕ → ℕ → Entry
 smallEntry d used l r = cond used (record { allocated = true; located = true; loc = smallLoc d r; succs = listOf l }) zeroEntry
 
-abbrev pub entryOf : ℕ → Sets → ℕ → Entry
-entryOf d s r = smallEntry d (digitAt (s .allocated) r) (listAt s r) r
+abbrev pub entryIn : ℕ → Sets → ℕ → Entry
+entryIn d s r = smallEntry d (digitAt (s .allocated) r) (listAt s r) r
 
 unfoldable pub tableOf : ℕ → Sets → Table
-tableOf d s = withEntry (withEntry (withEntry emptyTable 0 (entryOf d s 0)) 1 (entryOf d s 1)) 2 (entryOf d s 2)
+tableOf d s = withEntry (withEntry (withEntry emptyTable 0 (entryIn d s 0)) 1 (entryIn d s 1)) 2 (entryIn d s 2)
 
 -- THE CALL
 

@@ -20,7 +20,8 @@ table-small-requires c κs = search needs
 returns : tie.Need-returns
 unfolding tableTextOf
 returns c =
-    simp (sym (c .before .before .before .starts .ensures) ∙ c .before .before .if1 .taken) (rw (c .before .after .ensures .0) at (c .table-small .ensures))
+    let named = sym (c .before .before .before .starts .ensures) ∙ c .before .before .if1 .taken in
+    simp named (rw (c .before .after .ensures .0) at (c .table-small .ensures))
 
 table-written-requires : tie.Need-table-written-requires
 table-written-requires c κs = search needs
