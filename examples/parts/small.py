@@ -75,7 +75,7 @@ def small_stored():
         asked(d,0)
         answer(1,17); answer(546,9)
         c(b'Let go goes by what is stored too.')
-        a('step=19 d=RespReadIndirectionTableOp id=1 table=small/1',17)
+        for k in (1,546): a('step=19 d=RespReadIndirectionTableOp id=1 table=small/%d'%k,17)
         a('step=19 d=RespReadIndirectionTableOp id=1 table=small/0',0)
         a('step=8 d=ReqReadIndirectionTableOp id=1 loc='+area(d,0),0)
         answer(0,0)

@@ -20,7 +20,7 @@ pub fn small_tables() -> u64
     TABLES
 }
 
-// Set j of those of references 0 and 2.
+// Set j of the four sets of references 0 and 2.
 fn zero_two(j: u64) -> u64
     requires { ⌜ j < 4 ⌝ }
     ensures { λ r. ⌜ r ≡ zeroTwo j ⌝ }

@@ -10,7 +10,7 @@ pub fn number(n: u64) {
     io::print_decimal(STDOUT_FILENO, n);
 }
 
-// A word with a number: the key, `=` and all, and the digits.
+// A text, as a key with its `=`, and a number behind it.
 pub fn word(key: &[u8], n: u64) {
     text(key);
     number(n);

@@ -1,5 +1,5 @@
--- What a load asks for is there after an accepted step 8, which asks for the table of a place: the cache awaits the read, and the disk has
--- it queued. So a small table that is stored is loaded when it is asked for. Assumes nothing.
+-- After an accepted step 8, which asks for the table of a place, the cache awaits the read, and the disk has it queued. So a small table
+-- that is stored is loaded when it is asked for. Assumes nothing.
 use Prim.Native.Nat.{ℕ}
 use mathlib.Core.Option.{some}
 use mathlib.Core.Path.{_∙_, _≡_, ap, refl, sym}
@@ -90,6 +90,6 @@ module _ (d : ℕ) (c : CacheState) (s : DiskState) (i : ℕ) (l : Location) (r 
       })
 
   -- so the next step 9 that brings the small table which is stored there is accepted
-  pub asked-loads : (t : Table) → SmallTable d t → tablesStored d (s .records) l ≡ some t → (o : Records) →
-      joinedAnswer d 9 (brings i r n t) o cache disk ≡ 0
-  asked-loads t m h o = joined-iff d cache disk i r n o t m .1 (asked-awaits, asked-stored t h)
+  pub asked-loads : (t : Table) → SmallTable d t → tablesStored d (s .records) l ≡ some t → (p : Records) →
+      joinedAnswer d 9 (brings i r n t) p cache disk ≡ 0
+  asked-loads t m h p = joined-iff d cache disk i r n p t m .1 (asked-awaits, asked-stored t h)

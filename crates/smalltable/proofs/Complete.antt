@@ -22,7 +22,7 @@ use Rattle.sectortype.specs.Graph.{WFCompleteIndirectionTable, WFIndirectionTab
 use Rattle.sectortype.specs.declared.Table.{Table}
 use Rattle.smalltable.specs.SmallTable.{SmallTable}
 
--- a block of each device holds 4,096 bytes
+-- a block of each device holds at least 4,096 bytes
 abbrev wide : ℕ → Bool
 wide d = leb 4096 (NodeBlockSize (deviceOf d))
 

@@ -87,7 +87,7 @@ module _ (d : ℕ) (c : CacheState) (s : DiskState) (i r : ℕ) (n : Node) (o : 
           let disk = joined-disk d 9 q o c s accepted ∙ disk-next d 9 q o s refl right in
           λ j. record { answer = accepted j; node = node j; cache = cache j; disk = disk j }
 
-  -- so does every number's, on every device and under either rule
+  -- so it accepts the table of every number, on every device and under either rule
   pub every-small-loads-joined : (k : ℕ) → k < smallTables → Awaits (settingsOf d s) c i r n → StoredUnder d s i (smallTable d k .table) →
       joined d 9 (brings i r n (smallTable d k .table)) o c s
       ≡ record {

@@ -7,3 +7,4 @@ pub mod Loading
 pub mod Numbering
 pub mod Numbers
 pub mod Tables
+pub mod Witness

@@ -21,12 +21,9 @@ use Rattle.sectortype.specs.Form.{succAt, succsForm, zeroSuccs}
 use Rattle.sectortype.specs.Graph.{hasSucc}
 use Rattle.sectortype.specs.Same.{sameSuccs}
 use Rattle.sectortype.specs.declared.Succs.{Succs}
+use Rattle.smalltable.specs.Order.{setOf}
 use Rattle.smalltable.specs.SmallTable.{Ascending}
 use Rattle.smalltable.specs.Tables.{listOf, listedIf}
-
--- a list as a set
-abbrev pub setOf : Succs → ℕ
-setOf s = wordOf (hasSucc s) 3
 
 -- THE LIST OF A SET
 

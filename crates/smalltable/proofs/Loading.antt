@@ -33,7 +33,7 @@ use Rattle.smalltable.specs.Numbers.{smallTables}
 use Rattle.smalltable.specs.SmallTable.{SmallTable}
 use Rattle.smalltable.specs.Tables.{smallTable}
 
--- which phase it is
+-- the test passes for Loading alone
 pub is-loading : (p : Phase) → loadingPhase p ≡ true → p ≡ Loading
 is-loading Unready e = absurd (false≢true e)
 is-loading Loading e = refl
@@ -82,7 +82,7 @@ module _ (g : Settings) (c : CacheState) (i r : ℕ) (n : Node) (t : Table) (m :
 -- WHAT IT LEAVES
 
 -- a Loading cache that awaits id i: all but its place and this is zeros
-abbrev awaiting : Location → ℕ → CacheState
+abbrev pub awaiting : Location → ℕ → CacheState
 awaiting l i = withAwaited (loadingAt Loading l) (waitingFor i)
 
 pub awaiting-form : (d : ℕ) (l : Location) (i : ℕ) → cacheForm d (awaiting l i) ≡ true
@@ -119,7 +119,7 @@ module _ (g : Settings) (c : CacheState) (i r : ℕ) (n : Node) (w : Awaits g c 
   unfolding cacheStep
   small-loads t m = rw (accepted-iff g c i r n t m .1 w) (ap (λ x. record { answer = 0; node = zeroNode; cache = x }) (loaded-is t))
 
-  -- so does every number's, on every device and under either rule
+  -- so it accepts the table of every number, on every device and under either rule
   pub every-small-loads : (k : ℕ) → k < smallTables →
       cacheStep g c 9 (brings i r n (smallTable (g .device) k .table))
       ≡ record { answer = 0; node = zeroNode; cache = readyWith (g .device) at (smallTable (g .device) k .table) }

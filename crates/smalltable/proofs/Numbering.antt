@@ -12,8 +12,10 @@ use Rattle.sectortype.specs.Form.{emptyTable}
 use Rattle.sectortype.specs.declared.Table.{Table}
 use Rattle.smalltable.proofs.Numbers.{number-sets, numberOf, sets-in-order, sets-number}
 use Rattle.smalltable.proofs.Tables.{read-good, read-small, sets-back, sets-small, table-back}
+use Rattle.smalltable.specs.Numbering.{NumberedOnce}
 use Rattle.smalltable.specs.Numbers.{smallSets, smallTables}
-use Rattle.smalltable.specs.SmallTable.{Before, NumberedOnce, SmallTable, inOrder, setsOf}
+use Rattle.smalltable.specs.Order.{Before, inOrder, setsOf}
+use Rattle.smalltable.specs.SmallTable.{SmallTable}
 use Rattle.smalltable.specs.Tables.{isNumbered, smallTable, tableOf}
 
 -- 0 exactly for the devices 0 to 2 and the numbers 0 to 545
@@ -61,7 +63,7 @@ module _ (d : ℕ) (on : made d ≡ true) where
         only = λ n h e. sym (number-back n h) ∙ ap (λ x. numberOf (setsOf x)) e;
       }
 
-  -- a greater number's table comes later: by the allocated set, then by the lists of 0, 1 and 2
-  pub in-order : (m n : ℕ) → m < n → n < smallTables →
-      Before (inOrder (setsOf (smallTable d m .table))) (inOrder (setsOf (smallTable d n .table)))
-  in-order m n l h = rw (sets-are m (omega arith), sets-are n h) (sets-in-order m n l h)
+  -- the numbers are in the order of the tables: by the allocated set, then by the lists of 0, 1 and 2
+  pub in-order : (m n : ℕ) → m < smallTables → n < smallTables →
+      (m < n) ↔ Before (inOrder (setsOf (smallTable d m .table))) (inOrder (setsOf (smallTable d n .table)))
+  in-order m n g h = rw (sets-are m g, sets-are n h) (sets-in-order m n g h)

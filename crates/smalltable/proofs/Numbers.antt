@@ -1,20 +1,20 @@
 -- Numbers and sets: a greater number's sets come later, each number below 546 has good sets, and each good four sets have one number. Three
 -- tests that are computed over all numbers and all sets, and what they say. Assumes nothing.
-use Prim.Native.Nat.{_%_, _*_, _+_, _-_, _/_, _<_, suc, zero, ℕ}
+use Prim.Native.Nat.{_%_, _*_, _+_, _-_, _/_, _<_, _≤_, suc, zero, ℕ}
 use mathlib.Core.Bool.{Bool, _&&_, _||_, cond, false, false≢true, not, true}
 use mathlib.Core.List.{List, [], _∷_}
-use mathlib.Core.Logic.{inl, inr}
+use mathlib.Core.Logic.{_↔_, inl, inr}
 use mathlib.Core.Path.{_∙_, _≡_, refl}
 use native.Mathlib.Nat.{not-suc-le-zero}
 use native.Mathlib.Omega.{arith}
-use borrow.Author.Tests.{eqb-true, ltb-true}
+use borrow.Author.Tests.{eqb-true, ltb-false, ltb-true}
 use lib.Dec.{eqb, ltb}
 use Rattle.base.proofs.Scan.{all-at, below-or-last}
 use Rattle.base.proofs.Tests.{and-iff, split, tests}
 use Rattle.base.specs.Bits.{digitAt}
 use Rattle.base.specs.Scan.{allBelow}
 use Rattle.smalltable.specs.Numbers.{listAt, sets, smallSets, smallTables}
-use Rattle.smalltable.specs.SmallTable.{Before, inOrder}
+use Rattle.smalltable.specs.Order.{Before, inOrder}
 use Rattle.smalltable.specs.declared.Sets.{Sets}
 
 -- THE ORDER
@@ -45,19 +45,42 @@ before-true : (xs ys : List ℕ) → before xs ys ≡ true → Before xs ys
 before-true [] ys e = absurd (false≢true e)
 before-true (x ∷ xs) [] e = absurd (false≢true e)
 before-true (x ∷ xs) (y ∷ ys) e =
-    split (ltb x y) (λ t. inl (ltb-true x y t))
+    split (ltb x y) (λ t. inl (omega (arith, ltb-true x y t)))
     (λ t. let h = and-iff (eqb x y) (before xs ys) .0 (rw t at e) in inr (eqb-true x y (h .0), before-true xs ys (h .1)))
 
--- a greater number's sets come later
-pub sets-in-order : (m n : ℕ) → m < n → n < smallTables → Before (inOrder (smallSets m)) (inOrder (smallSets n))
-sets-in-order m zero l h = absurd (not-suc-le-zero l)
-sets-in-order m (suc n) l h =
+-- no two come before each other, so the order is strict
+before-once : (xs ys : List ℕ) → Before xs ys → Before ys xs → ⊥
+before-once [] ys p q = p
+before-once (x ∷ xs) [] p q = p
+before-once (x ∷ xs) (y ∷ ys) (inl a) (inl b) = omega arith
+before-once (x ∷ xs) (y ∷ ys) (inl a) (inr b) = let e : y ≡ x = b .0 in omega arith
+before-once (x ∷ xs) (y ∷ ys) (inr a) (inl b) = let e : x ≡ y = a .0 in omega arith
+before-once (x ∷ xs) (y ∷ ys) (inr a) (inr b) = before-once xs ys (a .1) (b .1)
+
+-- a greater number's sets come later ..
+sets-later : (m n : ℕ) → m < n → n < smallTables → Before (inOrder (smallSets m)) (inOrder (smallSets n))
+sets-later m zero l h = absurd (not-suc-le-zero l)
+sets-later m (suc n) l h =
     let first = inOrder (smallSets m) in
     let last = inOrder (smallSets n) in
     let next = before-true last (inOrder (smallSets (suc n))) (all-at orderTest (smallTables - 1) n order-passes (omega arith)) in
     below-or-last m n l
-    (λ b. before-trans first last (inOrder (smallSets (suc n))) (sets-in-order m n b (omega arith)) next)
+    (λ b. before-trans first last (inOrder (smallSets (suc n))) (sets-later m n b (omega arith)) next)
     (λ e. rw e next)
+
+-- .. and no other's
+sets-earlier : (m n : ℕ) → m < smallTables → Before (inOrder (smallSets m)) (inOrder (smallSets n)) → m < n
+sets-earlier m n g p =
+    split (ltb m n) (λ t. ltb-true m n t)
+    (λ t. absurd (before-once (inOrder (smallSets m)) (inOrder (smallSets n)) p (back (ltb-false m n t))))
+  where
+    back : n ≤ m → Before (inOrder (smallSets n)) (inOrder (smallSets m))
+    back l =
+        split (ltb n m) (λ u. sets-later n m (ltb-true n m u) g)
+        (λ u. let e : m ≡ n = omega (arith, ltb-false n m u) in rw e (rw e at p))
+
+pub sets-in-order : (m n : ℕ) → m < smallTables → n < smallTables → (m < n) ↔ Before (inOrder (smallSets m)) (inOrder (smallSets n))
+sets-in-order m n g h = ((λ l. sets-later m n l h), sets-earlier m n g)
 
 -- WHICH FOUR SETS ARE A SMALL TABLE'S
 

@@ -8,7 +8,7 @@ use lib.Dec.{eqb, ltb}
 use Rattle.base.proofs.Bits.{word-lt, word-of-digits, word-read, word-same}
 use Rattle.base.proofs.Scan.{all-at, all-of}
 use Rattle.base.proofs.Tests.{and-both, and-iff, clash, not-iff, or-true-iff, split}
-use Rattle.base.specs.Bits.{digitAt, wordOf}
+use Rattle.base.specs.Bits.{digitAt}
 use Rattle.base.specs.Maps.{isSome}
 use Rattle.base.specs.Scan.{allBelow, someBelow}
 use Rattle.sectortype.proofs.Equal.{entry-absent}
@@ -22,7 +22,8 @@ use Rattle.sectortype.specs.declared.Table.{Table}
 use Rattle.smalltable.proofs.Lists.{empty-list, empty-set, list-back, list-of}
 use Rattle.smalltable.proofs.Numbers.{Small, goodSets, listOk, subsetOf}
 use Rattle.smalltable.specs.Numbers.{listAt}
-use Rattle.smalltable.specs.SmallTable.{SmallTable, listSet, setsOf}
+use Rattle.smalltable.specs.Order.{listSet, setOf, setsOf}
+use Rattle.smalltable.specs.SmallTable.{SmallTable}
 use Rattle.smalltable.specs.Tables.{entryIn, listOf, smallEntry, smallLoc, tableOf}
 use Rattle.smalltable.specs.declared.Sets.{Sets}
 
@@ -190,7 +191,7 @@ module _ (d : ℕ) (t : Table) (m : SmallTable d t) where
   absent r b a = entry-absent (entryAt t r) (entry-at-form t (m .form) r b) a
 
   no-list : (r : ℕ) → r < 3 → allocatedIn t r ≡ false → listAt S r ≡ 0
-  no-list r h a = list-is r h ∙ ap (λ e. wordOf (hasSucc (e .succs)) 3) (absent r (omega arith) a) ∙ empty-set
+  no-list r h a = list-is r h ∙ ap (λ e. setOf (e .succs)) (absent r (omega arith) a) ∙ empty-set
 
   listed-in : (r q : ℕ) → r < 3 → hasSucc (entryAt t r .succs) q ≡ true → allocatedIn t q ≡ true
   listed-in r q h n =

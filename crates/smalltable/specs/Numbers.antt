@@ -16,7 +16,7 @@ sets s a b c = record { allocated = s; list0 = a; list1 = b; list2 = c }
 abbrev pub listAt : Sets → ℕ → ℕ
 listAt s r = cond (eqb r 0) (s .list0) (cond (eqb r 1) (s .list1) (s .list2))
 
--- the sets of references 0 and 2, by number: 0, 1, 4, 5
+-- set j of the four sets of references 0 and 2, which are 0, 1, 4, 5
 abbrev pub zeroTwo : ℕ → ℕ
 zeroTwo j = j % 2 + 4 * (j / 2)
 

@@ -2,8 +2,8 @@
 // types. What the calls answer is in specs/; that each of these tables has one number, and is accepted by the loader, is proved in proofs/.
 use sectortype::Table;
 
-// What a small table is told by: its allocated references, and the lists of references 0, 1 and 2. Each is a set of references 0 to 2, as a
-// number with bit r for reference r.
+// The four sets that determine a small table: its allocated references, and the lists of references 0, 1 and 2. Each is a set of references
+// 0 to 2, as a number with bit r for reference r.
 pub struct Sets {
     pub allocated: u64,
     pub list0: u64,

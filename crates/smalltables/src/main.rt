@@ -100,7 +100,7 @@ fn loading(settings: Settings) -> CacheState {
     asked.cache
 }
 
-// Whether it takes the table that the read brings.
+// Whether it accepts the table that the read brings.
 fn loads(settings: Settings, table: Table) -> bool {
     let state = loading(settings);
     let brings = DiskOp::RespReadIndirectionTableOp(ID, Brought::Something);
@@ -108,7 +108,7 @@ fn loads(settings: Settings, table: Table) -> bool {
     o.answer == 0
 }
 
-// 1 if number k's table is taken under either rule, else 0.
+// 1 if number k's table is accepted under both rules, else 0.
 fn taken(device: u64, k: u64) -> u64
     ensures { λ n. ⌜ n ≤ 1 ⌝ }
 {

@@ -3,7 +3,7 @@ use borrow.Author.Needs.{needs}
 use mathlib.Core.Path.{ap}
 use native.Mathlib.Omega.{arith}
 use Rattle.sectortype.specs.declared.Succs.{Succs}
-use Rattle.numbering.proofs.Arms.{grown}
+use Rattle.numbering.proofs.Counts.{grown}
 use Rattle.smalltable.specs.Tables.{listOf}
 use Rattle.numbering.proofs.list_of.Statement.{statement}
 use Rattle.numbering.proofs.list_of.Tie as tie

@@ -36,7 +36,26 @@ with-entry-requires-3 c κs = search needs
 
 returns : tie.Need-returns
 unfolding tableOf
-returns c = cc
+returns c =
+    let c1 = c .before in
+    let c2 = c1 .before in
+    let c3 = c2 .before in
+    let c4 = c3 .before in
+    let c5 = c4 .before in
+    let c6 = c5 .before in
+    let c7 = c6 .before in
+    simp (
+      c .with-entry3 .ensures,
+      c1 .with-entry2 .ensures,
+      c2 .with-entry .ensures,
+      c3 .empty-table .ensures,
+      c4 .small-entry3 .ensures,
+      c5 .small-entry2 .ensures,
+      c6 .small-entry .ensures,
+      c7 .has3 .ensures,
+      c7 .before .has2 .ensures,
+      c7 .before .before .has .ensures,
+    )
 
 pub table-of-spec : {M : Type 1} → statement M
 table-of-spec =

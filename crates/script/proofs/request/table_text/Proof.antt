@@ -1,4 +1,4 @@
--- By the first word, and what the callees ensure. Assumes nothing.
+-- By what the word begins with. Assumes nothing.
 use mathlib.Core.Path.{_∙_, sym}
 use borrow.Author.Needs.{needs}
 use Rattle.script.proofs.request.table_text.Statement.{statement}

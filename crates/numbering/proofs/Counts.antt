@@ -1,4 +1,4 @@
--- The law that the proof of `list_of` cites. Assumes nothing.
+-- How long a list is that may have grown by one. Assumes nothing.
 use Prim.Native.Nat.{_+_, _<_, _≤_, ℕ}
 use mathlib.Core.Bool.{Bool, false, true}
 use mathlib.Core.Path.{_≡_}
@@ -11,6 +11,5 @@ unfolding listedIf
 listed-count true r s = omega arith
 listed-count false r s = omega arith
 
--- a list that may have grown by one
 pub grown : (n : ℕ) (b : Bool) (r : ℕ) (s : Succs) {x : Succs} → x ≡ listedIf b r s → s .count < n → x .count < n + 1
 grown n b r s e h = rw e (omega (arith, listed-count b r s))
