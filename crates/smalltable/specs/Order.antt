@@ -15,6 +15,7 @@ use Rattle.smalltable.specs.declared.Sets.{Sets}
 abbrev pub setOf : Succs → ℕ
 setOf s = wordOf (hasSucc s) 3
 
+-- the list of r, likewise
 abbrev pub listSet : Table → ℕ → ℕ
 listSet t r = setOf (entryAt t r .succs)
 

@@ -31,9 +31,11 @@ smallLoc d r = record { addr = NodeBlockAddr (deviceOf d) r; len = 4096 }
 unfoldable pub smallEntry : ℕ → Bool → ℕ → ℕ → Entry
 smallEntry d used l r = cond used (record { allocated = true; located = true; loc = smallLoc d r; succs = listOf l }) zeroEntry
 
+-- the entry that the four sets give to reference r
 abbrev pub entryIn : ℕ → Sets → ℕ → Entry
 entryIn d s r = smallEntry d (digitAt (s .allocated) r) (listAt s r) r
 
+-- and to a table, for 0, 1 and 2
 unfoldable pub tableOf : ℕ → Sets → Table
 tableOf d s = withEntry (withEntry (withEntry emptyTable 0 (entryIn d s 0)) 1 (entryIn d s 1)) 2 (entryIn d s 2)
 
