@@ -1,5 +1,5 @@
--- There are such caches and disks: on each device and under either rule, for each id and each table in its written form, a cache that awaits
--- the read and a disk that has exactly this table stored at the place asked for. Assumes nothing.
+-- There are such caches and disks: on each device and under either rule, for each id and each table in its written form, a cache that
+-- awaits the read and a disk that has exactly this table stored at the place asked for. Assumes nothing.
 use Prim.Native.Nat.{ℕ}
 use mathlib.Core.Bool.{false, true}
 use mathlib.Core.Path.{_∙_, _≡_, ap, refl, sym}
