@@ -5,6 +5,7 @@ sys.dont_write_bytecode=True
 from parts.choose import choose,choose_rows,full
 from parts.lines import AREA1,EX,OK,P,c,example,l
 from parts.lives import before_format,edges,last_blocks,life
+from parts.round import a_round,round_rows
 from parts.rules import rule_rows,rules
 from parts.screen import screen_rows
 from parts.small import small,small_rows
@@ -32,6 +33,8 @@ example('full','A full device: each write goes to the block that the chooser gav
 choose_rows()
 example('small','A table by its number: what a loader that is given the wrong table answers, and the right one.',small)
 small_rows()
+example('round','A round in one call: a card, a player and the list together; one that is refused at its second operation, and a crash.',a_round)
+round_rows()
 c(b'The last line has no line feed.')
 l('audit','place=%s %s'%(AREA1,OK))
 

@@ -5,18 +5,26 @@
 mod cache;
 mod disk;
 mod layout;
+mod operations;
 mod script;
 mod sector;
 mod store;
 
 use cache::{Cache, Call};
 use disk::{Disk, DiskOp, Records};
+use operations::Operation;
 use sector::{Node, Table};
 use store::{disk_op, Outcome, Store};
 
 struct CacheOutcome {
     answer: u64,
     node: Node,
+    cache: Cache,
+}
+
+struct CacheListOutcome {
+    answer: u64,
+    place: u64,
     cache: Cache,
 }
 
@@ -30,6 +38,11 @@ impl Cache {
         let answer = self.refusal(device, rule, number, &q);
         let node = if answer == 0 { self.apply(device, number, &q) } else { Node::default() };
         CacheOutcome { answer, node, cache: self }
+    }
+
+    fn list(mut self, device: u64, rule: u64, q: Call, list: &[Operation]) -> CacheListOutcome {
+        let (answer, place) = self.operations(device, rule, &q, list);
+        CacheListOutcome { answer, place, cache: self }
     }
 }
 
@@ -68,11 +81,34 @@ impl Store {
         }
         Outcome { answer: 0, node: a.node, store: Store { device, cache: a.cache, disk: b.disk } }
     }
+
+    /// Step 20: the disk steps with no operation. The outcome and the place.
+    #[inline(never)]
+    fn operations(self, q: Call, list: &[Operation]) -> (Outcome, u64) {
+        let device = self.device;
+        let a = self.cache.list(device, self.disk.rule, q, list);
+        let b = self.disk.next(device, DiskOp::None, q.node, q.table);
+        let node = Node::default();
+        if b.answer != 0 {
+            return (Outcome { answer: b.answer, node, store: self }, 0);
+        }
+        if a.answer != 0 {
+            return (Outcome { answer: a.answer, node, store: self }, a.place);
+        }
+        (Outcome { answer: 0, node, store: Store { device, cache: a.cache, disk: b.disk } }, 0)
+    }
 }
 
 fn main() {
-    script::run(|o, number, q, offered| {
-        let offered = *offered.unwrap_or(&o.store.disk.records);
-        *o = o.store.step(number, *q, offered);
-    });
+    script::run(
+        |o, number, q, offered| {
+            let offered = *offered.unwrap_or(&o.store.disk.records);
+            *o = o.store.step(number, *q, offered);
+        },
+        |o, q, list| {
+            let place;
+            (*o, place) = o.store.operations(*q, list);
+            place
+        },
+    );
 }

@@ -68,6 +68,7 @@ macro_rules! first {
         $(if $condition { return $number; })*
     }};
 }
+pub(crate) use first;
 
 impl Cache {
     pub fn form(&self, device: u64) -> bool {
@@ -118,7 +119,7 @@ impl Cache {
         marks
     }
 
-    fn fz(&self, r: usize) -> bool {
+    pub fn fz(&self, r: usize) -> bool {
         let e = &self.frozen.entries[r];
         self.isfrozen && e.allocated && !e.located
     }
@@ -270,21 +271,14 @@ impl Cache {
                     _ => return 3,
                 }
             }
-            15 => first!(
-                2: !matches!(q.vop, VersionOp::Advance(_)),
-                3: !bare,
-                4: !ready,
-                8: !slot.present || !entry.allocated,
-                11: self.fz(r),
-                13: !self.ephemeral.points_within(&q.node.succs),
-            ),
-            16 => first!(
-                2: !matches!(q.vop, VersionOp::Advance(_)),
-                3: !bare,
-                4: !ready,
-                8: slot.present || entry.allocated,
-                13: !self.ephemeral.points_within(&q.node.succs),
-            ),
+            15 | 16 | 20 => {
+                first!(2: !matches!(q.vop, VersionOp::Advance(_)), 3: !bare, 4: !ready);
+                return match number {
+                    15 => self.dirty_refusal(r, &q.node),
+                    16 => self.alloc_refusal(r, &q.node),
+                    _ => 0, // its operations are asked in turn
+                };
+            }
             17 => first!(4: !ready, 8: !entry.allocated || !slot.present),
             18 => first!(2: q.vop != VersionOp::Crash),
             19 => {
@@ -306,9 +300,13 @@ impl Cache {
         let node = self.take(number, q);
         // the steps that may move a location of a table or an outstanding write
         if matches!(number, 1 | 2 | 5 | 9 | 12 | 13 | 15) {
-            self.blocks.marks = self.marks(device);
+            self.renew_marks(device);
         }
         node
+    }
+
+    pub fn renew_marks(&mut self, device: u64) {
+        self.blocks.marks = self.marks(device);
     }
 
     fn take(&mut self, number: u64, q: &Call) -> Node {
@@ -379,11 +377,7 @@ impl Cache {
                 self.frozenplaced = false;
                 self.frozenplace = Location::default();
             }
-            (15 | 16, _) => {
-                let e = Entry { allocated: true, located: false, loc: Location::default(), succs: q.node.succs };
-                self.ephemeral.set(r, e);
-                self.nodes.set(r, Slot { present: true, node: q.node });
-            }
+            (15 | 16, _) => self.put(r, &q.node),
             (17, _) => return self.nodes.slots[r].node,
             (18, _) => *self = Cache::default(),
             (19, DiskOp::RespReadNode(id, _)) => self.reads.remove(id),

@@ -5,12 +5,14 @@
 mod cache;
 mod disk;
 mod layout;
+mod operations;
 mod script;
 mod sector;
 mod store;
 
 use cache::Call;
-use disk::Records;
+use disk::{DiskOp, Records};
+use operations::Operation;
 use sector::Node;
 use store::{disk_op, Store};
 
@@ -40,8 +42,25 @@ impl Store {
         }
         (0, node)
     }
+
+    /// Step 20: the disk is asked with no operation, and does not move. The answer and the place.
+    #[inline(never)]
+    fn operations(&mut self, q: &Call, list: &[Operation]) -> (u64, u64) {
+        let b = self.disk.refusal(self.device, DiskOp::None, &q.node, &q.table);
+        if b != 0 {
+            return (b, 0);
+        }
+        self.cache.operations(self.device, self.disk.rule, q, list)
+    }
 }
 
 fn main() {
-    script::run(|o, number, q, offered| (o.answer, o.node) = o.store.step(number, q, offered));
+    script::run(
+        |o, number, q, offered| (o.answer, o.node) = o.store.step(number, q, offered),
+        |o, q, list| {
+            let (answer, place) = o.store.operations(q, list);
+            (o.answer, o.node) = (answer, Node::default());
+            place
+        },
+    );
 }

@@ -1,8 +1,9 @@
-//! The script of crates/bench: rounds of 86 joined calls, each made by the function that a baseline gives.
+//! The script of crates/bench: rounds of 91 joined calls, each made by a function that a baseline gives.
 
 use crate::cache::{Call, VersionOp};
 use crate::disk::{DiskOp, NodeRecord, Records, TableRecord};
 use crate::layout::{self, Location};
+use crate::operations::Operation;
 use crate::sector::{Contents, Entry, Node, Succs, Table};
 use crate::store::{Outcome, Store};
 
@@ -10,8 +11,12 @@ use crate::store::{Outcome, Store};
 /// that are stored.
 pub type Joined = fn(&mut Outcome, u64, &Call, Option<&Records>);
 
+/// Step 20 likewise; it returns the place of the operation that failed.
+pub type Listed = fn(&mut Outcome, &Call, &[Operation]) -> u64;
+
 struct State {
     joined: Joined,
+    listed: Listed,
     base: u64,
     calls: u64,
     accepted: u64,
@@ -25,6 +30,10 @@ fn bare(reference: u64, vop: VersionOp, dop: DiskOp) -> Call {
 
 fn with_node(reference: u64, vop: VersionOp, dop: DiskOp, node: Node) -> Call {
     Call { reference, vop, dop, node, table: Table::default() }
+}
+
+fn write(reference: u64, node: Node) -> Operation {
+    Operation { alloc: false, reference, node }
 }
 
 fn naming(contents: Contents, list: &[u8]) -> Node {
@@ -44,12 +53,24 @@ impl State {
 
     fn call(&mut self, number: u64, q: Call, offered: Option<&Records>) {
         (self.joined)(&mut self.last, number, &q, offered);
-        let Outcome { answer, node, .. } = self.last;
+        let Contents { high, low } = self.last.node.contents;
+        self.count(high, low);
+    }
+
+    /// Where a step's checksum takes high and low, a list's takes the place and 0.
+    fn list(&mut self, list: &[Operation]) {
+        let q = bare(0, VersionOp::Advance(false), NONE);
+        let place = (self.listed)(&mut self.last, &q, list);
+        self.count(place, 0);
+    }
+
+    fn count(&mut self, second: u64, third: u64) {
+        let answer = self.last.answer;
         self.calls += 1;
         self.accepted += (answer == 0) as u64;
         self.mix(answer);
-        self.mix(node.contents.high);
-        self.mix(node.contents.low);
+        self.mix(second);
+        self.mix(third);
     }
 
     fn turn(&mut self, number: u64, q: Call) {
@@ -169,6 +190,24 @@ impl State {
         self.dirty(0, root);
         self.unalloc(8);
 
+        let contents = self.contents(200);
+        let mut list = [
+            Operation { alloc: true, reference: 8, node: self.leaf(8) },
+            Operation { alloc: true, reference: 9, node: self.leaf(9) },
+            write(1, naming(contents, &[8, 9])),
+            write(2, naming(contents, &[9, 9])),
+            write(0, naming(contents, &[1, 2, 3, 4, 5, 6, 7, 8])),
+            write(1, self.leaf(1)),
+            write(2, self.leaf(2)),
+            write(0, root),
+        ];
+        self.list(&list);
+        list[0] = write(8, naming(contents, &[9, 0]));
+        self.list(&list);
+        self.read(9);
+        self.unalloc(9);
+        self.unalloc(8);
+
         for r in 0..8 {
             let node = if r == 0 { root } else { self.leaf(r) };
             self.write_req(r as u64, 20 + r as u64, 1 + r as usize, node);
@@ -223,9 +262,9 @@ impl State {
 }
 
 /// As many rounds as the program's argument says, and the line that `bench` prints.
-pub fn run(joined: Joined) {
+pub fn run(joined: Joined, listed: Listed) {
     let rounds: u64 = std::env::args().nth(1).and_then(|a| a.parse().ok()).unwrap_or(0);
-    let mut s = State { joined, base: 0, calls: 0, accepted: 0, checksum: 0, last: Outcome::default() };
+    let mut s = State { joined, listed, base: 0, calls: 0, accepted: 0, checksum: 0, last: Outcome::default() };
     for i in 0..rounds {
         s.round(i);
     }

@@ -146,9 +146,9 @@ def awaited(kind,id,other,wrong,right):
     a('step=14 d=ReqRead%sOp id=%d'%(kind,id),3); a('step=14',0)
 
 def letgo_unready():
-    c(b'Let go, step 19. 20 and above are no step.')
+    c(b'Let go, step 19. 21 and above are no step.')
     a('format device=0 contents=5',0)
-    for n in ['20','21','255','256','275','4294967315']: a('step='+n,1)
+    for n in ['21','255','256','275','4294967315']: a('step='+n,1)
     c(b'Unready: neither answer has its phase. A no-op takes both as far as the cache goes; the disk has no such request.')
     a('step=19',3); a('step=19 v=PushSyncOp',2)
     let_go(TABLE,1,4); let_go(NODE,1,4); let_go(TABLE,1,2,' v=PopSyncOp')

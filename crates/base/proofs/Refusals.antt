@@ -1,7 +1,7 @@
 -- Laws of a list of refusals: an answer is 0 exactly when no condition holds, and in an ascending list it is the lowest whose condition does. Assumes nothing.
 use Prim.Native.Nat.{_<_, _≤_, ℕ}
 use mathlib.Core.Bool.{Bool, _&&_, _||_, and-false, cond, false, false≢true, true}
-use mathlib.Core.List.{List, [], _∷_}
+use mathlib.Core.List.{List, [], _++_, _∷_}
 use mathlib.Core.Logic.{_↔_}
 use mathlib.Core.Path.{_≡_, refl, sym}
 use native.Mathlib.Omega.{arith}
@@ -30,6 +30,18 @@ answer-iff m ((n when b) ∷ rs) t =
 -- accepted exactly when no condition holds
 pub accepted-iff : (rs : List Row) → ascending rs ≡ true → (answer rs ≡ 0) ↔ Clear rs
 accepted-iff rs t = answer-iff 0 rs t
+
+-- rows behind others: theirs is the answer where the others accept
+append-from : (m : ℕ) (rs ss : List Row) → ascendingFrom m rs ≡ true → answer (rs ++ ss) ≡ cond (eqb (answer rs) 0) (answer ss) (answer rs)
+unfolding answer
+append-from m [] ss t = refl
+append-from m ((n when b) ∷ rs) ss t =
+    split b
+    (λ q. let ne : (n ≡ 0 → ⊥) = λ z. omega (arith, ltb-true m n (and-left (ltb m n) (ascendingFrom n rs) t), z) in rw (q, ne-eqb n 0 ne))
+    (λ q. rw q (append-from n rs ss (and-right (ltb m n) (ascendingFrom n rs) t)))
+
+pub answer-append : (rs ss : List Row) → ascending rs ≡ true → answer (rs ++ ss) ≡ cond (eqb (answer rs) 0) (answer ss) (answer rs)
+answer-append rs ss t = append-from 0 rs ss t
 
 -- then no number's condition holds
 pub clear-holds : (rs : List Row) → Clear rs → (k : ℕ) → holds k rs ≡ false

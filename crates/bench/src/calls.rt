@@ -1,9 +1,11 @@
-// What a round carries, the arguments of a call, and the one place that makes a joined call.
+// What a round carries, the arguments of a call, and the two places that make a joined call: a step, and step 20 with its list.
 ghost use mathlib.Core.Path.{_≡_};
 use blockcache::Call;
+use blockcache::Operation;
 use blockcache::VersionOp;
 use blockdisk::DiskOp;
 use blockdisk::Records;
+use blocksystem::JoinedOperationsOutcome;
 use blocksystem::Outcome;
 use disklayout::Location;
 use sectortype::Contents;
@@ -41,6 +43,19 @@ fn one_if_accepted(answer: u64) -> u64 {
     if answer == 0 { 1 } else { 0 }
 }
 
+// A list's outcome as a step's, with a node of zeros.
+fn after_list(o: JoinedOperationsOutcome) -> Outcome {
+    let node = sector::zero_node();
+    let cache = o.cache;
+    let disk = o.disk;
+    Outcome {
+        answer: o.answer,
+        node,
+        cache,
+        disk,
+    }
+}
+
 // A joined call that offers these records, which only a crash looks at.
 pub fn offer(s: State, number: u64, q: Call, offered: Records) -> State {
     let before = s.store;
@@ -63,6 +78,30 @@ pub fn offer(s: State, number: u64, q: Call, offered: Records) -> State {
         accepted: std::num::wrapping_add_u64(s.accepted, one_if_accepted(o.answer)),
         checksum: mixed(higher, read.low),
         store: o,
+    }
+}
+
+// Step 20 with the first n operations of the list. It returns no node: where a step's checksum takes high and low, this one takes the
+// place and 0.
+pub fn offer_list(s: State, q: Call, list: [Operation; 40], n: usize) -> State {
+    let before = s.store;
+    let cache = before.cache;
+    let disk = before.disk;
+    let store = Store {
+        device: s.device,
+        cache,
+        disk,
+    };
+    let o = store.operations_of(q, list, n);
+    let answered = mixed(s.checksum, o.answer);
+    let placed = mixed(answered, o.place);
+    State {
+        device: s.device,
+        base: s.base,
+        calls: std::num::wrapping_add_u64(s.calls, 1),
+        accepted: std::num::wrapping_add_u64(s.accepted, one_if_accepted(o.answer)),
+        checksum: mixed(placed, 0),
+        store: after_list(o),
     }
 }
 
@@ -137,6 +176,15 @@ pub fn with_table(vop: VersionOp, dop: DiskOp, table: Table) -> Call {
         dop,
         node,
         table,
+    }
+}
+
+// An alloc, else a write.
+pub fn operation(alloc: bool, reference: u64, node: Node) -> Operation {
+    Operation {
+        alloc,
+        reference,
+        node,
     }
 }
 

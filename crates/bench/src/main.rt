@@ -1,5 +1,5 @@
-// The joined call in a loop, to be timed (docs/PERFORMANCE.md): `bench ROUNDS` runs the script of 86 calls so many times, and prints
-// the calls made, those accepted, and a checksum of the answers and of the contents read.
+// The joined call in a loop, to be timed (docs/PERFORMANCE.md): `bench ROUNDS` runs the script of 91 calls so many times, and prints
+// the calls made, those accepted, and a checksum of the answers, of the contents read and of the places where a list failed.
 ghost use Prim.Native.Nat.{_≤_};
 
 mod calls;

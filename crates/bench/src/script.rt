@@ -1,7 +1,8 @@
-// The script: 86 calls on a newly formatted device, of which documents 01 and 02 accept 64. Each refused call says its number.
+// The script: 91 calls on a newly formatted device, of which documents 01 and 02 accept 68. Each refused call says its number.
 use crate::calls::State;
 use crate::calls::contents;
 use crate::calls::naming;
+use crate::calls::operation;
 use crate::calls::root;
 use crate::calls::wide;
 use crate::steps::alloc;
@@ -20,18 +21,20 @@ use crate::steps::page_in_table_req;
 use crate::steps::page_in_table_resp;
 use crate::steps::read;
 use crate::steps::receive_loc;
+use crate::steps::transaction;
 use crate::steps::unalloc;
 use crate::steps::write_back_node_req;
 use crate::steps::write_back_node_resp;
 use crate::steps::write_back_table_req;
 use crate::steps::write_back_table_resp;
+use blockcache::Operation;
 use blockcache::VersionOp;
 use blockdisk::Brought;
 use blockdisk::DiskOp;
 use sectortype::Node;
 use system::Store;
 
-// Under rule 2 the freeze of call 59 is refused, and the frozen place is there for the clean-up after it.
+// Under rule 2 the freeze of call 64 is refused, and the frozen place is there for the clean-up after it.
 const RULE_2: u64 = 2;
 
 // Reference r as the script first writes it: it names the one before it, and the root.
@@ -116,6 +119,51 @@ fn latest(base: u64, r: u8) -> Node {
     leaf(base, r)
 }
 
+// Four operations: 8 and 9 allocated, and two references written that name them.
+fn four(base: u64) -> [Operation; 40] {
+    let card = leaf(base, 8);
+    let player = leaf(base, 9);
+    let x = contents(base, 200);
+    let both = naming(x, 8, 9);
+    let twice = naming(x, 9, 9);
+    let first = operation(true, 8, card);
+    let mut list: [Operation; 40] = [first; 40];
+    list[1] = operation(true, 9, player); // it names 8, which the list has just allocated
+    list[2] = operation(false, 1, both);
+    list[3] = operation(false, 2, twice);
+    list
+}
+
+// Four more: the root names 8, and then it and those two are written as they were, so that 8 and 9 are all that the list leaves.
+fn eight(base: u64) -> [Operation; 40] {
+    let x = contents(base, 200);
+    let all = root(x, true);
+    let one = leaf(base, 1);
+    let two = leaf(base, 2);
+    let zero = latest(base, 0);
+    let mut list = four(base);
+    list[4] = operation(false, 0, all);
+    list[5] = operation(false, 1, one);
+    list[6] = operation(false, 2, two);
+    list[7] = operation(false, 0, zero);
+    list
+}
+
+// Calls 34 to 38: a list of eight, another that fails at its second operation, and the two references taken back. Had the second list
+// left its first operation behind, 8 would name 9, and call 37 would be refused.
+fn together(s: State) -> State {
+    let list = eight(s.base);
+    let s = transaction(s, list, 8);
+    let x = contents(s.base, 200);
+    let n = naming(x, 9, 0);
+    let mut late = list;
+    late[0] = operation(false, 8, n);
+    let s = transaction(s, late, 8); // 8 at place 1: 9 is allocated
+    let s = read(s, 9);
+    let s = unalloc(s, 9);
+    unalloc(s, 8)
+}
+
 // 8 calls: references 0 to 7 to blocks 1 to 8.
 fn write_all(s: State) -> State {
     let mut now = s;
@@ -146,7 +194,7 @@ fn answer_all(s: State) -> State {
     now
 }
 
-// Calls 34 to 52: write-back.
+// Calls 39 to 57: write-back.
 fn write_back(s: State) -> State {
     let s = write_all(s);
     let n = latest(s.base, 0);
@@ -156,7 +204,7 @@ fn write_back(s: State) -> State {
     write_back_node_resp(s, 99) // 5: not awaited
 }
 
-// Calls 53 to 63: a frozen table written and cleaned up.
+// Calls 58 to 68: a frozen table written and cleaned up.
 fn persist(s: State) -> State {
     let s = freeze(s);
     let n = small(0);
@@ -172,7 +220,7 @@ fn persist(s: State) -> State {
     no_op(s, DiskOp::RespReadNodeOp(77, Brought::Something)) // 15: no such read
 }
 
-// Calls 64 to 77: a node out and in again, after the drive first brought nothing, and a crash with a write outstanding.
+// Calls 69 to 82: a node out and in again, after the drive first brought nothing, and a crash with a write outstanding.
 fn lose(s: State) -> State {
     let s = evict(s, 2);
     let s = read(s, 2); // 8: not cached
@@ -192,7 +240,7 @@ fn lose(s: State) -> State {
     crash(s, VersionOp::CrashOp)
 }
 
-// Calls 78 to 86: a start from area 2.
+// Calls 83 to 91: a start from area 2.
 fn again(s: State) -> State {
     let s = receive_loc(s, true);
     let s = page_in_table_req(s, 70, true);
@@ -225,6 +273,7 @@ pub fn round(s: State, i: u64) -> State {
     let s = formatted(s, i % 3, i);
     let s = load(s);
     let s = work(s);
+    let s = together(s);
     let s = write_back(s);
     let s = persist(s);
     let s = lose(s);

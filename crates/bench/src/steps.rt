@@ -3,10 +3,12 @@ use crate::calls::State;
 use crate::calls::bare;
 use crate::calls::node_place;
 use crate::calls::offer;
+use crate::calls::offer_list;
 use crate::calls::table_place;
 use crate::calls::turn;
 use crate::calls::with_node;
 use crate::calls::with_table;
+use blockcache::Operation;
 use blockcache::VersionOp;
 use blockdisk::Brought;
 use blockdisk::DiskOp;
@@ -187,6 +189,12 @@ pub fn let_go(s: State, id: u64) -> State {
         DiskOp::RespReadNodeOp(id, Brought::Nothing),
     );
     turn(s, 19, q)
+}
+
+// 20, with the first n operations of the list
+pub fn transaction(s: State, list: [Operation; 40], n: usize) -> State {
+    let q = bare(0, VersionOp::AdvanceOp(false), DiskOp::NoDiskOp);
+    offer_list(s, q, list, n)
 }
 
 // A number that no step has.

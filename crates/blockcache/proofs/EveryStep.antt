@@ -22,7 +22,7 @@ use Rattle.blockcache.proofs.InvGraph.{alloc-fixed, dirty-fixed, evict-
 use Rattle.blockcache.proofs.InvReads.{clean-up-kept, freeze-kept, let-go-kept, loaded-fixed, loaded-inv, page-in-kept, paged-in-kept}
 use Rattle.blockcache.proofs.InvWrites.{table-write-kept, table-written-kept, write-fixed, write-kept, written-kept}
 use Rattle.blockcache.proofs.LetGoStep.{let-go-exact}
-use Rattle.blockcache.proofs.OtherSteps.{clean-up-exact, crash-exact, freeze-exact, no-op-exact}
+use Rattle.blockcache.proofs.OtherSteps.{clean-up-exact, crash-exact, freeze-exact, no-op-exact, transaction-exact}
 use Rattle.blockcache.proofs.ReadAnswers.{awaits-read-is, table-not-node}
 use Rattle.blockcache.proofs.ReadSteps.{page-in-node-req-exact, page-in-node-resp-exact, page-in-table-req-exact, page-in-table-resp-exact, receive-loc-exact}
 use Rattle.blockcache.proofs.WriteSteps.{write-back-node-req-exact, write-back-node-resp-exact, write-back-table-req-exact, write-back-table-resp-exact}
@@ -34,7 +34,8 @@ use Rattle.blockcache.specs.NextStep.{OnBoth}
 use Rattle.blockcache.specs.Ops.{dopId, dopLoc, vopLoc}
 use Rattle.blockcache.specs.Rows.{awaitsRead, ownRows, stepRows}
 use Rattle.blockcache.specs.Steps.{allocStep, cleanUpStep, crashStep, dirtyStep, evictStep, freezeStep, letGoStep, noOpStep, numberOf, pageInIndirectionTableReqStep}
-use Rattle.blockcache.specs.Steps.{pageInIndirectionTableRespStep, pageInNodeReqStep, pageInNodeRespStep, readStep, receiveLocStep, Step, stepOf, steps, unallocStep}
+use Rattle.blockcache.specs.Steps.{pageInIndirectionTableRespStep, pageInNodeReqStep, pageInNodeRespStep, readStep, receiveLocStep}
+use Rattle.blockcache.specs.Steps.{Step, stepOf, steps, transactionStep, unallocStep}
 use Rattle.blockcache.specs.Steps.{writeBackIndirectionTableReqStep, writeBackIndirectionTableRespStep, writeBackNodeReqStep, writeBackNodeRespStep}
 use Rattle.blockcache.specs.Upstream.{Alloc, CleanUp, Dirty, Evict, Freeze, PageInNodeReq, PageInNodeResp, Ready, Unalloc, Variables, WriteBackIndirectionTableReq}
 use Rattle.blockcache.specs.Upstream.{WriteBackIndirectionTableResp, WriteBackNodeReq, WriteBackNodeResp}
@@ -80,6 +81,7 @@ number-of-step allocStep = refl
 number-of-step readStep = refl
 number-of-step crashStep = refl
 number-of-step letGoStep = refl
+number-of-step transactionStep = refl
 
 -- THE ROWS ASCEND
 
@@ -105,6 +107,7 @@ module _ (g : Settings) (c : CacheState) (q : Call) (b : Bool) where
   rows-ascend readStep = refl
   rows-ascend crashStep = refl
   rows-ascend letGoStep = refl
+  rows-ascend transactionStep = refl
 
 -- THE FREEZE RULE
 
@@ -130,6 +133,7 @@ module _ (g : Settings) (c : CacheState) (q : Call) where
   rows-of-rule readStep ne = refl
   rows-of-rule crashStep ne = refl
   rows-of-rule letGoStep ne = refl
+  rows-of-rule transactionStep ne = refl
 
 -- DEMAND 2
 
@@ -154,6 +158,7 @@ module _ (g : Settings) (c : CacheState) (q : Call) (w : WellFormed g c q) where
   exact readStep = read-exact g c q w
   exact crashStep = crash-exact g c q w
   exact letGoStep = let-go-exact g c q w
+  exact transactionStep = transaction-exact g c q w
 
 -- THE WRITTEN FORM IS KEPT
 
@@ -289,6 +294,7 @@ module _ (g : Settings) (c : CacheState) (q : Call) (w : WellFormed g c q) where
       (λ x. rw (x .0) (with-reads-form c f (x .1) (removeOf reads id) (reads-remove-form reads id (f .outstanding .reading) (x .2))))
       (λ x. rw (table-not-node (q .dop) (x .0)) (loading-awaited-form notWaiting refl (x .1)))
       (awaits-read-is c (q .dop) .0 (not-iff (awaitsRead c (q .dop)) .0 (k .0)))
+  next-form transactionStep taken k = f
 
 -- UPSTREAM'S INV IS KEPT. No narrowing is needed for it: a used id, which upstream would overwrite, keeps it too.
 
@@ -335,3 +341,4 @@ module _ (d : ℕ) (s s' : Variables) (dop : Dop) (vop : VersionOp) (r : ℕ) (n
       (λ (id, m, e, p). both-kept d s s' (λ x y. LetNodeGo x y id) (λ x y i u. fixed-kept d (u .next) (let-go-kept d x id i)) p)
       (λ (id, t, e, (at, read, q, u)). λ i. subst (Inv d) (sym (u .next)) (subst (Inv d) q i))
       (g .answer)
+  next-inv transactionStep (t, e, p) = λ i. subst (Inv d) (sym e) i

@@ -25,7 +25,8 @@ use Rattle.blockcache.specs.NextStep.{OnBoth, OnLoading, OnReady, OnResp
 use Rattle.blockcache.specs.Ops.{advance, dopBrought, dopId, dopKind, dopLoc, internal, isD, noDop, nodeReadResp, tableReadResp, vopKind, vopLoc}
 use Rattle.blockcache.specs.Rows.{Takes, gate, ownRows, takes}
 use Rattle.blockcache.specs.Steps.{Step, allocStep, cleanUpStep, crashStep, dirtyStep, evictStep, freezeStep, letGoStep, noOpStep, pageInIndirectionTableReqStep, pageInIndirectionTableRespStep}
-use Rattle.blockcache.specs.Steps.{pageInNodeReqStep, pageInNodeRespStep, readStep, receiveLocStep, unallocStep, writeBackIndirectionTableReqStep, writeBackIndirectionTableRespStep}
+use Rattle.blockcache.specs.Steps.{pageInNodeReqStep, pageInNodeRespStep, readStep, receiveLocStep, transactionStep, unallocStep}
+use Rattle.blockcache.specs.Steps.{writeBackIndirectionTableReqStep, writeBackIndirectionTableRespStep}
 use Rattle.blockcache.specs.Steps.{writeBackNodeReqStep, writeBackNodeRespStep}
 use Rattle.blockcache.specs.Upstream.{Alloc, CleanUp, Dirty, Evict, Freeze, Init, NoOp, PageInIndirectionTableReq, PageInIndirectionTableResp, PageInNodeReq, PageInNodeResp, ReadStep}
 use Rattle.blockcache.specs.Upstream.{Ready, ReceiveLoc, Unalloc, Variables, WriteBackIndirectionTableReq, WriteBackIndirectionTableResp, WriteBackNodeReq, WriteBackNodeResp}
@@ -92,6 +93,7 @@ module _ (g : Settings) (c : CacheState) (q : Call) where
   Own letGoStep s' =
       ((isD nodeReadResp (q .dop) ≡ true) × (isReady c ≡ true) × OnReady s' (λ y. LetNodeGo (readyVars c) y id))
       ⊎ ((isD tableReadResp (q .dop) ≡ true) × (loadingPhase (c .phase) ≡ true) × LetTableGo (c .places .persistent) (awaitedId (c .awaited)) s' id)
+  Own transactionStep s' = s' ≡ cacheVars c
 
   abbrev pub Next : Step → Variables → Type 0
   Next step s' = StoreStep (g .device) (cacheVars c) s' (callOp q) (q .vop) (q .reference) (q .node) step
@@ -215,3 +217,8 @@ module _ (g : Settings) (c : CacheState) (q : Call) where
         ((λ (e, p). let h = on .0 p in ((refl, refl, h .0), (e, h .1))), (λ ((v, o, h), u). (u .0, on .1 (h, u .1))))
     frame crashStep = ((λ (v, i). ((crash-op-iff (q .vop) .1 v, refl, refl), i)), (λ ((v, o, h), i). (crash-op-iff (q .vop) .0 v, i)))
     frame letGoStep = let-go-frame
+    frame transactionStep =
+        let v = advance-iff (q .vop) in
+        let o = no-disk-op-iff (q .dop) (q .node) (q .table) in
+        let on = on-ready-iff c (λ x. Unit {0}) in
+        ((λ (t, e, p). ((v .1 (t .0), o .1 (t .1), on .0 p .0), e)), (λ ((a, n, h), e). ((v .0 a, o .0 n), e, on .1 (h, tt))))

@@ -20,6 +20,7 @@ pub mod InvWrites
 pub mod Kept
 pub mod LetGo
 pub mod LetGoStep
+pub mod ListLaws
 pub mod Loaded
 pub mod MarkLaws
 pub mod MarkSteps
@@ -27,9 +28,11 @@ pub mod MarkedBlocks
 pub mod NextFit
 pub mod Numbers
 pub mod OpKinds
+pub mod Operations
 pub mod OtherSteps
 pub mod Outcomes
 pub mod ReadAnswers
 pub mod ReadSteps
 pub mod Waiting
+pub mod Walk
 pub mod WriteSteps

@@ -15,7 +15,8 @@ use Rattle.blockcache.specs.Ops.{dopId, isD, nodeReadResp, vopLoc}
 use Rattle.blockcache.specs.Rows.{ownRows}
 use Rattle.blockcache.specs.Scan.{heldIn}
 use Rattle.blockcache.specs.Steps.{allocStep, cleanUpStep, crashStep, dirtyStep, evictStep, freezeStep, isLoad, letGoStep, noOpStep, numberOf, pageInIndirectionTableReqStep}
-use Rattle.blockcache.specs.Steps.{pageInIndirectionTableRespStep, pageInNodeReqStep, pageInNodeRespStep, readStep, receiveLocStep, relocates, Step, unallocStep}
+use Rattle.blockcache.specs.Steps.{pageInIndirectionTableRespStep, pageInNodeReqStep, pageInNodeRespStep, readStep, receiveLocStep}
+use Rattle.blockcache.specs.Steps.{relocates, Step, transactionStep, unallocStep}
 use Rattle.blockcache.specs.Steps.{writeBackIndirectionTableReqStep, writeBackIndirectionTableRespStep, writeBackNodeReqStep, writeBackNodeRespStep}
 use Rattle.blockcache.specs.declared.CacheState.{CacheState}
 use Rattle.blockcache.specs.declared.Call.{Call}
@@ -60,6 +61,7 @@ module _ (g : Settings) (c : CacheState) (q : Call) (w : WellFormed g c q) where
   next-last readStep = last-kept
   next-last crashStep = record { small = omega arith; zero = λ n. refl }
   next-last letGoStep = split (isD nodeReadResp (q .dop)) (λ t. rw t last-kept) (λ t. rw t last-kept)
+  next-last transactionStep = last-kept
 
   -- THE MARKS: a step that moves no location and no outstanding write, or leaves none, leaves them right
 
@@ -95,6 +97,7 @@ module _ (g : Settings) (c : CacheState) (q : Call) (w : WellFormed g c q) where
       split (isD nodeReadResp (q .dop))
       (λ t. rw t (right-marks (g .device) (withReads c (removeOf (c .outstanding .reads) (dopId (q .dop)))) (w .blocks .marks)))
       (λ t. rw t (right-marks (g .device) (withAwaited c notWaiting) (w .blocks .marks)))
+  marks-stay transactionStep n k = right-marks (g .device) c (w .blocks .marks)
 
 -- THE BLOCK GIVEN LAST, while no table is loaded
 
@@ -121,3 +124,4 @@ module _ (c : CacheState) (q : Call) where
   ready-before readStep n t = (t, refl)
   ready-before crashStep n t = clash t refl
   ready-before letGoStep n t = split (isD nodeReadResp (q .dop)) (λ u. rw u (rw u at t, refl)) (λ u. rw u (rw u at t, refl))
+  ready-before transactionStep n t = (t, refl)

@@ -1,4 +1,5 @@
--- Steps 12 to 14 and 18: accepted exactly where upstream allows them, but for Freeze's narrowing, under rule 2, and NoOp's. Assumes nothing.
+-- Steps 12 to 14, 18 and 20, without a list: accepted exactly where upstream allows them, but for Freeze's narrowing, under rule 2, and
+-- NoOp's. Assumes nothing.
 use mathlib.Core.Bool.{false}
 use mathlib.Core.Path.{_≡_, refl}
 use Rattle.base.proofs.Flagged.{flagged-is-iff, flagged-none-iff}
@@ -12,7 +13,7 @@ use Rattle.blockcache.specs.Abstract.{readyVars}
 use Rattle.blockcache.specs.Narrowings.{stepNarrowed}
 use Rattle.blockcache.specs.Next.{stepNext}
 use Rattle.blockcache.specs.Rows.{ownRows}
-use Rattle.blockcache.specs.Steps.{cleanUpStep, crashStep, freezeStep, noOpStep}
+use Rattle.blockcache.specs.Steps.{cleanUpStep, crashStep, freezeStep, noOpStep, transactionStep}
 use Rattle.blockcache.specs.Upstream.{CleanUp, Freeze}
 use Rattle.blockcache.specs.declared.CacheState.{CacheState}
 use Rattle.blockcache.specs.declared.Call.{Call}
@@ -92,3 +93,8 @@ module _ (g : Settings) (c : CacheState) (q : Call) (w : WellFormed g c q) where
 
   pub crash-exact : Exact g c q crashStep
   crash-exact = record { sound = crash-sound; complete = crash-complete; free = λ k. refl }
+
+  -- Transaction, of an empty list
+
+  pub transaction-exact : Exact g c q transactionStep
+  transaction-exact = record { sound = λ taken k. refl; complete = λ s' ns e. tt; free = λ k. refl }

@@ -8,6 +8,7 @@ pub mod Marks
 pub mod Narrowings
 pub mod Next
 pub mod NextStep
+pub mod Operations
 pub mod Ops
 pub mod Rows
 pub mod Scan
@@ -15,3 +16,4 @@ pub mod Step
 pub mod Steps
 pub mod Upstream
 pub mod UpstreamInv
+pub mod Walk

@@ -5,7 +5,8 @@ use mathlib.Core.Bool.{_&&_, cond, false, not, true}
 use Rattle.blockcache.specs.Form.{emptyCache, loadingAt, notWaiting}
 use Rattle.blockcache.specs.Ops.{dopId, dopLoc, isD, nodeReadResp, vopLoc}
 use Rattle.blockcache.specs.Steps.{Step, allocStep, cleanUpStep, crashStep, dirtyStep, evictStep, freezeStep, letGoStep, noOpStep, pageInIndirectionTableReqStep, pageInIndirectionTableRespStep}
-use Rattle.blockcache.specs.Steps.{pageInNodeReqStep, pageInNodeRespStep, readStep, receiveLocStep, unallocStep, writeBackIndirectionTableReqStep, writeBackIndirectionTableRespStep}
+use Rattle.blockcache.specs.Steps.{pageInNodeReqStep, pageInNodeRespStep, readStep, receiveLocStep, transactionStep, unallocStep}
+use Rattle.blockcache.specs.Steps.{writeBackIndirectionTableReqStep, writeBackIndirectionTableRespStep}
 use Rattle.blockcache.specs.Steps.{writeBackNodeReqStep, writeBackNodeRespStep}
 use Rattle.blockcache.specs.Marks.{marksOf}
 use Rattle.blockcache.specs.declared.Awaited.{Awaited}
@@ -142,6 +143,8 @@ module _ (c : CacheState) (q : Call) where
   stepNext crashStep = emptyCache
   -- the wait for the answered read, and nothing else
   stepNext letGoStep = cond (isD nodeReadResp (q .dop)) (withReads c (removeOf (c .outstanding .reads) id)) (withAwaited c notWaiting)
+  -- an empty list
+  stepNext transactionStep = c
 
 -- THE MARKS: whatever the step, they are those of the next tables and outstanding writes
 abbrev pub marksRenewed : ℕ → CacheState → CacheState

@@ -5,7 +5,8 @@ use mathlib.Core.Logic.{_⊎_}
 use mathlib.Core.Option.{Option}
 use mathlib.Core.Path.{_≡_}
 use Rattle.blockcache.specs.Steps.{Step, allocStep, cleanUpStep, crashStep, dirtyStep, evictStep, freezeStep, letGoStep, noOpStep, pageInIndirectionTableReqStep, pageInIndirectionTableRespStep}
-use Rattle.blockcache.specs.Steps.{pageInNodeReqStep, pageInNodeRespStep, readStep, receiveLocStep, unallocStep, writeBackIndirectionTableReqStep, writeBackIndirectionTableRespStep}
+use Rattle.blockcache.specs.Steps.{pageInNodeReqStep, pageInNodeRespStep, readStep, receiveLocStep, transactionStep, unallocStep}
+use Rattle.blockcache.specs.Steps.{writeBackIndirectionTableReqStep, writeBackIndirectionTableRespStep}
 use Rattle.blockcache.specs.Steps.{writeBackNodeReqStep, writeBackNodeRespStep}
 use Rattle.blockcache.specs.Upstream.{Alloc, CleanUp, Dirty, Evict, Freeze, Init, NoOp, PageInIndirectionTableReq, PageInIndirectionTableResp, PageInNodeReq, PageInNodeResp, ReadStep}
 use Rattle.blockcache.specs.Upstream.{Ready, ReceiveLoc, Unalloc, Variables, WriteBackIndirectionTableReq, WriteBackIndirectionTableResp, WriteBackNodeReq, WriteBackNodeResp}
@@ -97,3 +98,5 @@ module _ (d : ℕ) (s s' : Variables) (dop : Dop) (vop : VersionOp) (ref : ℕ) 
   NextStep crashStep = Crashed s' vop
   -- upstream has no such step: LetGo.antt says what it does
   NextStep letGoStep = ⊥
+  -- Transaction with an empty list: OpTransaction over no operation
+  NextStep transactionStep = TransactionOp dop vop × (s' ≡ s) × OnReady s (λ x. Unit {0})

@@ -9,7 +9,8 @@ use Rattle.blockcache.specs.Ops.{advance, cleanUp, crash, dopBrought, do
 use Rattle.blockcache.specs.Ops.{nodeWriteResp, popSync, pushSync, sendFrozenLoc, sendPersistentLoc, tableReadReq, tableReadResp, tableWriteReq, tableWriteResp, vopLoc, vopNoOp}
 use Rattle.blockcache.specs.Scan.{hasPredecessor, heldIn, needsCached, nodeRejected, reads, tableRejected, writesTo}
 use Rattle.blockcache.specs.Steps.{Step, allocStep, cleanUpStep, crashStep, dirtyStep, evictStep, freezeStep, letGoStep, noOpStep, pageInIndirectionTableReqStep, pageInIndirectionTableRespStep}
-use Rattle.blockcache.specs.Steps.{pageInNodeReqStep, pageInNodeRespStep, readStep, receiveLocStep, unallocStep, writeBackIndirectionTableReqStep, writeBackIndirectionTableRespStep}
+use Rattle.blockcache.specs.Steps.{pageInNodeReqStep, pageInNodeRespStep, readStep, receiveLocStep, transactionStep, unallocStep}
+use Rattle.blockcache.specs.Steps.{writeBackIndirectionTableReqStep, writeBackIndirectionTableRespStep}
 use Rattle.blockcache.specs.Steps.{writeBackNodeReqStep, writeBackNodeRespStep}
 use Rattle.blockcache.specs.declared.Awaited.{Awaited}
 use Rattle.blockcache.specs.declared.CacheState.{CacheState}
@@ -85,6 +86,7 @@ module _ (p : Phase) (v : VersionOp) (o : DiskOp) where
   takes readStep = taking true true (readyPhase p)
   takes crashStep = taking (isV crash v) true true
   takes letGoStep = taking (isV internal v) (isD nodeReadResp o || isD tableReadResp o) (answerPhase p o)
+  takes transactionStep = taking (isV advance v) (isD noDop o) (readyPhase p)
 
 -- 2, 3 and 4 come before a step's own conditions
 abbrev pub gate : Takes → List Row → List Row
@@ -216,6 +218,7 @@ module _ (g : Settings) (c : CacheState) (q : Call) where
   ownRows letGoStep =
       (5 when not (awaitsRead c (q .dop))) ∷
       []
+  ownRows transactionStep = []  -- an empty list; Operations.antt has the others
 
   abbrev pub stepRows : Step → List Row
   stepRows step = gate (takes (c .phase) (q .vop) (q .dop) step) (ownRows step)

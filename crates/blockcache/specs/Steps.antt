@@ -22,7 +22,7 @@ pub data Step : Type 0 where
   freezeStep : Step
   cleanUpStep : Step
   noOpStep : Step
-  -- TransactionStep: OpTransaction isn't in the text, so its two operations are steps of their own, with Transaction's V and D
+  -- OpTransaction isn't in the text: its two operations are steps of their own, with Transaction's V and D
   dirtyStep : Step
   allocStep : Step
   -- not among upstream's: ReadStep takes no V and no D, and a crash is BlockSystem's step, of which this is the cache's half
@@ -30,6 +30,9 @@ pub data Step : Type 0 where
   crashStep : Step
   -- document 02's, Q-2: the end of a wait for a read
   letGoStep : Step
+  -- document 02's, Q-7: upstream's TransactionStep. Its list stands beside the call (Operations.antt); a call without one is that of an
+  -- empty list
+  transactionStep : Step
 
 -- by their numbers, from 1
 unfoldable pub steps : List Step
@@ -53,6 +56,7 @@ steps =
     readStep ∷
     crashStep ∷
     letGoStep ∷
+    transactionStep ∷
     []
 
 -- the step of a number; none: refused with 1
@@ -81,6 +85,7 @@ numberOf allocStep = 16
 numberOf readStep = 17
 numberOf crashStep = 18
 numberOf letGoStep = 19
+numberOf transactionStep = 20
 
 -- the three that a joined call asks for by themselves: a start, a read, a crash
 abbrev pub isStart : ℕ → Bool
@@ -100,12 +105,13 @@ isLoad n = eqb n (numberOf pageInIndirectionTableRespStep)
 abbrev pub isCleanUp : ℕ → Bool
 isCleanUp n = eqb n (numberOf cleanUpStep)
 
--- document 02's steps, which upstream doesn't have: demand 2's first sentence leaves them out
+-- document 02's step that upstream doesn't have; its step 20 is upstream's TransactionStep
 abbrev pub isNew : ℕ → Bool
 isNew n = eqb n (numberOf letGoStep)
 
--- the steps after which the code makes the marks anew: they may move a location of a table or an outstanding write. Every other step moves none, or leaves
--- no location, no outstanding write and no mark: receiveLocStep and crashStep (`marks-stay`, proofs/MarkSteps.antt)
+-- the steps after which the code makes the marks anew: they may move a location of a table or an outstanding write. Every other step
+-- (20 without its list) moves none, or leaves no location, no outstanding write and no mark: receiveLocStep and crashStep
+-- (`marks-stay`, proofs/MarkSteps.antt)
 abbrev pub relocates : ℕ → Bool
 relocates n =
     eqb n (numberOf writeBackNodeReqStep)

@@ -1,6 +1,6 @@
 // Upstream's BlockCache as definitions: phases, three tables, what is outstanding, the cached nodes and the marks of the node blocks; what each of
-// steps 1 to 19 and the chooser answers and leaves, upstream's predicates and that of step 19, and the theorem of demand 2. No code: `cache` has the
-// step and the chooser.
+// steps 1 to 20 and the chooser answers and leaves, upstream's predicates and that of step 19, and the theorem of demand 2. No code:
+// `cache` has the step, the list of operations and the chooser.
 use blockdisk::DiskOp;
 use disklayout::Location;
 use queue::Requests;
@@ -97,6 +97,22 @@ pub struct Call {
 pub struct CacheOutcome {
     pub answer: u64,
     pub node: Node,
+    pub cache: CacheState,
+}
+
+// One operation of step 20's list (document 02, Q-7), upstream's Op: an alloc, else a write, which is Dirty, of a node under a
+// reference. Any 64-bit number may stand as the reference, and any node.
+pub struct Operation {
+    pub alloc: bool,
+    pub reference: u64,
+    pub node: Node,
+}
+
+// What a list of operations returns: the number that document 02 gives; the place of the operation that failed, from 0, and 0 with
+// every other answer; and the cache, unchanged where the number is not 0.
+pub struct OperationsOutcome {
+    pub answer: u64,
+    pub place: u64,
     pub cache: CacheState,
 }
 

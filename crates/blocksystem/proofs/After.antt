@@ -7,13 +7,18 @@ use mathlib.Core.Logic.{_↔_}
 use mathlib.Core.Path.{_∙_, _≡_, ap, refl, subst}
 use borrow.Author.Tests.{eq-eqb, eqb-true, ne-eqb}
 use Rattle.base.proofs.Tests.{and-iff}
+use Rattle.blockcache.specs.Operations.{operationCall, operationNumber}
 use Rattle.blockcache.specs.Ops.{vopLoc}
 use Rattle.blockcache.specs.Steps.{isStart}
 use Rattle.blockcache.specs.declared.Call.{Call}
+use Rattle.blockcache.specs.declared.Operation.{Operation}
+use Rattle.blockdisk.specs.Records.{emptyRecords}
 use Rattle.blockdisk.specs.declared.Records.{Records}
 use Rattle.blocksystem.specs.Choosing.{joinedChoice}
 use Rattle.blocksystem.specs.Names.{isNamed, picturesAfter}
-use Rattle.blocksystem.specs.Run.{Every, JoinedCall, State, acceptsStep, after, afterStep, asked, choose, moved, startNamed, startsNamed, step, stepNamed}
+use Rattle.blocksystem.specs.Operations.{joinedOperations, operationsPictures}
+use Rattle.blocksystem.specs.Run.{Every, JoinedCall, State, acceptsStep, after, afterSingle, afterSingles, afterStep, asked, choose}
+use Rattle.blocksystem.specs.Run.{moved, operations, startNamed, startsNamed, step, stepNamed}
 
 -- THE RUN
 
@@ -36,6 +41,28 @@ pub record ChoiceHandsOn (d : ℕ) (s : State) : Type 0 where
 pub choice-hands-on : (d : ℕ) (s : State) → ChoiceHandsOn d s
 unfolding after
 choice-hands-on d s = record { cache = refl; disk = refl; pictures = refl }
+
+-- the state after a list of operations
+pub record ListHandsOn (d : ℕ) (s : State) (q : Call) (l : List Operation) : Type 0 where
+  pub cache : after d s (operations q l ∷ []) .cache ≡ joinedOperations d q l (s .cache) (s .disk) .cache
+  pub disk : after d s (operations q l ∷ []) .disk ≡ joinedOperations d q l (s .cache) (s .disk) .disk
+  pub accepted : joinedOperations d q l (s .cache) (s .disk) .answer ≡ 0 →
+      after d s (operations q l ∷ []) .pictures ≡ operationsPictures l (s .pictures)
+  pub refused : (joinedOperations d q l (s .cache) (s .disk) .answer ≡ 0 → ⊥) → after d s (operations q l ∷ []) .pictures ≡ s .pictures
+
+pub list-hands-on : (d : ℕ) (s : State) (q : Call) (l : List Operation) → ListHandsOn d s q l
+unfolding after
+list-hands-on d s q l = record { cache = refl; disk = refl; accepted = λ e. rw (eq-eqb _ _ e); refused = λ ne. rw (ne-eqb _ _ ne) }
+
+-- the single calls of a list of operations, as calls of a list
+abbrev pub singleCalls : List Operation → List JoinedCall
+singleCalls [] = []
+singleCalls (o ∷ os) = step (operationNumber o) (operationCall o) emptyRecords ∷ singleCalls os
+
+pub run-singles : (d : ℕ) (l : List Operation) (s : State) → after d s (singleCalls l) ≡ afterSingles d s l
+unfolding after afterSingles
+run-singles d [] s = refl
+run-singles d (o ∷ os) s = run-singles d os (afterSingle d s o)
 
 pub run-one : (d : ℕ) (s : State) (n : ℕ) (q : Call) (o : Records) → after d s (step n q o ∷ []) ≡ afterStep d s n q o
 unfolding after
@@ -105,6 +132,7 @@ at-named : (d : ℕ) (s : State) (k : JoinedCall) →
     ((n : ℕ) (q : Call) (o : Records) → k ≡ step n q o → asked d s n q o .answer ≡ 0 → isStart n ≡ true → isNamed (s .pictures) (vopLoc (q .vop)) ≡ true) → CallNamed d s k
 at-named d s (step n q o) h = step-named-iff d s n q o .1 (λ t. h n q o refl (eqb-true _ _ t))
 at-named d s choose h = refl
+at-named d s (operations q l) h = refl
 
 pub starts-named-iff : (d : ℕ) (s : State) (calls : List JoinedCall) → (startsNamed d s calls ≡ true) ↔ EveryStartNamed d s calls
 starts-named-iff d s calls =

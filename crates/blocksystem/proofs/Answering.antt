@@ -28,10 +28,11 @@ use Rattle.blockdisk.specs.Ops.{diskRows}
 use Rattle.blocksystem.proofs.Accepting.{crash-answer, disk-answer, refused-unmoved}
 use Rattle.blocksystem.proofs.After.{every-iff}
 use Rattle.blocksystem.proofs.Choosing.{choice-is, choice-zero}
+use Rattle.blocksystem.proofs.Operations.{list-answered}
 use Rattle.blocksystem.specs.Choosing.{joinedChoice}
 use Rattle.blocksystem.specs.Joined.{diskAsked, diskCall, joined, joinedAnswer, settingsOf, startRows}
 use Rattle.blocksystem.specs.Run.{Answered, AnsweredAs, ChoiceAnswered, JoinedCall, State, StepAnswered, after, choice, choiceRows}
-use Rattle.blocksystem.specs.Run.{choose, conditions, diskSide, step}
+use Rattle.blocksystem.specs.Run.{choose, conditions, diskSide, operations, step}
 
 -- a is the lowest number of which P holds; 0 where P holds of none
 pub record Lowest (a : ℕ) (P : ℕ → Bool) : Type 0 where
@@ -145,6 +146,7 @@ choice-answered d s =
 pub answered-as : (d : ℕ) (s : State) (k : JoinedCall) → AnsweredAs d s k
 answered-as d s (step n q o) = step-answered d s n q o
 answered-as d s choose = choice-answered d s
+answered-as d s (operations q l) = list-answered d s q l
 
 -- each call of a list, whatever the state
 pub all-answered : (d : ℕ) (calls : List JoinedCall) (s : State) → Answered d s calls

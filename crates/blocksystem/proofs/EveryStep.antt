@@ -17,7 +17,8 @@ use Rattle.blockcache.specs.Next.{cachedSlot}
 use Rattle.blockcache.specs.NextStep.{IdleVop, NextStep}
 use Rattle.blockcache.specs.Ops.{vopKind, vopLoc}
 use Rattle.blockcache.specs.Steps.{allocStep, cleanUpStep, crashStep, dirtyStep, evictStep, freezeStep, isCrash, isStart, letGoStep, noOpStep, numberOf, pageInIndirectionTableReqStep}
-use Rattle.blockcache.specs.Steps.{pageInIndirectionTableRespStep, pageInNodeReqStep, pageInNodeRespStep, readStep, receiveLocStep, Step, stepOf, steps, unallocStep}
+use Rattle.blockcache.specs.Steps.{pageInIndirectionTableRespStep, pageInNodeReqStep, pageInNodeRespStep, readStep, receiveLocStep, Step}
+use Rattle.blockcache.specs.Steps.{stepOf, steps, transactionStep, unallocStep}
 use Rattle.blockcache.specs.Steps.{writeBackIndirectionTableReqStep, writeBackIndirectionTableRespStep, writeBackNodeReqStep, writeBackNodeRespStep}
 use Rattle.blockcache.specs.Upstream.{Variables}
 use Rattle.blockcache.specs.UpstreamInv.{Inv}
@@ -32,7 +33,8 @@ use Rattle.blocksystem.proofs.KeepQueues.{Started}
 use Rattle.blocksystem.proofs.KeepSteps.{alloc-kept, clean-up-kept, dirty-kept, evict-kept, freeze-kept, let-go-kept, no-op-kept, page-in-node-req-kept, page-in-node-resp-kept}
 use Rattle.blocksystem.proofs.KeepSteps.{page-in-table-req-kept, page-in-table-resp-kept, read-kept, receive-loc-kept, unalloc-kept, write-back-node-req-kept}
 use Rattle.blocksystem.proofs.Naming.{is-named-iff, names-iff}
-use Rattle.blocksystem.proofs.KeepSteps.{write-back-node-resp-kept, write-back-table-req-kept, write-back-table-resp-kept}
+use Rattle.blocksystem.proofs.KeepSteps.{transaction-kept, write-back-node-resp-kept, write-back-table-req-kept}
+use Rattle.blocksystem.proofs.KeepSteps.{write-back-table-resp-kept}
 use Rattle.blocksystem.specs.Allowed.{joinedOp, joinedVop}
 use Rattle.blocksystem.specs.Joined.{diskCall}
 use Rattle.blocksystem.specs.Names.{isNamed, names, nodePictured, pictureOf, picturesAfter, picturesOf, startedAt, stepPictures, withWorking}
@@ -145,6 +147,8 @@ module _ (d : ℕ) (q : Call) (s s' : Variables) (v v' : DVariables) (t : Pictur
   step-kept readStep e m = same (read-kept d s s' v v' (callOp q) (q .vop) (q .reference) (q .node) maps w (m .move) (m .cache))
   step-kept crashStep e m = clash refl e
   step-kept letGoStep e m = same (let-go-kept d s s' v v' (callOp q) (q .vop) (q .reference) (q .node) maps w i (m .disk) (m .move) (m .cache))
+  step-kept transactionStep e m = same (transaction-kept d s s' v v' (callOp q) (q .vop) (q .reference) (q .node) maps w i (m .disk)
+      (m .move) (m .cache))
 
 -- EACH PICTURE KEEPS ITS FORM
 
@@ -183,6 +187,7 @@ module _ (t : Pictures) (f : PicturesForm t) where
     step-form readStep = f
     step-form crashStep = f
     step-form letGoStep = f
+    step-form transactionStep = f
 
     number-forms : (o : Option Step) → PicturesForm (picturesOf q t o)
     number-forms none = f
@@ -215,6 +220,7 @@ module _ (n : ℕ) (q : Call) (t : Pictures) (not4 : n ≡ 4 → ⊥) (not5 : n 
   of-step readStep e = refl
   of-step crashStep e = refl
   of-step letGoStep e = refl
+  of-step transactionStep e = refl
 
   of-number : (o : Option Step) → stepOf n ≡ o → picturesOf q t o ≡ t
   of-number none e = refl
@@ -282,3 +288,4 @@ module _ (d : ℕ) (s s' : Variables) (q : Call) where
   sent-by n l readStep e x v = differ StatesInternalOp StatesInternalOp (SendPersistentLocOp l) refl (read-vop n e v) refl
   sent-by n l crashStep e x v = differ (joinedVop n q) CrashOp (SendPersistentLocOp l) (x .0) v refl
   sent-by n l letGoStep e x v = absurd x
+  sent-by n l transactionStep e x v = differ (joinedVop n q) (AdvanceOp (x .0 .0 .0)) (SendPersistentLocOp l) (x .0 .0 .1) v refl

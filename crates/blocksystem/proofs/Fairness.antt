@@ -2,7 +2,7 @@
 -- block given, and so is among the next 128; right after a load the lowest free block is given; and right after a block is given, step 1
 -- refuses its address with neither 6 nor 7. Assumes nothing.
 use Prim.Native.Nat.{_<_, _≤_, suc, zero, ℕ}
-use mathlib.Core.Bool.{Bool, _&&_, _||_, and-false, false, true}
+use mathlib.Core.Bool.{Bool, _&&_, _||_, and-false, false, false≢true, true}
 use mathlib.Core.List.{List, [], _++_, _∷_}
 use mathlib.Core.Option.{some}
 use mathlib.Core.Path.{_∙_, _≡_, ap, refl, subst, sym}
@@ -25,18 +25,23 @@ use Rattle.blockcache.specs.Chooser.{chooser, chooserRows, isFree, marked, next
 use Rattle.blockcache.specs.Form.{cacheForm, isReady}
 use Rattle.blockcache.specs.Step.{cacheRows}
 use Rattle.blockcache.specs.Steps.{isLoad, isRead, stepOf, steps}
+use Rattle.blockcache.specs.Operations.{operationCall, operationNumber}
 use Rattle.blockcache.specs.declared.Call.{Call}
+use Rattle.blockcache.specs.declared.Operation.{Operation}
 use Rattle.blockdisk.proofs.Forms.{disk-form-iff}
 use Rattle.blockdisk.specs.Form.{diskForm, isRule}
+use Rattle.blockdisk.specs.Records.{emptyRecords}
 use Rattle.blockdisk.specs.declared.Records.{Records}
 use Rattle.blocksystem.proofs.Accepting.{joined-cache, joined-disk-form, joined-zero}
 use Rattle.blocksystem.proofs.Answering.{answered-as}
 use Rattle.blocksystem.proofs.Choosing.{choice-formed, choice-is, choice-keeps-form, choice-refused, choice-zero}
 use Rattle.blocksystem.proofs.Frozen.{call-keeps-rule}
+use Rattle.blocksystem.proofs.Operations.{list-keeps, no-load-number}
 use Rattle.blocksystem.proofs.Premises.{loads-iff, loads-none, stays-each}
 use Rattle.blocksystem.specs.Joined.{joined, joinedAnswer, settingsOf}
-use Rattle.blocksystem.specs.Run.{Every, JoinedCall, State, acceptsStep, after, afterChoice, afterStep, asked, choice, choose}
-use Rattle.blocksystem.specs.Run.{conditions, diskSide, free, moved, step}
+use Rattle.blocksystem.specs.Run.{Every, JoinedCall, State, acceptsStep, after, afterChoice, afterList, afterStep, asked, choice}
+use Rattle.blocksystem.specs.Run.{choose}
+use Rattle.blocksystem.specs.Run.{conditions, diskSide, free, moved, operations, step}
 use Rattle.blocksystem.specs.Fairness.{Among, Fairness, GivenUsable, LowestAfterLoad, NoLoad, StaysFree, given, givenBy, loads}
 
 -- THE WRITTEN FORM
@@ -45,13 +50,17 @@ module _ (d : ℕ) where
   abbrev pub Formed : State → Type 0
   Formed s = cacheForm d (s .cache) ≡ true
 
-  formed-next : (s : State) (k : JoinedCall) → Formed s → Formed (moved d s k)
+  formed-step : (s : State) (n : ℕ) (q : Call) (o : Records) → Formed s → Formed (afterStep d s n q o)
   unfolding joined
-  formed-next s (step n q o) f =
+  formed-step s n q o f =
       split (eqb (joinedAnswer d n q o (s .cache) (s .disk)) 0)
       (λ t. rw t (step-form (settingsOf d (s .disk)) (s .cache) n q f))
       (λ t. rw t f)
+
+  formed-next : (s : State) (k : JoinedCall) → Formed s → Formed (moved d s k)
+  formed-next s (step n q o) f = formed-step s n q o f
   formed-next s choose f = choice-keeps-form d (s .cache) (s .disk) f
+  formed-next s (operations q l) f = list-keeps d s q l Formed (λ t o. formed-step t (operationNumber o) (operationCall o) emptyRecords) f
 
   -- whatever the list
   pub formed-after : (calls : List JoinedCall) (s : State) → Formed s → Formed (after d s calls)
@@ -84,6 +93,19 @@ module _ (d : ℕ) where
       rw c (last-stays (settingsOf d (s .disk)) (s .cache) n q z (no-load-step s n q o l e) (rw c at t)))
       (λ a. rw a (rw a at t, refl))
 
+  -- a list of operations loads nothing
+  list-last : (s : State) (q : Call) (l : List Operation) → isReady (afterList d s q l .cache) ≡ true →
+      (isReady (s .cache) ≡ true) × (last (afterList d s q l) ≡ last s)
+  list-last s q l =
+      list-keeps d s q l (λ t. isReady (t .cache) ≡ true → (isReady (s .cache) ≡ true) × (last t ≡ last s))
+      (λ t o p r. let n = operationNumber o in
+      let call = operationCall o in
+      let none : loads d t (step n call emptyRecords) ≡ false = rw (no-load-number o) (and-false (acceptsStep d t n call emptyRecords)) in
+      let x = step-last t n call emptyRecords none r in
+      let y = p (x .0) in
+      (y .0, x .1 ∙ y .1))
+      (λ r. (r, refl))
+
   -- OUTSIDE READY NO BLOCK IS GIVEN, until a load
 
   accepted : (s : State) → eqb (choice d s .answer) 0 ≡ true → answer (chooserRows (settingsOf d (s .disk)) (s .cache)) ≡ 0
@@ -99,10 +121,12 @@ module _ (d : ℕ) where
   none-given : (s : State) (k : JoinedCall) → isReady (s .cache) ≡ false → givenBy d s k ≡ []
   none-given s (step n q o) f = refl
   none-given s choose f = rw (refused-unready s f)
+  none-given s (operations q l) f = refl
 
   pub stays-unready : (s : State) (k : JoinedCall) → isReady (s .cache) ≡ false → loads d s k ≡ false → isReady (moved d s k .cache) ≡ false
   stays-unready s (step n q o) f l = split (isReady (afterStep d s n q o .cache)) (λ t. clash (step-last s n q o l t .0) f) (λ t. t)
   stays-unready s choose f l = rw (as-it-was s (refused-unready s f)) f
+  stays-unready s (operations q os) f l = split (isReady (afterList d s q os .cache)) (λ t. clash (list-last s q os t .0) f) (λ t. t)
 
   unready-gives-none : (calls : List JoinedCall) (s : State) → isReady (s .cache) ≡ false →
       Every d (λ t k. loads d t k ≡ false) s calls → given d s calls ≡ []
@@ -161,6 +185,9 @@ module _ (d : ℕ) where
     fair [] s n f r e es ls near long = absurd (omega arith)
     fair (step m q o ∷ ks) s n f r e es ls near long =
         fair-same ks (fair ks) s (afterStep d s m q o) n (formed-next s (step m q o) f) (λ t. step-last s m q o (ls .0) t .1) (es .0) (es .1) (ls .1) near long
+    fair (operations q l ∷ ks) s n f r e es ls near long =
+        fair-same ks (fair ks) s (afterList d s q l) n (formed-next s (operations q l) f)
+        (λ t. list-last s q l t .1) (es .0) (es .1) (ls .1) near long
     fair (choose ∷ ks) s n f r e es ls near long =
         split (eqb (choice d s .answer) 0)
         (λ t. rw t (fair-given ks (fair ks) s n f t e (es .0) (es .1) (ls .1) near (rw t at long)))
@@ -226,6 +253,7 @@ module _ (d : ℕ) where
   abbrev pub isQuiet : JoinedCall → Bool
   isQuiet (step n q o) = isRead n
   isQuiet choose = true
+  isQuiet (operations q l) = false
 
   unfoldable pub allQuiet : List JoinedCall → Bool
   allQuiet [] = true
@@ -236,6 +264,7 @@ module _ (d : ℕ) where
   choices [] = 0
   choices (step n q o ∷ ks) = choices ks
   choices (choose ∷ ks) = suc (choices ks)
+  choices (operations q l ∷ ks) = choices ks
 
   module _ (b : ℕ) (small : b < 128) where
     -- what is asked of the state
@@ -280,10 +309,12 @@ module _ (d : ℕ) where
     again : (s : State) (k : JoinedCall) → isQuiet k ≡ true → CanChoose s → CanChoose (moved d s k)
     again s (step n q o) e h = let r : n ≡ 17 = eqb-true n 17 e in rw r (after-read s q o h)
     again s choose e h = after-choice s h
+    again s (operations q l) e h = absurd (false≢true e)
 
     no-load-one : (s : State) (k : JoinedCall) → isQuiet k ≡ true → loads d s k ≡ false
     no-load-one s (step n q o) e = let r : n ≡ 17 = eqb-true n 17 e in rw r (and-false (acceptsStep d s 17 q o))
     no-load-one s choose e = refl
+    no-load-one s (operations q l) e = refl
 
     -- each chooser's call gives one, the block stays free, and no load is accepted
     all-given : (calls : List JoinedCall) (s : State) → allQuiet calls ≡ true → CanChoose s → length (given d s calls) ≡ choices calls
@@ -292,6 +323,7 @@ module _ (d : ℕ) where
     all-given (step n x o ∷ ks) s q h =
         let e = and-iff (isRead n) (allQuiet ks) .0 q in
         all-given ks (afterStep d s n x o) (e .1) (again s (step n x o) (e .0) h)
+    all-given (operations x l ∷ ks) s q h = absurd (false≢true q)
     all-given (choose ∷ ks) s q h = rw (gives s h) (ap suc (all-given ks (afterChoice d s) q (after-choice s h)))
 
     free-throughout : (calls : List JoinedCall) (s : State) → allQuiet calls ≡ true → CanChoose s → StaysFree d b s calls

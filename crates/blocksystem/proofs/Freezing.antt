@@ -1,8 +1,7 @@
 -- The disk's rule in a joined call: a disk of no rule is refused with 1; under rule 1 Freeze is upstream's, and 25 is given under rule 2 alone, by the rule that
 -- the disk carries. Assumes nothing.
 use Prim.Native.Nat.{_<_, ℕ}
-use mathlib.Core.Bool.{_&&_, false, false≢true, or-false, true}
-use mathlib.Core.List.{[]}
+use mathlib.Core.Bool.{_&&_, false, or-false, true}
 use mathlib.Core.Logic.{_↔_}
 use mathlib.Core.Path.{_∙_, _≡_, refl, subst, sym}
 use native.Mathlib.Omega.{arith}
@@ -26,15 +25,11 @@ use Rattle.blockcache.specs.declared.Settings.{Settings}
 use Rattle.blockdisk.proofs.Forms.{disk-form-iff}
 use Rattle.blockdisk.proofs.Rules.{no-rule-crash, no-rule-refused}
 use Rattle.blockdisk.specs.Form.{diskForm, isRule}
-use Rattle.blockdisk.specs.Ops.{diskStep, opRows}
-use Rattle.blockdisk.specs.declared.DiskOp.{DiskOp}
-use Rattle.blockdisk.specs.declared.DiskOp.the-variants.{NoDiskOp, ReqReadIndirectionTableOp, ReqReadNodeOp, ReqWriteIndirectionTableOp, ReqWriteNodeOp}
-use Rattle.blockdisk.specs.declared.DiskOp.the-variants.{RespReadIndirectionTableOp, RespReadNodeOp, RespWriteIndirectionTableOp, RespWriteNodeOp}
+use Rattle.blockdisk.specs.Ops.{diskStep}
 use Rattle.blockdisk.specs.declared.DiskState.{DiskState}
 use Rattle.blockdisk.specs.declared.Records.{Records}
 use Rattle.sectortype.specs.Form.{nodeForm, tableForm, zeroNode}
-use Rattle.sectortype.specs.declared.Node.{Node}
-use Rattle.sectortype.specs.declared.Table.{Table}
+use Rattle.blocksystem.proofs.IdleDisk.{idle-rows}
 use Rattle.blocksystem.proofs.Answering.{answered-as}
 use Rattle.blocksystem.specs.Joined.{diskAsked, diskCall, joined, joinedAnswer, settingsOf, startRows}
 use Rattle.blocksystem.specs.Run.{InForm, State, asked, conditions, step}
@@ -55,17 +50,6 @@ module _ (d n : ℕ) (q : Call) (o : Records) (c : CacheState) (s : DiskState) (
   no-rule-joined = rw unruled-answer refl
 
 -- FREEZE ASKS THE DISK FOR NOTHING
-
-idle-rows : (d : ℕ) (s : DiskState) (op : DiskOp) (n : Node) (t : Table) → eqb (dopKind op) noDop ≡ true → opRows d s op n t ≡ []
-idle-rows d s (ReqReadIndirectionTableOp id l) n t e = absurd (false≢true e)
-idle-rows d s (ReqReadNodeOp id l) n t e = absurd (false≢true e)
-idle-rows d s (ReqWriteIndirectionTableOp id l) n t e = absurd (false≢true e)
-idle-rows d s (ReqWriteNodeOp id l) n t e = absurd (false≢true e)
-idle-rows d s (RespReadIndirectionTableOp id b) n t e = absurd (false≢true e)
-idle-rows d s (RespReadNodeOp id b) n t e = absurd (false≢true e)
-idle-rows d s (RespWriteIndirectionTableOp id) n t e = absurd (false≢true e)
-idle-rows d s (RespWriteNodeOp id) n t e = absurd (false≢true e)
-idle-rows d s NoDiskOp n t e = refl
 
 module _ (d : ℕ) (s : State) (q : Call) (o : Records) where
   abbrev g : Settings

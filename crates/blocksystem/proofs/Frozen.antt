@@ -15,10 +15,13 @@ use Rattle.blockcache.proofs.Numbers.{number-decides}
 use Rattle.blockcache.specs.Abstract.{cacheVars}
 use Rattle.blockcache.specs.Steps.{freezeStep, isCleanUp, isCrash, isStart, stepOf, steps, writeBackIndirectionTableRespStep}
 use Rattle.blockcache.specs.Upstream.{Ready, ready}
+use Rattle.blockcache.specs.Operations.{operationCall, operationNumber}
 use Rattle.blockcache.specs.declared.Call.{Call}
+use Rattle.blockcache.specs.declared.Operation.{Operation}
 use Rattle.blockcache.specs.declared.Settings.{Settings}
 use Rattle.blockdisk.proofs.Rules.{crash-keeps-rule, step-keeps-rule}
 use Rattle.blockdisk.specs.Upstream.{diskVars}
+use Rattle.blockdisk.specs.Records.{emptyRecords}
 use Rattle.blockdisk.specs.declared.Records.{Records}
 use Rattle.disklayout.specs.declared.Location.{Location}
 use Rattle.blocksystem.proofs.Accepting.{joined-zero}
@@ -27,22 +30,28 @@ use Rattle.blocksystem.proofs.EveryStep.{names-same}
 use Rattle.blocksystem.proofs.Freezing.{accepted-form, joined-25-iff}
 use Rattle.blocksystem.proofs.Invariant.{InPhase, Invariant, pictureMaps}
 use Rattle.blocksystem.proofs.Keep.{first-keeps, run-keeps}
+use Rattle.blocksystem.proofs.Operations.{list-disk, list-keeps}
 use Rattle.blocksystem.specs.Frozen.{FrozenStays, endsFrozen}
 use Rattle.blocksystem.specs.Joined.{diskAsked, diskCall, joined, joinedAnswer, settingsOf}
 use Rattle.blocksystem.specs.Names.{picturesAfter}
-use Rattle.blocksystem.specs.Run.{acceptsStep, after, afterStep, asked, choose, Every, JoinedCall, moved, startsNamed, State, step}
+use Rattle.blocksystem.specs.Run.{acceptsStep, after, afterSingle, afterStep, asked, choose, Every, JoinedCall, moved, operations}
+use Rattle.blocksystem.specs.Run.{startsNamed, State, step}
 use Rattle.blocksystem.specs.Upstream.{unlessWriting}
 
 -- THE RULE STAYS
 
 module _ (d : ℕ) where
-  pub call-keeps-rule : (s : State) (k : JoinedCall) → moved d s k .disk .rule ≡ s .disk .rule
+  step-keeps : (s : State) (n : ℕ) (q : Call) (o : Records) → afterStep d s n q o .disk .rule ≡ s .disk .rule
   unfolding joined diskAsked
-  call-keeps-rule s (step n q o) =
+  step-keeps s n q o =
       split (eqb (joinedAnswer d n q o (s .cache) (s .disk)) 0)
       (λ t. rw t (split (isCrash n) (λ x. rw x (crash-keeps-rule d (s .disk) o)) (λ x. rw x (step-keeps-rule d (s .disk) (diskCall n q)))))
       (λ t. rw t refl)
+
+  pub call-keeps-rule : (s : State) (k : JoinedCall) → moved d s k .disk .rule ≡ s .disk .rule
+  call-keeps-rule s (step n q o) = step-keeps s n q o
   call-keeps-rule s choose = refl
+  call-keeps-rule s (operations q l) = ap (λ x. x .rule) (list-disk d s q l)
 
   pub run-keeps-rule : (calls : List JoinedCall) (s : State) → after d s calls .disk .rule ≡ s .disk .rule
   unfolding after
@@ -104,6 +113,7 @@ ends-frozen-iff d s k = (to k, (λ (n, q, o, e, a, u). subst (λ j. endsFrozen d
         let b = and-iff (acceptsStep d s n q o) (isCleanUp n || isStart n) .0 h in
         (n, q, o, refl, eqb-true _ _ (b .0), ⊎-elim (λ x. inl (eqb-true n 13 x)) (λ x. inr (eqb-true n 10 x)) (or-cases (isCleanUp n) (isStart n) (b .1)))
     to choose h = absurd (false≢true h)
+    to (operations q l) h = absurd (false≢true h)
 
     of-step : (n : ℕ) (q : Call) (o : Records) → asked d s n q o .answer ≡ 0 → (n ≡ 13) ⊎ (n ≡ 10) → endsFrozen d s (step n q o) ≡ true
     of-step n q o a u = and-both (eq-eqb _ _ a) (⊎-elim (λ x. or-inl (isStart n) (eq-eqb n 13 x)) (λ x. or-inr (isCleanUp n) (eq-eqb n 10 x)) u)
@@ -117,6 +127,14 @@ stays-one d s front n q o h there e =
     sym (ap (λ x. x .pictures .second) cut) ∙ h front (step n q o ∷ []) refl there (e, tt)
 
 module _ (d : ℕ) where
+  -- Dirty and Alloc change no name
+  single-second : (s : State) (o : Operation) → afterSingle d s o .pictures .second ≡ s .pictures .second
+  unfolding picturesAfter stepOf steps
+  single-second s o =
+      split (acceptsStep d s (operationNumber o) (operationCall o) emptyRecords)
+      (λ t. rw t (split (o .alloc) (λ a. rw a) (λ a. rw a)))
+      (λ t. rw t)
+
   call-stays : (s : State) (k : JoinedCall) → Invariant d s → s .disk .rule ≡ 2 → s .pictures .second .present ≡ true → endsFrozen d s k ≡ false →
       moved d s k .pictures .second ≡ s .pictures .second
   unfolding joined
@@ -125,6 +143,8 @@ module _ (d : ℕ) where
       (λ t. rw t (step-stays d s v there q o n two (eqb-true _ _ t) (and-false-iff (acceptsStep d s n q o) (isCleanUp n || isStart n) .0 h t)))
       (λ t. rw t refl)
   call-stays s choose v two there h = refl
+  call-stays s (operations q l) v two there h =
+      list-keeps d s q l (λ t. t .pictures .second ≡ s .pictures .second) (λ t o e. single-second t o ∙ e) refl
 
   -- ANY LIST
 

@@ -5,7 +5,7 @@ use mathlib.Core.List.{List, [], _∷_}
 use mathlib.Core.Option.{some}
 use mathlib.Core.Path.{_∙_, _≡_, refl, subst, sym}
 use borrow.Author.Tests.{eqb-true}
-use Rattle.base.proofs.Tests.{and-iff, split}
+use Rattle.base.proofs.Tests.{and-iff, clash, split}
 use Rattle.base.specs.Refusals.{answer}
 use Rattle.blockcache.proofs.Demand2.{store-allowed}
 use Rattle.blockcache.proofs.Kept.{cache-form-kept, inv-kept}
@@ -13,16 +13,19 @@ use Rattle.blockcache.proofs.LetGo.{no-op-unawaited}
 use Rattle.blockcache.proofs.Numbers.{call-accepted-iff, step-of-number}
 use Rattle.blockcache.specs.Abstract.{cacheVars, callOp}
 use Rattle.blockcache.specs.LetGo.{StoreStep}
+use Rattle.blockcache.specs.Operations.{operationCall, operationNumber}
 use Rattle.blockcache.specs.Ops.{vopLoc}
 use Rattle.blockcache.specs.Step.{cacheNext, cacheRows}
 use Rattle.blockcache.specs.Steps.{isCrash, isStart, numberOf, stepOf, steps}
 use Rattle.blockcache.specs.declared.Call.{Call}
+use Rattle.blockcache.specs.declared.Operation.{Operation}
 use Rattle.blockdisk.proofs.Crashing.{crash-form-kept}
 use Rattle.blockdisk.proofs.Demand2.{disk-allowed}
 use Rattle.blockdisk.proofs.Kept.{disk-form-kept}
 use Rattle.blockdisk.proofs.Moves.{disk-moves, nextVars}
 use Rattle.blockdisk.specs.Crash.{crashed, crashRows}
 use Rattle.blockdisk.specs.Ops.{diskRows, nextDisk}
+use Rattle.blockdisk.specs.Records.{emptyRecords}
 use Rattle.blockdisk.specs.Upstream.{diskVars, dopOf, Next}
 use Rattle.blockdisk.specs.declared.Records.{Records}
 use Rattle.blocksystem.proofs.After.{step-named-iff}
@@ -31,9 +34,11 @@ use Rattle.blocksystem.proofs.Choosing.{choice-keeps-form, choice-keeps
 use Rattle.blocksystem.proofs.EveryStep.{number-form, step-kept}
 use Rattle.blocksystem.proofs.Invariant.{Invariant, pictureMaps}
 use Rattle.blocksystem.proofs.KeepQueues.{keep-crash}
+use Rattle.blocksystem.proofs.Operations.{list-keeps, no-start}
 use Rattle.blocksystem.specs.Joined.{diskAsked, diskCall, joined, joinedAnswer, settingsOf}
 use Rattle.blocksystem.specs.Names.{isNamed, picturesAfter}
-use Rattle.blocksystem.specs.Run.{acceptsStep, after, afterChoice, afterStep, choose, Every, JoinedCall, moved, startNamed, startsNamed, State, step, stepNamed}
+use Rattle.blocksystem.specs.Run.{acceptsStep, after, afterChoice, afterSingle, afterStep, choose, Every, JoinedCall, moved}
+use Rattle.blocksystem.specs.Run.{operations, startNamed, startsNamed, State, step, stepNamed}
 
 -- AN ACCEPTED STEP
 
@@ -136,11 +141,20 @@ choice-keeps d s v =
       whole = rw (choice-keeps-vars d (s .cache) (s .disk)) (v .whole);
     }
 
+-- A LIST OF OPERATIONS: its single calls are no starts
+
+single-keeps : (d : ℕ) (s : State) (o : Operation) → Invariant d s → Invariant d (afterSingle d s o)
+single-keeps d s o v =
+    let n = operationNumber o in
+    let q = operationCall o in
+    step-call-keeps d s n q emptyRecords v (step-named-iff d s n q emptyRecords .1 (λ t start. clash start (no-start o)))
+
 -- ANY CALL
 
 pub call-keeps : (d : ℕ) (s : State) (k : JoinedCall) → Invariant d s → startNamed d s k ≡ true → Invariant d (moved d s k)
 call-keeps d s (step n q o) v named = step-call-keeps d s n q o v named
 call-keeps d s choose v named = choice-keeps d s v
+call-keeps d s (operations q l) v named = list-keeps d s q l (Invariant d) (single-keeps d) v
 
 -- ANY LIST
 

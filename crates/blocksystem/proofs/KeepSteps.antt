@@ -8,7 +8,8 @@ use Rattle.base.specs.Maps.{Map, del, put}
 use Rattle.blockcache.specs.LetGo.{AwaitsRead, LetGo, LetNodeGo}
 use Rattle.blockcache.specs.NextStep.{NextStep, OnBoth}
 use Rattle.blockcache.specs.Steps.{Step, allocStep, cleanUpStep, dirtyStep, evictStep, freezeStep, noOpStep, pageInIndirectionTableReqStep, pageInIndirectionTableRespStep, pageInNodeReqStep}
-use Rattle.blockcache.specs.Steps.{pageInNodeRespStep, readStep, receiveLocStep, unallocStep, writeBackIndirectionTableReqStep, writeBackIndirectionTableRespStep, writeBackNodeReqStep}
+use Rattle.blockcache.specs.Steps.{pageInNodeRespStep, readStep, receiveLocStep, transactionStep, unallocStep}
+use Rattle.blockcache.specs.Steps.{writeBackIndirectionTableReqStep, writeBackIndirectionTableRespStep, writeBackNodeReqStep}
 use Rattle.blockcache.specs.Steps.{writeBackNodeRespStep}
 use Rattle.blockcache.specs.Upstream.{Alloc, CleanUp, Dirty, Evict, Freeze, PageInNodeReq, PageInNodeResp, Ready, Unalloc, Variables, WriteBackIndirectionTableReq, WriteBackIndirectionTableResp}
 use Rattle.blockcache.specs.Upstream.{WriteBackNodeReq, WriteBackNodeResp, ready}
@@ -174,6 +175,10 @@ module _ (d : ℕ) (s s' : Variables) (v v' : DVariables) (dop : Dop) (vop : Ver
       (λ (id, m, b, h). on-both s s' (λ x y. LetNodeGo x y id) h (λ x y ex ey u. rw (ey, move, b) (keep-let-node-go d x y v t id m (rw ex at w) (rw ey at i) u)))
       (λ (id, f, b, (at, read, ex, u)). rw (move, b) (keep-let-table-go d at read s' v t id f (rw ex at w) i u))
       (g .answer)
+
+  -- an empty list moves nothing
+  pub transaction-kept : Taken transactionStep → Whole d s' v' t
+  transaction-kept g = rw (g .1, move, g .0 .1) w
 
   pub dirty-kept : Taken dirtyStep → Whole d s' v' (workingMaps t (put (t .working) ref n))
   dirty-kept g =

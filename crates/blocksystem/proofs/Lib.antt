@@ -13,6 +13,7 @@ pub mod FormattedInit
 pub mod Freezing
 pub mod Frozen
 pub mod Graphs
+pub mod IdleDisk
 pub mod Invariant
 pub mod Keep
 pub mod KeepNodes
@@ -24,7 +25,9 @@ pub mod Laws
 pub mod LetGo
 pub mod Naming
 pub mod NodeWait
+pub mod Operations
 pub mod PictureForms
+pub mod Pictured
 pub mod Premises
 pub mod Preserved
 pub mod Restart

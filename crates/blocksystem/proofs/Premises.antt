@@ -12,7 +12,7 @@ use Rattle.blockcache.specs.declared.Call.{Call}
 use Rattle.blockdisk.specs.declared.Records.{Records}
 use Rattle.blocksystem.proofs.After.{every-iff, run-cut}
 use Rattle.blocksystem.specs.Fairness.{NoLoad, StaysFree, loads}
-use Rattle.blocksystem.specs.Run.{Every, JoinedCall, State, acceptsStep, after, asked, choose, free, moved, step}
+use Rattle.blocksystem.specs.Run.{Every, JoinedCall, State, acceptsStep, after, asked, choose, free, moved, operations, step}
 
 module _ (d : ℕ) where
   -- what counts as a load: an accepted step 9, and nothing else
@@ -29,6 +29,7 @@ module _ (d : ℕ) where
           let e : n ≡ 9 = eqb-true n 9 (h .1) in
           (q, o, ap (λ m. step m q o) e, ap (λ m. asked d s m q o .answer) (sym e) ∙ eqb-true _ _ (h .0))
       to choose t = absurd (false≢true t)
+      to (operations q l) t = absurd (false≢true t)
 
   -- A BLOCK STAYS FREE
 

@@ -47,9 +47,11 @@ use Rattle.blocksystem.proofs.Invariant.{InPhase, Invariant, PictureMap
 use Rattle.blocksystem.proofs.Keep.{call-keeps, run-every}
 use Rattle.blocksystem.proofs.Premises.{loads-iff}
 use Rattle.blocksystem.proofs.KeepQueues.{Survives}
+use Rattle.blocksystem.proofs.Operations.{list-disk}
 use Rattle.blocksystem.specs.Fairness.{loads}
 use Rattle.blocksystem.specs.Joined.{diskCall, joined, joinedAnswer, settingsOf}
-use Rattle.blocksystem.specs.Run.{Every, JoinedCall, State, acceptsStep, afterChoice, afterStep, choose, moved, startsNamed, step}
+use Rattle.blocksystem.specs.Run.{Every, JoinedCall, State, acceptsStep, afterChoice, afterList, afterStep, choose, moved}
+use Rattle.blocksystem.specs.Run.{operations, startsNamed, step}
 use Rattle.blocksystem.specs.Upstream.{DiskChangesPreservesPersistentAndFrozen, DiskGraph, DiskGraphOfLoc, FrozenLoc}
 use Rattle.blocksystem.specs.Upstream.{GraphPreserved, NoDanglingPointers, PersistentLoc, SuccessorsAgree, Variables}
 use Rattle.blocksystem.specs.Upstream.{WFSuccs, graphOr, systemVars}
@@ -333,6 +335,10 @@ call-preserves d s (step n q o) v =
     same-contents d s (afterStep d s n q o) v
     (record { tables = ap (λ x. diskVars d x .indirectionTables) disk; nodes = ap (λ x. diskVars d x .nodes) disk }))
 call-preserves d s choose v = same-contents d s (afterChoice d s) v (record { tables = refl; nodes = refl })
+call-preserves d s (operations q l) v =
+    let disk = list-disk d s q l in
+    same-contents d s (afterList d s q l) v
+    (record { tables = ap (λ x. diskVars d x .indirectionTables) disk; nodes = ap (λ x. diskVars d x .nodes) disk })
 
 pub run-preserves : (d : ℕ) (calls : List JoinedCall) (s : State) → Invariant d s → startsNamed d s calls ≡ true →
     Every d (Preserves d) s calls

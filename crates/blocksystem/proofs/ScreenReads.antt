@@ -35,7 +35,7 @@ use Rattle.blocksystem.proofs.Formatted.{first-forms}
 use Rattle.blocksystem.proofs.Invariant.{PicturesForm}
 use Rattle.blocksystem.proofs.PictureForms.{run-form}
 use Rattle.blocksystem.specs.Joined.{joined, settingsOf}
-use Rattle.blocksystem.specs.Run.{Every, JoinedCall, State, acceptsStep, after, asked, choose, moved, start, step}
+use Rattle.blocksystem.specs.Run.{Every, JoinedCall, State, acceptsStep, after, asked, choose, moved, operations, start, step}
 use Rattle.blocksystem.specs.Screen.{differs, isPictured, readsDiffering, stepDiffers}
 
 -- WHAT IS THE PICTURE'S
@@ -109,6 +109,7 @@ not-counted d s (step n q o) f h =
     rw e (split (acceptsStep d s 17 q o) (λ t. let z = eqb-true _ _ t in same-iff d s q o f z .1 (h q o (ap (λ m. step m q o) e) z)) (λ t. rw t)))
     (λ r. split (acceptsStep d s n q o) (λ t. rw (t, r)) (λ t. rw t))
 not-counted d s choose f h = refl
+not-counted d s (operations q l) f h = refl
 
 abbrev pub CallSame : ℕ → State → JoinedCall → Type 0
 CallSame d s k = differs d s k ≡ false

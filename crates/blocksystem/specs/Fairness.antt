@@ -14,7 +14,8 @@ use Rattle.blockdisk.specs.declared.DiskOp.the-variants.{ReqWriteNodeOp}
 use Rattle.blockdisk.specs.declared.Records.{Records}
 use Rattle.disklayout.specs.Device.{deviceOf}
 use Rattle.disklayout.specs.Layout.{NodeBlockSize}
-use Rattle.blocksystem.specs.Run.{Every, JoinedCall, State, acceptsStep, after, afterChoice, afterStep, asked, choice, choose, free, moved, step}
+use Rattle.blocksystem.specs.Run.{Every, JoinedCall, State, acceptsStep, after, afterChoice, afterStep, asked, choice, choose, free}
+use Rattle.blocksystem.specs.Run.{moved, operations, step}
 
 -- b is among the first n of a list
 abbrev pub Among : ℕ → ℕ → List ℕ → Type 0
@@ -26,6 +27,7 @@ module _ (d : ℕ) where
   -- the block that a call gives, if it gives one
   abbrev pub givenBy : State → JoinedCall → List ℕ
   givenBy s (step n q o) = []
+  givenBy s (operations q l) = []
   givenBy s choose = cond (eqb (choice d s .answer) 0) (choice d s .block ∷ []) []
 
   -- the blocks given along a list, in their order
@@ -37,6 +39,7 @@ module _ (d : ℕ) where
   abbrev pub loads : State → JoinedCall → Bool
   loads s (step n q o) = acceptsStep d s n q o && isLoad n
   loads s choose = false
+  loads s (operations q l) = false
 
   -- block b is free before a list and after each of its calls
   abbrev pub StaysFree : ℕ → State → List JoinedCall → Type 0

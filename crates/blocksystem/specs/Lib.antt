@@ -7,6 +7,7 @@ pub mod Format
 pub mod Frozen
 pub mod Joined
 pub mod Names
+pub mod Operations
 pub mod Promise
 pub mod Run
 pub mod Screen

@@ -5,7 +5,8 @@ use mathlib.Core.Bool.{Bool, _&&_, _||_, cond, false, true}
 use Rattle.blockcache.specs.Next.{cachedSlot}
 use Rattle.blockcache.specs.Ops.{vopLoc}
 use Rattle.blockcache.specs.Steps.{Step, allocStep, cleanUpStep, crashStep, dirtyStep, evictStep, freezeStep, letGoStep, noOpStep, pageInIndirectionTableReqStep, pageInIndirectionTableRespStep}
-use Rattle.blockcache.specs.Steps.{pageInNodeReqStep, pageInNodeRespStep, readStep, receiveLocStep, stepOf, unallocStep, writeBackIndirectionTableReqStep, writeBackIndirectionTableRespStep}
+use Rattle.blockcache.specs.Steps.{pageInNodeReqStep, pageInNodeRespStep, readStep, receiveLocStep, stepOf, transactionStep, unallocStep}
+use Rattle.blockcache.specs.Steps.{writeBackIndirectionTableReqStep, writeBackIndirectionTableRespStep}
 use Rattle.blockcache.specs.Steps.{writeBackNodeReqStep, writeBackNodeRespStep}
 use Rattle.blockcache.specs.declared.Call.{Call}
 use Rattle.disklayout.specs.Calls.{zeroLoc}
@@ -89,6 +90,8 @@ module _ (q : Call) (t : Pictures) where
   stepPictures readStep = t
   stepPictures crashStep = t
   stepPictures letGoStep = t
+  -- an empty list; Operations.antt has the others
+  stepPictures transactionStep = t
 
   abbrev pub picturesOf : Option Step → Pictures
   picturesOf none = t

@@ -1,24 +1,28 @@
 -- The run of a list of joined calls from a newly formatted device, and what demand 3 says of it.
 use Prim.Native.Nat.{_+_, _<_, ℕ}
 use mathlib.Core.Bool.{Bool, _&&_, _||_, cond, false, not, true}
-use mathlib.Core.List.{List, [], _∷_}
+use mathlib.Core.List.{List, [], _++_, _∷_}
 use mathlib.Core.Logic.{_↔_}
 use mathlib.Core.Path.{_≡_}
-use lib.Dec.{eqb}
+use lib.Dec.{eqb, ltb}
+use lib.ListN.{length}
 use Rattle.base.specs.Refusals.{Row, holds}
 use Rattle.base.specs.Scan.{countBelow}
 use Rattle.blockcache.specs.Chooser.{nextFit, isFree, marked, refusedChoice}
 use Rattle.blockcache.specs.Form.{cacheForm, callForm}
 use Rattle.blockcache.specs.Next.{withLast}
+use Rattle.blockcache.specs.Operations.{operationCall, operationNumber}
 use Rattle.blockcache.specs.Ops.{vopLoc}
 use Rattle.blockcache.specs.Step.{cacheRows, cacheStep}
 use Rattle.blockcache.specs.Steps.{isCrash, isStart}
 use Rattle.blockcache.specs.declared.CacheState.{CacheState}
 use Rattle.blockcache.specs.declared.Call.{Call}
 use Rattle.blockcache.specs.declared.Choice.{Choice}
+use Rattle.blockcache.specs.declared.Operation.{Operation}
 use Rattle.blockdisk.specs.Crash.{crashRows}
 use Rattle.blockdisk.specs.Form.{diskForm}
 use Rattle.blockdisk.specs.Ops.{diskRows}
+use Rattle.blockdisk.specs.Records.{emptyRecords}
 use Rattle.blockdisk.specs.declared.DiskState.{DiskState}
 use Rattle.blockdisk.specs.declared.Records.{Records}
 use Rattle.disklayout.specs.Blocks.{NodeBlockAddr}
@@ -30,13 +34,17 @@ use Rattle.blocksystem.specs.Choosing.{joinedChoice, joinedChoiceRows}
 use Rattle.blocksystem.specs.Format.{formatted}
 use Rattle.blocksystem.specs.Joined.{diskAsked, diskCall, joined, settingsOf, startRows}
 use Rattle.blocksystem.specs.Names.{firstPictures, isNamed, picturesAfter}
+use Rattle.blocksystem.specs.Operations.{joinedOperations, operationsPictures, refusedOperations}
+use Rattle.blocksystem.specs.declared.JoinedOperationsOutcome.{JoinedOperationsOutcome}
 use Rattle.blocksystem.specs.declared.Outcome.{Outcome}
 use Rattle.blocksystem.specs.declared.Pictures.{Pictures}
 
--- a call of a list: a step, by its number, with its arguments and the records offered, which a crash alone looks at; or the chooser's call
+-- a call of a list: a step, by its number, with its arguments and the records offered, which a crash alone looks at; the chooser's
+-- call; or step 20's, with its arguments and its list of operations
 pub data JoinedCall : Type 0 where
   step : ℕ → Call → Records → JoinedCall
   choose : JoinedCall
+  operations : Call → List Operation → JoinedCall
 
 -- cache and disk as the last call handed them back, and the names and pictures
 pub record State : Type 0 where
@@ -133,20 +141,75 @@ module _ (d : ℕ) where
     -- the next cache has it as the block given last, and is as it was else
     pub next : choice s .answer ≡ 0 → choice s .cache ≡ withLast (s .cache) (choice s .block)
 
+  -- A LIST OF OPERATIONS
+
+  abbrev pub listAsked : State → Call → List Operation → JoinedOperationsOutcome
+  listAsked s q l = joinedOperations d q l (s .cache) (s .disk)
+
+  -- cache and disk as the call hands them back; the pictures take the operations, in list order, where it is accepted
+  abbrev pub afterList : State → Call → List Operation → State
+  afterList s q l =
+      record {
+        cache = listAsked s q l .cache;
+        disk = listAsked s q l .disk;
+        pictures = cond (eqb (listAsked s q l .answer) 0) (operationsPictures l (s .pictures)) (s .pictures);
+      }
+
+  -- one of them as a single call, and the state that it leaves
+  abbrev pub singleAsked : State → Operation → Outcome
+  singleAsked s o = asked s (operationNumber o) (operationCall o) emptyRecords
+
+  abbrev pub afterSingle : State → Operation → State
+  afterSingle s o = afterStep s (operationNumber o) (operationCall o) emptyRecords
+
+  -- all of them, one by one
+  unfoldable pub afterSingles : State → List Operation → State
+  afterSingles s [] = s
+  afterSingles s (o ∷ os) = afterSingles (afterSingle s o) os
+
+  -- each is accepted, in the state left by those before
+  abbrev pub EachTaken : State → List Operation → Type 0
+  EachTaken s [] = Unit {0}
+  EachTaken s (o ∷ os) = (singleAsked s o .answer ≡ 0) × EachTaken (afterSingle s o) os
+
+  -- what is refused before any operation: what step 20 is, without a list, then one of more than 32
+  abbrev pub listBefore : State → Call → ℕ → ℕ
+  listBefore s q n = cond (eqb (asked s 20 q emptyRecords .answer) 0) (cond (ltb 32 n) 24 0) (asked s 20 q emptyRecords .answer)
+
+  -- it is answered as document 02 fixes
+  pub record ListAnswered (s : State) (q : Call) (l : List Operation) : Type 0 where
+    -- before any operation: that number, place 0, cache and disk as they were
+    pub before : (listBefore s q (length l) ≡ 0 → ⊥) →
+        listAsked s q l ≡ refusedOperations (listBefore s q (length l)) 0 (s .cache) (s .disk)
+    -- past that it is accepted exactly when each in turn would be ..
+    pub accepted : listBefore s q (length l) ≡ 0 → (listAsked s q l .answer ≡ 0) ↔ EachTaken s l
+    -- .. and leaves what those calls leave, made one by one: cache, disk, names and pictures
+    pub next : listAsked s q l .answer ≡ 0 → (listAsked s q l .place ≡ 0) × (afterList s q l ≡ afterSingles s l)
+    -- else answer and place are those of the first single call that fails
+    pub failed : listBefore s q (length l) ≡ 0 → (front back : List Operation) (o : Operation) → l ≡ front ++ (o ∷ back) →
+        EachTaken s front →
+        (singleAsked (afterSingles s front) o .answer ≡ 0 → ⊥) →
+        listAsked s q l ≡ refusedOperations (singleAsked (afterSingles s front) o .answer) (length front) (s .cache) (s .disk)
+    -- and a refused list changes nothing, names and pictures too
+    pub unchanged : (listAsked s q l .answer ≡ 0 → ⊥) → afterList s q l ≡ s
+
   -- ANY CALL OF A LIST
 
   -- each call gets the cache and disk that the last one handed back
   abbrev pub moved : State → JoinedCall → State
   moved s (step n q o) = afterStep s n q o
   moved s choose = afterChoice s
+  moved s (operations q l) = afterList s q l
 
   abbrev pub AnsweredAs : State → JoinedCall → Type 0
   AnsweredAs s (step n q o) = StepAnswered s n q o
   AnsweredAs s choose = ChoiceAnswered s
+  AnsweredAs s (operations q l) = ListAnswered s q l
 
   abbrev pub startNamed : State → JoinedCall → Bool
   startNamed s (step n q o) = stepNamed s n q o
   startNamed s choose = true
+  startNamed s (operations q l) = true
 
   -- ALONG A LIST
 

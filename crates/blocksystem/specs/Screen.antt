@@ -16,7 +16,7 @@ use Rattle.sectortype.specs.declared.Node.{Node}
 use Rattle.sectortype.specs.declared.Nodes.{Nodes}
 use Rattle.sectortype.specs.declared.Slot.{Slot}
 use Rattle.blocksystem.specs.Audit.{atEntry}
-use Rattle.blocksystem.specs.Run.{JoinedCall, State, acceptsStep, asked, choose, moved, step}
+use Rattle.blocksystem.specs.Run.{JoinedCall, State, acceptsStep, asked, choose, moved, operations, step}
 
 -- the node is the one that the picture has of this reference, high, low and list; never where the picture has none
 abbrev pub isPictured : Nodes → ℕ → Node → Bool
@@ -32,6 +32,7 @@ module _ (d : ℕ) where
   abbrev pub differs : State → JoinedCall → Bool
   differs s (step n q o) = stepDiffers s n q o
   differs s choose = false
+  differs s (operations q l) = false
 
   -- how many of a list do
   unfoldable pub readsDiffering : State → List JoinedCall → ℕ

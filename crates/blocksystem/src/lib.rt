@@ -15,6 +15,15 @@ pub struct Outcome {
     pub disk: DiskState,
 }
 
+// What a list of operations on cache and disk returns: the number that document 02 gives, the place of the operation that failed, from
+// 0, and 0 with every other answer; and cache and disk, unchanged where the number is not 0.
+pub struct JoinedOperationsOutcome {
+    pub answer: u64,
+    pub place: u64,
+    pub cache: CacheState,
+    pub disk: DiskState,
+}
+
 // A place that is named, with the picture that belongs to it; nothing named is all zeros. "Named place" and "picture" are document 01's
 // terms (its section "Pictures and named places"): a picture is nodes by reference.
 pub struct Named {

@@ -102,6 +102,7 @@ fn gate(number: u64, phase: Phase, version: VersionOp, disk: DiskOp) -> u64
         17 => gate_answer(true, true, ready),
         18 => gate_answer(v == CRASH, true, true),
         19 => gate_answer(v == INTERNAL, read_resp, read_phase),
+        20 => gate_answer(v == ADVANCE, d == NO_DOP, ready),
         _ => 1,
     }
 }
@@ -120,7 +121,7 @@ fn relocates(number: u64) -> bool
 }
 
 // The outcome with the marks of the tables and the outstanding writes that the step leaves.
-fn renew_marks(device: u64, o: CacheOutcome) -> CacheOutcome
+pub(crate) fn renew_marks(device: u64, o: CacheOutcome) -> CacheOutcome
     requires { ⌜ made device ≡ true ⌝ }
     ensures { λ r. ⌜ r ≡ renewedOutcome device o ⌝ }
 {
@@ -200,6 +201,8 @@ impl Cache {
             17 => self.read_step(q),
             18 => self.crash(q),
             19 => self.let_go(q),
+            // a list without an operation; `operations` has the others
+            20 => answered(self.state, 0),
             _ => answered(self.state, 1),
         }
     }

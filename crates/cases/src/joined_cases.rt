@@ -332,7 +332,7 @@ fn crash() {
     both(b"crash_with_19_of_the_disk_alone", 18, q, none, c, s);
 }
 
-// 1 of one of the two alone, and step numbers outside 1 to 19; step 19 without an answer gives 3.
+// 1 of one of the two alone, and step numbers outside 1 to 20; step 19 without an answer gives 3, step 20 with this version operation 2.
 fn forms() {
     let c = ready();
     let none = empty();
@@ -348,6 +348,7 @@ fn forms() {
     joined(b"step_14_with_1_of_the_cache_alone", 14, q, wrong, none);
     joined(b"step_0", 0, q, c, none);
     joined(b"step_19", 19, q, c, none);
+    joined(b"step_20", 20, q, c, none);
     joined(b"step_21", 21, q, c, none);
 }
 

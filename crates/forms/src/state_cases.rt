@@ -294,7 +294,7 @@ fn settings(name: &[u8], device: u64, rule: u64) {
     pair(b"crash_of_the_disk_on", name, d.answer);
 }
 
-// A step outside 1 to 19, a reference above 63. Step 19 without an answer gives 3.
+// A step outside 1 to 20, a reference above 63. Step 19 without an answer gives 3.
 fn numbers() {
     let c = ready();
     let q = no_op_call();

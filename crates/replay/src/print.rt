@@ -41,6 +41,14 @@ pub fn answer(line: u64, answer: u64) {
     text(b"\n");
 }
 
+// What step 20 answers, and the place of the operation that failed.
+pub fn transaction(line: u64, answer: u64, place: u64) {
+    word(b"line=", line);
+    word(b" answer=", answer);
+    word(b" place=", place);
+    text(b"\n");
+}
+
 // The word of a kind.
 fn kind_word(k: Kind) {
     match k {

@@ -3,16 +3,18 @@
 use crate::print;
 use crate::print::Tally;
 use crate::show;
+use blockcache::CacheState;
 use blockcache::Call;
+use blockdisk::DiskState;
 use blockdisk::Records;
 use blocksystem::Named;
-use blocksystem::Outcome;
 use blocksystem::Pictures;
 use disklayout::Location;
 use sectortype::Contents;
 use system::CRASH;
 use system::READ;
 use system::Store;
+use system::TRANSACTION;
 use words::line::Line;
 
 // A sequence of calls on one device: the store as the last call left it, and its names and pictures.
@@ -29,9 +31,7 @@ pub struct Session {
 }
 
 // The sequence after a call that was accepted.
-fn moved(device: u64, o: Outcome, pictures: Pictures) -> Sequence {
-    let cache = o.cache;
-    let disk = o.disk;
+fn moved(device: u64, cache: CacheState, disk: DiskState, pictures: Pictures) -> Sequence {
     Sequence {
         store: Store {
             device,
@@ -46,7 +46,7 @@ pub fn unstarted() -> Session {
     let contents = sector::zero_contents();
     let o = Store::format(0, contents, 1);
     let pictures = system::format_pictures(0, contents);
-    let sequence = moved(0, o, pictures);
+    let sequence = moved(0, o.cache, o.disk, pictures);
     Session {
         started: false,
         sequence,
@@ -133,7 +133,7 @@ impl Session {
         let mut next = self.counted(answer);
         if answer == 0 {
             let pictures = system::format_pictures(device, contents);
-            let sequence = moved(device, o, pictures);
+            let sequence = moved(device, o.cache, o.disk, pictures);
             next.started = true;
             next.sequence = sequence;
         }
@@ -156,7 +156,29 @@ impl Session {
         let mut next = self.counted(answer);
         if answer == 0 {
             let pictures = system::pictures_after(before, number, call);
-            let after = moved(store.device, o, pictures);
+            let after = moved(store.device, o.cache, o.disk, pictures);
+            next.sequence = after;
+        }
+        next
+    }
+
+    // Makes step 20's call with the operations that the line has; names and pictures take them where it is accepted.
+    fn transaction(self, call: Call, rest: &[u8]) -> Session {
+        let list = script::transaction::operation_list(rest);
+        if !list.ok {
+            return self.error();
+        }
+        let at = list.at;
+        let count = list.count;
+        let sequence = self.sequence;
+        let store = sequence.store;
+        let o = store.operations_of(call, at, count);
+        let answer = o.answer;
+        print::transaction(self.tally.lines, answer, o.place);
+        let mut next = self.counted(answer);
+        if answer == 0 {
+            let pictures = system::pictures_after_operations(sequence.pictures, at, count);
+            let after = moved(store.device, o.cache, o.disk, pictures);
             next.sequence = after;
         }
         next
@@ -178,8 +200,7 @@ impl Session {
 
     // A step line, by what follows its first word. Only a crash is offered records other than those that are stored.
     fn step(self, number: u64, rest: &[u8]) -> Session {
-        let crash = number == CRASH;
-        let q = script::request::request_of(rest, crash);
+        let q = script::request::request_of(rest, script::request::step_keys(number));
         if !q.ok {
             return self.error();
         }
@@ -189,7 +210,10 @@ impl Session {
         let disk = store.disk;
         let stored = disk.records;
         let call = script::calls::call_of(q, store.device, cache, disk);
-        if !crash {
+        if number == TRANSACTION {
+            return self.transaction(call, rest);
+        }
+        if number != CRASH {
             return self.call(number, call, stored);
         }
         let offer = script::offer::offered(rest, stored);

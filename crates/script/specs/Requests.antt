@@ -12,6 +12,7 @@ use Rattle.blockcache.specs.declared.VersionOp.{VersionOp}
 use Rattle.blockcache.specs.declared.VersionOp.the-variants.{StatesInternalOp}
 use Rattle.words.specs.Bytes.{sameOf, startsOf, LOC}
 use Rattle.words.specs.Numbers.{numberOf}
+use Rattle.words.specs.declared.text.Keys.{Keys}
 use Rattle.words.specs.declared.text.Keys.the-variants as keys
 use Rattle.words.specs.Cut.{wordOf, fitOf, numberWord, placeWord}
 use Rattle.words.specs.Parsed.{nodeOf, tableReadOf}
@@ -83,9 +84,12 @@ tableWordOf w =
 unfoldable pub tableWord : List ℕ → TableWord
 tableWord r = cond (eqb (length (wordOf r (116 ∷ 97 ∷ 98 ∷ 108 ∷ 101 ∷ 61 ∷ []))) 0) (tableFrom table.Nothing) (tableWordOf (drop 6 (wordOf r (116 ∷ 97 ∷ 98 ∷ 108 ∷ 101 ∷ 61 ∷ []))))
 
--- table1, table2 and block (10 to 12) are a crash's alone
-abbrev pub stepWordsFit : List ℕ → Bool → Bool
-stepWordsFit r crash = cond crash (fitOf r keys.Crash) (fitOf r keys.Step)
+-- the words that a step line may have, by the step's number: table1, table2 and block are a crash's alone, op is step 20's alone
+abbrev pub stepKeys : ℕ → Keys
+stepKeys n =
+    cond (eqb n 18) keys.Crash
+    (cond (eqb n 20) keys.Transaction
+    keys.Step)
 
 abbrev pub noOperations : Operations
 noOperations = record { ok = false; id = 0; vop = StatesInternalOp; dop = NoDiskOp }
@@ -131,10 +135,10 @@ withReference (digits.Value r) ok o n t = requestFrom ok r o n t
 withReference digits.Bad ok o n t = requestFrom false 0 o n t
 
 -- ref=, and all of these
-unfoldable pub requestOf : List ℕ → Bool → Request
-requestOf r crash =
+unfoldable pub requestOf : List ℕ → Keys → Request
+requestOf r ks =
     withReference (numberWord r (114 ∷ 101 ∷ 102 ∷ 61 ∷ []))
-    (((stepWordsFit r crash && operationsOf r .ok) && nodeWord r .ok) && tableWord r .ok)
+    (((fitOf r ks && operationsOf r .ok) && nodeWord r .ok) && tableWord r .ok)
     (operationsOf r)
     (nodeWord r)
     (tableWord r)

@@ -4,3 +4,4 @@ pub mod calls;
 pub mod offer;
 pub mod operations;
 pub mod request;
+pub mod transaction;

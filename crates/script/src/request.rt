@@ -1,7 +1,7 @@
 // What a step line asks for, before it is known what the cache and the disk hold.
 ghost use mathlib.Core.Path.{_≡_};
-ghost use Rattle.script.specs.Requests.{nodeFrom, nodeWritten, nodeWordOf, nodeWord, tableFrom, tableWritten, tableWordOf, tableWord, stepWordsFit, noOperations, operationsOf, requestFrom};
-ghost use Rattle.script.specs.Requests.{requestOf, smallFrom, tableTextOf};
+ghost use Rattle.script.specs.Requests.{nodeFrom, nodeWritten, nodeWordOf, nodeWord, tableFrom, tableWritten, tableWordOf, tableWord};
+ghost use Rattle.script.specs.Requests.{noOperations, operationsOf, requestFrom, requestOf, smallFrom, stepKeys, tableTextOf};
 ghost use Rattle.words.specs.Numbers.{numberOf};
 use crate::operations::DiskRead;
 use crate::operations::Uiop;
@@ -210,14 +210,15 @@ fn table_word(rest: &[u8]) -> TableWord
     table_of(after(w, 6))
 }
 
-// Whether a step line's words are of the form, each key at most once; `table1`, `table2` and `block` are a crash's alone.
-fn step_words_fit(rest: &[u8], crash: bool) -> bool
-    ensures { λ r. ⌜ r ≡ stepWordsFit (now (rest .entry)) crash ⌝ }
+// The words that a step line may have, by the step's number: `table1`, `table2` and `block` are a crash's alone, and `op` is step 20's.
+pub fn step_keys(number: u64) -> Keys
+    ensures { λ r. ⌜ r ≡ stepKeys number ⌝ }
 {
-    if crash {
-        return words_fit(rest, Keys::Crash);
+    match number {
+        18 => Keys::Crash,
+        20 => Keys::Transaction,
+        _ => Keys::Step,
     }
-    words_fit(rest, Keys::Step)
 }
 
 fn no_operations() -> Operations
@@ -283,11 +284,11 @@ fn request_from(
     }
 }
 
-// What a step line asks for, from what follows its first word.
-pub fn request_of(rest: &[u8], crash: bool) -> Request
-    ensures { λ r. ⌜ r ≡ requestOf (now (rest .entry)) crash ⌝ }
+// What a step line asks for, from what follows its first word and the words that the line may have.
+pub fn request_of(rest: &[u8], keys: Keys) -> Request
+    ensures { λ r. ⌜ r ≡ requestOf (now (rest .entry)) keys ⌝ }
 {
-    let fit = step_words_fit(rest, crash);
+    let fit = words_fit(rest, keys);
     let o = operations_of(rest);
     let node = node_word(rest);
     let table = table_word(rest);

@@ -20,6 +20,9 @@ pub const READ: u64 = 17;
 
 pub const CRASH: u64 = 18;
 
+// Step 20, whose list of operations `operations` takes (transaction.rt); without a list it is a step as any other.
+pub const TRANSACTION: u64 = 20;
+
 // The lower of two answers, of which 0 is no refusal.
 fn lower(a: u64, b: u64) -> u64
     ensures { λ r. ⌜ r ≡ lowest a b ⌝ }

@@ -1,5 +1,5 @@
-// Cache and disk joined: formatting, the joined call, the chooser's call, names and pictures, what a crash has lost and what is shown, as `blocksystem` defines
-// them.
+// Cache and disk joined: formatting, the joined call, a list of operations, the chooser's call, names and pictures, what a crash has
+// lost and what is shown, as `blocksystem` defines them.
 mod choosing;
 mod formatting;
 mod joined;
@@ -7,6 +7,7 @@ mod pictures;
 mod reading;
 mod screen;
 mod start;
+mod transaction;
 
 use blockcache::CacheState;
 use blockdisk::DiskState;
@@ -22,5 +23,7 @@ pub struct Store {
 pub use formatting::format_pictures;
 pub use joined::CRASH;
 pub use joined::READ;
+pub use joined::TRANSACTION;
 pub use pictures::pictures_after;
 pub use screen::is_pictured;
+pub use transaction::pictures_after_operations;

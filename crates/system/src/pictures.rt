@@ -104,7 +104,7 @@ fn removed(t: Pictures, r: usize) -> Pictures
     with_working(t, w2)
 }
 
-fn set_node(t: Pictures, r: usize, node: Node) -> Pictures
+pub(crate) fn set_node(t: Pictures, r: usize, node: Node) -> Pictures
     ensures { λ o. ⌜ o ≡ withWorking t (withSlot (t .working) r (cachedSlot node)) ⌝ }
 {
     let w = t.working;

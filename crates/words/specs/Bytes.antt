@@ -6,7 +6,7 @@ use lib.Dec.{leb, eqb}
 use lib.ListN.{length, getD}
 use Rattle.base.specs.Scan.{allBelow, firstBelow}
 use Rattle.words.specs.declared.text.Keys.{Keys}
-use Rattle.words.specs.declared.text.Keys.the-variants.{Step, Crash, Format, Place}
+use Rattle.words.specs.declared.text.Keys.the-variants.{Step, Crash, Format, Place, Transaction}
 
 -- where b first stands in s; the length of s where it does not
 unfoldable pub findOf : List ℕ → ℕ → ℕ
@@ -19,7 +19,7 @@ startsOf s p = leb (length p) (length s) && allBelow (λ k. eqb (getD s k 0) (ge
 unfoldable pub sameOf : List ℕ → List ℕ → Bool
 sameOf s p = startsOf s p && eqb (length s) (length p)
 
--- the keys that a line is asked for by name: device=, contents=, rule=, loc=
+-- the keys that a line is asked for by name: device=, contents=, rule=, loc=, op=
 abbrev pub DEVICE : List ℕ
 DEVICE = 100 ∷ 101 ∷ 118 ∷ 105 ∷ 99 ∷ 101 ∷ 61 ∷ []
 
@@ -32,7 +32,10 @@ RULE = 114 ∷ 117 ∷ 108 ∷ 101 ∷ 61 ∷ []
 abbrev pub LOC : List ℕ
 LOC = 108 ∷ 111 ∷ 99 ∷ 61 ∷ []
 
--- table1=, table2=, block=, device=, contents=, rule=
+abbrev pub OP : List ℕ
+OP = 111 ∷ 112 ∷ 61 ∷ []
+
+-- table1=, table2=, block=, device=, contents=, rule=, op=
 unfoldable pub rareKeyOf : List ℕ → ℕ
 rareKeyOf w =
     cond (startsOf w (116 ∷ 97 ∷ 98 ∷ 108 ∷ 101 ∷ 49 ∷ 61 ∷ [])) 10
@@ -41,7 +44,8 @@ rareKeyOf w =
     (cond (startsOf w DEVICE) 13
     (cond (startsOf w CONTENTS) 14
     (cond (startsOf w RULE) 15
-    0)))))
+    (cond (startsOf w OP) 16
+    0))))))
 
 -- ref=, v=, vloc=, uiop=, d=, id=, loc=, node=, table=
 unfoldable pub keyOf : List ℕ → ℕ
@@ -57,9 +61,11 @@ keyOf w =
     (cond (startsOf w (116 ∷ 97 ∷ 98 ∷ 108 ∷ 101 ∷ 61 ∷ [])) 9
     (rareKeyOf w)))))))))
 
--- the keys that a line may have: any step's, a crash's, those of format (device=, contents=, rule=) and of place (loc=, device=)
+-- the keys that a line may have: any step's, a crash's, those of format (device=, contents=, rule=) and of place (loc=, device=);
+-- and step 20's, any step's with op= beside them
 unfoldable pub keysOf : Keys → ℕ → Bool
 keysOf Step k = leb 1 k && leb k 9
 keysOf Crash k = leb 1 k && leb k 12
 keysOf Format k = leb 13 k && leb k 15
 keysOf Place k = eqb k 7 || eqb k 13
+keysOf Transaction k = (leb 1 k && leb k 9) || eqb k 16

@@ -34,17 +34,17 @@ firstWith key (w ∷ ws) = cond (startsOf w key) w (firstWith key ws)
 unfoldable pub wordOf : List ℕ → List ℕ → List ℕ
 wordOf r key = firstWith key (wordsOf r)
 
--- the line may have the key, and it has not been seen before, or is block (12)
+-- the line may have the key, and it has not been seen before, or is block (12) or op (16)
 abbrev pub keyFits : List Bool → Keys → ℕ → Bool
-keyFits seen ks k = keysOf ks k && not (getD seen k false && not (eqb k 12))
+keyFits seen ks k = keysOf ks k && not ((getD seen k false && not (eqb k 12)) && not (eqb k 16))
 
 abbrev pub fitFrom : List Bool → Keys → List (List ℕ) → Bool
 fitFrom seen ks [] = true
 fitFrom seen ks (w ∷ ws) = keyFits seen ks (keyOf w) && fitFrom (set seen (keyOf w) true) ks ws
 
--- each word of a rest has a key that the line may have, and each but block at most once
+-- each word of a rest has a key that the line may have, and each but block and op at most once
 unfoldable pub fitOf : List ℕ → Keys → Bool
-fitOf r ks = fitFrom (replicate 16 false) ks (wordsOf r)
+fitOf r ks = fitFrom (replicate 17 false) ks (wordsOf r)
 
 -- what the word with a key has behind it; a default where there is no such word
 unfoldable pub numberWord : List ℕ → List ℕ → Digits

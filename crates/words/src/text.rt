@@ -13,18 +13,21 @@ pub enum Keys {
     Crash,
     Format,
     Place,
+    Transaction,
 }
 
 // Keys by number, as `key_of` gives them: 1 to 9 may stand on any step, 10 to 12 on a crash beside them, 13 to 15 on a `format`, `loc` and
-// `device` on a `place`; 0 is none.
+// `device` on a `place`, 16 on a step 20 beside a step's own; 0 is none.
 const LOC: usize = 7;
 
-// The one key that may come more than once.
+// This key, and OP, may come more than once.
 const BLOCK: usize = 12;
 
 const DEVICE: usize = 13;
 
 const RULE: usize = 15;
+
+const OP: usize = 16;
 
 // Where b first stands in s; the length of s where it does not.
 pub fn find(s: &[u8], b: u8) -> usize
@@ -101,7 +104,7 @@ pub fn word<'a, 'b>(rest: &'a [u8], key: &'b [u8]) -> &'a [u8]
 // The number of a word's key.
 pub fn key_of(w: &[u8]) -> usize
     ensures { λ r. ⌜ r ≡ keyOf (now (w .entry)) ⌝ }
-    ensures within { λ r. ⌜ r < 16 ⌝ }
+    ensures within { λ r. ⌜ r < 17 ⌝ }
 {
     if starts(w, b"ref=") {
         return 1;
@@ -133,10 +136,10 @@ pub fn key_of(w: &[u8]) -> usize
     key_of_rare(w)
 }
 
-// The same for the keys that stand on a crash, on `format` and on `place` alone.
+// The same for the keys that stand on a crash, on `format`, on `place` and on step 20 alone.
 fn key_of_rare(w: &[u8]) -> usize
     ensures { λ r. ⌜ r ≡ rareKeyOf (now (w .entry)) ⌝ }
-    ensures within { λ r. ⌜ r < 16 ⌝ }
+    ensures within { λ r. ⌜ r < 17 ⌝ }
 {
     if starts(w, b"table1=") {
         return 10;
@@ -156,6 +159,9 @@ fn key_of_rare(w: &[u8]) -> usize
     if starts(w, b"rule=") {
         return RULE;
     }
+    if starts(w, b"op=") {
+        return OP;
+    }
     0
 }
 
@@ -168,14 +174,15 @@ fn allowed(keys: Keys, k: usize) -> bool
         Keys::Crash => (1 <= k) & (k <= BLOCK),
         Keys::Format => (DEVICE <= k) & (k <= RULE),
         Keys::Place => (k == LOC) | (k == DEVICE),
+        Keys::Transaction => ((1 <= k) & (k <= 9)) | (k == OP),
     }
 }
 
-// Whether each word of a rest has a key that the line may have, and each but `block` at most once.
+// Whether each word of a rest has a key that the line may have, and each but `block` and `op` at most once.
 pub fn words_fit(rest: &[u8], keys: Keys) -> bool
     ensures { λ r. ⌜ r ≡ fitOf (now (rest .entry)) keys ⌝ }
 {
-    let mut seen = [false; 16];
+    let mut seen = [false; 17];
     let mut good = true;
     let mut at: usize = 0;
     while at < rest.len() {
@@ -183,7 +190,7 @@ pub fn words_fit(rest: &[u8], keys: Keys) -> bool
         let n = find(tail, b' ');
         let k = key_of(front(tail, n));
         let fits = allowed(keys, k);
-        let twice = seen[k] & (k != BLOCK);
+        let twice = seen[k] & (k != BLOCK) & (k != OP);
         good = good & fits & !twice;
         seen[k] = true;
         at = at + 1 + n;

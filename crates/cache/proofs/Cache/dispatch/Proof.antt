@@ -1,6 +1,8 @@
 -- Arm by arm, by what the step's method ensures; the rest is no step's number. Assumes nothing.
 use borrow.Author.Needs.{needs}
+use Rattle.base.specs.Refusals.{answer}
 use Rattle.blockcache.proofs.Numbers.{no-step}
+use Rattle.blockcache.specs.Step.{pastGate}
 use Rattle.blockcache.specs.Steps.{stepOf, steps}
 use Rattle.cache.proofs.Cache.dispatch.Statement.{statement}
 use Rattle.cache.proofs.Cache.dispatch.Tie as tie
@@ -64,6 +66,9 @@ let-go-requires c κs = search needs
 
 answered-requires : tie.Need-answered-requires
 answered-requires c κs = search needs
+
+answered-requires-2 : tie.Need-answered-requires-2
+answered-requires-2 c κs = search needs
 
 returns : tie.Need-returns
 unfolding stepOf steps
@@ -142,8 +147,12 @@ unfolding stepOf steps
 returns-19 c = simp (c .before .match .keys19) (c .let-go .ensures)
 
 returns-20 : tie.Need-returns-20
+unfolding stepOf steps pastGate answer
+returns-20 c = simp (c .before .match .keys20) (c .answered .ensures)
+
+returns-21 : tie.Need-returns-21
 unfolding steps
-returns-20 c = simp (no-step _ (c .before .match .rest)) (c .answered .ensures)
+returns-21 c = simp (no-step _ (c .before .match .rest)) (c .answered2 .ensures)
 
 pub dispatch-spec : {M : Type 1} → statement M
 dispatch-spec =
@@ -169,6 +178,7 @@ dispatch-spec =
     crash-requires
     let-go-requires
     answered-requires
+    answered-requires-2
     returns
     returns-2
     returns-3
@@ -188,4 +198,5 @@ dispatch-spec =
     returns-17
     returns-18
     returns-19
-    returns-20)
+    returns-20
+    returns-21)

@@ -87,6 +87,9 @@ gate-answer-requires-18 c κs = search needs
 gate-answer-requires-19 : tie.Need-gate-answer-requires-19
 gate-answer-requires-19 c κs = search needs
 
+gate-answer-requires-20 : tie.Need-gate-answer-requires-20
+gate-answer-requires-20 c κs = search needs
+
 returns : tie.Need-returns
 unfolding gated stepOf steps
 returns c = simp (
@@ -273,8 +276,18 @@ returns-19 c = simp (
 )
 
 returns-20 : tie.Need-returns-20
+unfolding gated stepOf steps
+returns-20 c = simp (
+  c .before .match .keys20,
+  c .gate-answer20 .ensures,
+  c .before .before .before .before .before .before .is-ready .ensures,
+  c .before .before .before .before .before .before .before .before .dop-kind .ensures,
+  c .before .before .before .before .before .before .before .before .before .vop-kind .ensures,
+)
+
+returns-21 : tie.Need-returns-21
 unfolding gated steps
-returns-20 c = simp (no-step _ (c .match .rest))
+returns-21 c = simp (no-step _ (c .match .rest))
 
 pub gate-spec : {M : Type 1} → statement M
 gate-spec =
@@ -307,6 +320,7 @@ gate-spec =
     gate-answer-requires-17
     gate-answer-requires-18
     gate-answer-requires-19
+    gate-answer-requires-20
     returns
     returns-2
     returns-3
@@ -326,4 +340,5 @@ gate-spec =
     returns-17
     returns-18
     returns-19
-    returns-20)
+    returns-20
+    returns-21)

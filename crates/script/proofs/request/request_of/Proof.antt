@@ -5,8 +5,8 @@ use Rattle.script.proofs.request.request_of.Statement.{statement}
 use Rattle.script.specs.Requests.{requestOf}
 use Rattle.script.proofs.request.request_of.Tie as tie
 
-step-words-fit-requires : tie.Need-step-words-fit-requires
-step-words-fit-requires c κs = search needs
+words-fit-requires : tie.Need-words-fit-requires
+words-fit-requires c κs = search needs
 
 operations-of-requires : tie.Need-operations-of-requires
 operations-of-requires c κs = search needs
@@ -44,7 +44,7 @@ returns c =
     let c4 = c3 .before in
     let c5 = c4 .before in
     let c6 = c5 .before in
-    simp (sym (c2 .number-word .ensures) ∙ c1 .reference .given .1, c .request-from .ensures, c6 .step-words-fit .ensures, c5 .operations-of .ensures, c4 .node-word .ensures, c3 .table-word .ensures)
+    simp (sym (c2 .number-word .ensures) ∙ c1 .reference .given .1, c .request-from .ensures, c6 .words-fit .ensures, c5 .operations-of .ensures, c4 .node-word .ensures, c3 .table-word .ensures)
 
 returns-2 : tie.Need-returns-2
 unfolding requestOf
@@ -60,7 +60,7 @@ pub request-of-spec : {M : Type 1} → statement M
 request-of-spec =
     tie.close
     (tie.spec
-    step-words-fit-requires
+    words-fit-requires
     operations-of-requires
     node-word-requires
     table-word-requires

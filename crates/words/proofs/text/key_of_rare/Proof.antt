@@ -118,6 +118,12 @@ returns-6 c =
       search needs,
     )
 
+slice-aggregate-starts-7 : tie.Need-slice-aggregate-starts-7
+slice-aggregate-starts-7 c = search needs
+
+starts-requires-7 : tie.Need-starts-requires-7
+starts-requires-7 c κs = search needs
+
 returns-7 : tie.Need-returns-7
 unfolding rareKeyOf
 returns-7 c =
@@ -131,14 +137,45 @@ returns-7 c =
     let c8 = c7 .before .before in
     let c9 = c8 .before in
     let c10 = c9 .before .before in
-    let c11 = c10 .before in (
+    let c11 = c10 .before in
+    let c12 = c11 .before .before in
+    let c13 = c12 .before in (
       simp (
-        sym (c1 .starts6 .ensures) ∙ c .if6 .left,
-        sym (c3 .starts5 .ensures) ∙ c2 .if5 .left,
-        sym (c5 .starts4 .ensures) ∙ c4 .if4 .left,
-        sym (c7 .starts3 .ensures) ∙ c6 .if3 .left,
-        sym (c9 .starts2 .ensures) ∙ c8 .if2 .left,
-        sym (c11 .starts .ensures) ∙ c10 .if1 .left,
+        sym (c1 .starts7 .ensures) ∙ c .if7 .taken,
+        sym (c3 .starts6 .ensures) ∙ c2 .if6 .left,
+        sym (c5 .starts5 .ensures) ∙ c4 .if5 .left,
+        sym (c7 .starts4 .ensures) ∙ c6 .if4 .left,
+        sym (c9 .starts3 .ensures) ∙ c8 .if3 .left,
+        sym (c11 .starts2 .ensures) ∙ c10 .if2 .left,
+        sym (c13 .starts .ensures) ∙ c12 .if1 .left,
+      ),
+      search needs,
+    )
+
+returns-8 : tie.Need-returns-8
+unfolding rareKeyOf
+returns-8 c =
+    let c1 = c .before in
+    let c2 = c1 .before .before in
+    let c3 = c2 .before in
+    let c4 = c3 .before .before in
+    let c5 = c4 .before in
+    let c6 = c5 .before .before in
+    let c7 = c6 .before in
+    let c8 = c7 .before .before in
+    let c9 = c8 .before in
+    let c10 = c9 .before .before in
+    let c11 = c10 .before in
+    let c12 = c11 .before .before in
+    let c13 = c12 .before in (
+      simp (
+        sym (c1 .starts7 .ensures) ∙ c .if7 .left,
+        sym (c3 .starts6 .ensures) ∙ c2 .if6 .left,
+        sym (c5 .starts5 .ensures) ∙ c4 .if5 .left,
+        sym (c7 .starts4 .ensures) ∙ c6 .if4 .left,
+        sym (c9 .starts3 .ensures) ∙ c8 .if3 .left,
+        sym (c11 .starts2 .ensures) ∙ c10 .if2 .left,
+        sym (c13 .starts .ensures) ∙ c12 .if1 .left,
       ),
       search needs,
     )
@@ -165,4 +202,7 @@ key-of-rare-spec =
     slice-aggregate-starts-6
     starts-requires-6
     returns-6
-    returns-7)
+    slice-aggregate-starts-7
+    starts-requires-7
+    returns-7
+    returns-8)
