@@ -6,7 +6,7 @@ use mathlib.Core.List.{List}
 use mathlib.Core.Path.{_∙_, _≡_, ap, refl, subst, sym}
 use borrow.Author.Tests.{eq-eqb, eqb-false, eqb-true, ne-eqb}
 use lib.Dec.{eqb}
-use Rattle.base.proofs.Tests.{split}
+use Rattle.base.proofs.Tests.{cond-same, split}
 use Rattle.base.specs.Refusals.{Row, answer}
 use Rattle.blockcache.proofs.Kept.{cache-form-kept, inv-kept}
 use Rattle.blockcache.proofs.Gate.{step-is}
@@ -62,9 +62,5 @@ pub cache-node : (g : Settings) (c : CacheState) (q : Call) → answer (cacheRow
 cache-node g c q e = step-node g c 17 q ∙ rw (eq-eqb (answer (cacheRows g c 17 q)) 0 e)
 
 -- with every other step it is zeros
-cond-same : {A : Type 0} (b : Bool) (x : A) → cond b x x ≡ x
-cond-same true x = refl
-cond-same false x = refl
-
 pub cache-no-node : (g : Settings) (c : CacheState) (n : ℕ) (q : Call) → isRead n ≡ false → cacheStep g c n q .node ≡ zeroNode
 cache-no-node g c n q e = step-node g c n q ∙ rw (e, cond-same (eqb (answer (cacheRows g c n q)) 0) zeroNode)

@@ -8,7 +8,7 @@ use native.Mathlib.Omega.{arith}
 use borrow.Author.Tests.{eqb-false, eqb-true, le-leb, leb-false, leb-true, ne-eqb}
 use lib.Dec.{eqb, leb}
 use Rattle.base.proofs.Refusals.{answer-holds, lowest-one-right, lowest-right, none-lower}
-use Rattle.base.proofs.Tests.{and-both, clash, split}
+use Rattle.base.proofs.Tests.{and-both, clash, cond-same, split}
 use Rattle.base.specs.Refusals.{answer, ascendingFrom, lowest}
 use Rattle.blockcache.proofs.Gate.{step-unformed}
 use Rattle.blockcache.proofs.Operations.{begins-iff}
@@ -43,10 +43,6 @@ Formed d q s = diskForm d s && nodeForm (q .node) && tableForm (q .table)
 pub idle-answer : (d : ℕ) (q : Call) (s : DiskState) → idleDisk d q s .answer ≡ cond (not (Formed d q s)) 1 0
 unfolding diskStep answer
 idle-answer d q s = refl
-
-cond-same : {A : Type 0} (b : Bool) (x : A) → cond b x x ≡ x
-cond-same true x = refl
-cond-same false x = refl
 
 pub idle-disk : (d : ℕ) (q : Call) (s : DiskState) → idleDisk d q s .disk ≡ s
 unfolding diskStep

@@ -32,7 +32,10 @@ beside o s = record { answer = o .answer; place = o .place; cache = o .cache; di
 -- what the cache answers, joined with the disk: if either refuses, neither moves. Asked with no operation the disk refuses with 1
 -- alone, the lowest number, which comes before any operation: at place 0
 unfoldable pub joinedWith : ℕ → Call → OperationsOutcome → CacheState → DiskState → JoinedOperationsOutcome
-joinedWith d q o c s = cond (eqb (idleDisk d q s .answer) 0) (beside o (idleDisk d q s .disk)) (refusedOperations (idleDisk d q s .answer) 0 c s)
+joinedWith d q o c s =
+    cond (eqb (idleDisk d q s .answer) 0)
+    (beside o (idleDisk d q s .disk))
+    (refusedOperations (idleDisk d q s .answer) 0 c s)
 
 unfoldable pub joinedOperations : ℕ → Call → List Operation → CacheState → DiskState → JoinedOperationsOutcome
 joinedOperations d q l c s = joinedWith d q (cacheOperations (settingsOf d s) c q l) c s

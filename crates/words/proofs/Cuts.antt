@@ -71,7 +71,8 @@ regroup false b c d = refl
 
 pub fit-turn : (r : List ℕ) (ks : Keys) (at k : ℕ) (seen : List Bool) (good : Bool) {fits x : Bool} → at < length r →
     k ≡ keyOf (take (findOf (drop (at + 1) r) 32) (drop (at + 1) r)) → fits ≡ keysOf ks k → (good && fitFrom seen ks (wordsOf (drop at r))) ≡ x →
-    (((good && fits) && not ((getD seen k false && not (eqb k 12)) && not (eqb k 16))) && fitFrom (set seen k true) ks (wordsOf (drop (at + 1 + findOf (drop (at + 1) r) 32) r))) ≡ x
+    (((good && fits) && not ((getD seen k false && not (eqb k 12)) && not (eqb k 16)))
+    && fitFrom (set seen k true) ks (wordsOf (drop (at + 1 + findOf (drop (at + 1) r) 32) r))) ≡ x
 fit-turn r ks at k seen good {fits} b e f h = regroup good fits _ _ ∙ (rw (words-turn r at b, ← e, ← f) at h)
 
 pub fit-end : (r : List ℕ) (ks : Keys) (at : ℕ) (seen : List Bool) (good : Bool) {x : Bool} → length r ≤ at → (good && fitFrom seen ks (wordsOf (drop at r))) ≡ x → good ≡ x

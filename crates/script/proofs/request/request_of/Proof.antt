@@ -44,7 +44,8 @@ returns c =
     let c4 = c3 .before in
     let c5 = c4 .before in
     let c6 = c5 .before in
-    simp (sym (c2 .number-word .ensures) ∙ c1 .reference .given .1, c .request-from .ensures, c6 .words-fit .ensures, c5 .operations-of .ensures, c4 .node-word .ensures, c3 .table-word .ensures)
+    let is = sym (c2 .number-word .ensures) ∙ c1 .reference .given .1 in
+    simp (is, c .request-from .ensures, c6 .words-fit .ensures, c5 .operations-of .ensures, c4 .node-word .ensures, c3 .table-word .ensures)
 
 returns-2 : tie.Need-returns-2
 unfolding requestOf

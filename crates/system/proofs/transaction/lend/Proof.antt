@@ -79,8 +79,13 @@ abbrev slice : Ty
 slice = sliceTy (tyRef erased imm (pointee (O.the-row .written)))
 
 abbrev stayed : Stays (lend.ended .signature .params) (lend.ended .kept)
-stayed =
-    (stay-none (λ _. S.the-row) yes, (stay-none (λ _. Q.the-row) yes, (stay-none (λ _. Array O.the-row 40) yes, (stay-none (λ _. usize) yes, tt))))
+stayed = (
+  stay-none (λ _. S.the-row) yes,
+  (
+    stay-none (λ _. Q.the-row) yes,
+    (stay-none (λ _. Array O.the-row 40) yes, (stay-none (λ _. usize) yes, tt)),
+  ),
+)
 
 room : Room O.the-row 40
 room = (lit< tt, lit< tt)

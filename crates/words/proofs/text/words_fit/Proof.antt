@@ -10,7 +10,8 @@ use Rattle.words.specs.Cut.{fitFrom, fitOf, wordsOf}
 use Rattle.words.proofs.text.words_fit.Tie as tie
 
 abbrev Inv-loop : tie.InvT-loop
-Inv-loop rest keys seen₀ good₀ at₀ seen good at = (at ≤ length rest) × (length seen ≡ 17) × ((good && fitFrom seen keys (wordsOf (drop at rest))) ≡ fitOf rest keys)
+Inv-loop rest keys seen₀ good₀ at₀ seen good at =
+    (at ≤ length rest) × (length seen ≡ 17) × ((good && fitFrom seen keys (wordsOf (drop at rest))) ≡ fitOf rest keys)
 
 abbrev μ-loop : tie.MeasureT-loop
 μ-loop rest keys seen₀ good₀ at₀ seen good at = length rest - at
