@@ -3,7 +3,7 @@
 use mathlib.Core.Path.{◌∙◌, ◌≡◌, ap, refl, sym}
 use mathlib.Core.Bool.{Bool, ◌||◌, false, false≢true, not, or-false, or-true, true}
 use mathlib.Core.Logic.{◌↔◌}
-use Prim.Native.Nat.{◌*◌, ◌+◌, ◌-◌, ◌/◌, ◌%◌, ◌<◌, ◌^◌, ◌≤◌, max, suc, zero, ℕ}
+use Prim.Native.Nat.{◌*◌, ◌+◌, ◌-◌, ◌/◌, ◌%◌, ◌<◌, ◌^◌, ◌≤◌, bit_or-bitwise, bitwise, max, suc, zero, ℕ}
 use native.Mathlib.Nat.{div-add-mod', mod-eq_of_lt, mod-lt, mod-one, not-suc-le-zero, pow-suc, zero-max}
 use native.Mathlib.Omega.{arith}
 use lib.Bits.{bit_or, bitwise_block, or_zero_r}
@@ -36,8 +36,12 @@ word_lt g (suc n) = rw (pow-suc 2 n) (bit_lt (g n) (2 ^ n) (word_of g n) (word_l
 or_hz : (b : ℕ) → b ≡ b / 2 * 2 + max zero (b % 2)
 or_hz b = sym (ap (λ (x : ℕ). b / 2 * 2 + x) (zero-max (b % 2)) ∙ div-add-mod' b 2)
 
+or_is : (a b : ℕ) → bit_or a b ≡ bitwise (λ b. b) max a b
+or_is zero b = refl
+or_is (suc a) b = bit_or-bitwise (suc a) b
+
 or_block : (k a b r s : ℕ) → r < 2 ^ k → s < 2 ^ k → bit_or (a * 2 ^ k + r) (b * 2 ^ k + s) ≡ bit_or a b * 2 ^ k + bit_or r s
-or_block = bitwise_block (λ b. b) max or_hz refl
+or_block k a b r s u v = or_is (a * 2 ^ k + r) (b * 2 ^ k + s) ∙ bitwise_block (λ b. b) max or_hz refl k a b r s u v ∙ rw (or_is a b, or_is r s)
 
 or_bits : (a b : Bool) → bit_or (bit a) (bit b) ≡ bit (a || b)
 or_bits true true = refl

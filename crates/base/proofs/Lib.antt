@@ -1,11 +1,9 @@
 -- The laws of the definitions in specs/.
 pub mod Bits
 pub mod Flagged
-pub mod LentFront
 pub mod Lists
 pub mod Lookup
 pub mod Maps
-pub mod PlainCall
 pub mod QueueForm
 pub mod Refusals
 pub mod Scan

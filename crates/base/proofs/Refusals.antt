@@ -66,8 +66,8 @@ none_lower m ((n when c) ∷ rs) t k b =
 pub answer_holds : (rs : List Row) → (answer rs ≡ 0 → ⊥) → holds (answer rs) rs ≡ true
 unfolding answer
 answer_holds [] ne = absurd (ne refl)
-answer_holds ((n when b) ∷ rs) ne =
-    split b (λ q. rw (q, eq-eqb n n refl)) (λ q. rw q (or_inr (eqb n (answer rs) && false) (answer_holds rs (rw q at ne))))
+answer_holds ((n when true) ∷ rs) ne = rw (eq-eqb n n refl)
+answer_holds ((n when false) ∷ rs) ne = or_inr (eqb n (answer rs) && false) (answer_holds rs ne)
 
 -- and of no lower number: the answer is the lowest number whose condition holds
 pub answer_lowest : (m : ℕ) (rs : List Row) → ascending_from m rs ≡ true → (k : ℕ) → holds k rs ≡ true → answer rs ≤ k

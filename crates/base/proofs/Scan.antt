@@ -1,5 +1,5 @@
 -- Laws of the tests over the numbers below n: how a loop shows them, and what they say. Assumes nothing.
-use mathlib.Core.Path.{◌≡◌, refl, ap, sym}
+use mathlib.Core.Path.{◌≡◌, refl, ap, subst, sym}
 use mathlib.Core.Bool.{Bool, true, false, ◌&&◌, ◌||◌, cond, not, or-true, or-false, false≢true}
 use mathlib.Core.List.{List}
 use mathlib.Core.Logic.{◌↔◌}
@@ -107,7 +107,7 @@ some_used g n (suc cap) b =
     split (leb n cap)
     (λ t. let a : n ≤ cap = leb-true _ _ t in rw (some_used g n cap a, le-ltb cap n a) (or-false (some_below g n)))
     (λ t. let a : cap < n = leb-false _ _ t in let e : n ≡ suc cap = omega arith in
-    rw e (some_same (λ k. ltb k (suc cap) && g k) g (suc cap) (λ k c. rw (lt-ltb k (suc cap) c))))
+    subst (λ m. some_below (λ k. ltb k m && g k) (suc cap) ≡ some_below g m) (sym e) (some_same (λ k. ltb k (suc cap) && g k) g (suc cap) (λ k c. rw (lt-ltb k (suc cap) c))))
 
 -- FIRST
 

@@ -1,1 +1,4 @@
 // The laws that every crate cites. There is no code here: see specs/ and proofs/.
+#![tactic(auto)]
+
+#![tactic(auto)]

@@ -9,7 +9,7 @@ use sectortype::{Contents, Node, Succs, Table};
 use system::Store;
 
 // The device and the number of this round, which its contents are made of, the counts and the checksum so far, and the store.
-#[derive(Drop)]
+#[derive(Clone, Copy)]
 pub struct State {
     pub device: u64,
     pub base: u64,

@@ -1,5 +1,7 @@
 // The joined call in a loop, to be timed (docs/PERFORMANCE.md): `bench ROUNDS` runs the script of 91 calls so many times, and prints
 // the calls made, those accepted, and a checksum of the answers, of the contents read and of the places where a list failed.
+#![tactic(auto)]
+
 ghost use Rattle.std.specs.Prelude.{◌≤◌};
 
 mod calls;

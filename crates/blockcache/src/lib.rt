@@ -1,12 +1,14 @@
 // Upstream's BlockCache as definitions: phases, three tables, what is outstanding, the cached nodes and the marks of the node blocks; what each of
 // steps 1 to 20 and the chooser answers and leaves, upstream's predicates and that of step 19, and the theorem of demand 2. No code:
 // `cache` has the step, the list of operations and the chooser.
+#![tactic(auto)]
+
 use blockdisk::DiskOp;
 use disklayout::Location;
 use queue::Requests;
 use sectortype::{Node, Nodes, Table};
 
-#[derive(Drop)]
+#[derive(Clone, Copy)]
 pub enum Phase {
     Unready,
     Loading,
@@ -14,7 +16,7 @@ pub enum Phase {
 }
 
 // The three tables of a Ready cache; the frozen one with a flag beside it.
-#[derive(Drop)]
+#[derive(Clone, Copy)]
 pub struct Tables {
     pub persistent: Table,
     pub ephemeral: Table,
@@ -23,7 +25,7 @@ pub struct Tables {
 }
 
 // The persistent table's place (while Loading, the place being loaded) and the frozen table's, with a flag beside it.
-#[derive(Drop)]
+#[derive(Clone, Copy)]
 pub struct Places {
     pub persistent: Location,
     pub isfrozen: bool,
@@ -31,34 +33,34 @@ pub struct Places {
 }
 
 // The id of the table request that is waited for: while Loading a read, while Ready a write.
-#[derive(Drop)]
+#[derive(Clone, Copy)]
 pub struct Awaited {
     pub waiting: bool,
     pub id: u64,
 }
 
 // The node requests that are waited for: writes with reference and location, reads with the reference alone.
-#[derive(Drop)]
+#[derive(Clone, Copy)]
 pub struct Outstanding {
     pub writes: Requests,
     pub reads: Requests,
 }
 
 // A mark for each of the 128 node blocks (document 02, Q-1), a bit each: bit k of the low word is block k's, bit k of the high one block 64 + k's.
-#[derive(Drop)]
+#[derive(Clone, Copy)]
 pub struct Marks {
     pub low: u64,
     pub high: u64,
 }
 
 // The blocks' marks, and the number of the block that the chooser gave last. Both are zeros outside Ready.
-#[derive(Drop)]
+#[derive(Clone, Copy)]
 pub struct Blocks {
     pub marks: Marks,
     pub last: u64,
 }
 
-#[derive(Drop)]
+#[derive(Clone, Copy)]
 pub struct CacheState {
     pub phase: Phase,
     pub tables: Tables,
@@ -70,14 +72,14 @@ pub struct CacheState {
 }
 
 // What a call of the cache names beside the cache: the device, and its freeze rule (document 02, Q-8), 1 or 2. A later setting is a field here.
-#[derive(Drop)]
+#[derive(Clone, Copy)]
 pub struct Settings {
     pub device: u64,
     pub rule: u64,
 }
 
 // Upstream's VOp. An AdvanceOp tells whether its uiop is NoOp; the two Send operations carry a location.
-#[derive(Drop)]
+#[derive(Clone, Copy)]
 pub enum VersionOp {
     StatesInternalOp,
     JournalInternalOp,
@@ -92,7 +94,7 @@ pub enum VersionOp {
 }
 
 // A step's arguments: the reference, the version operation, the disk operation with its node and its table.
-#[derive(Drop)]
+#[derive(Clone, Copy)]
 pub struct Call {
     pub reference: u64,
     pub vop: VersionOp,
@@ -103,7 +105,7 @@ pub struct Call {
 
 // What a step of the cache returns: the number that documents 01 and 02 give, the node of a read (zeros with every other answer), and the cache,
 // unchanged where the number is not 0.
-#[derive(Drop)]
+#[derive(Clone, Copy)]
 pub struct CacheOutcome {
     pub answer: u64,
     pub node: Node,
@@ -112,7 +114,7 @@ pub struct CacheOutcome {
 
 // One operation of step 20's list (document 02, Q-7), upstream's Op: an alloc, else a write, which is Dirty, of a node under a
 // reference. Any 64-bit number may stand as the reference, and any node.
-#[derive(Drop)]
+#[derive(Clone, Copy)]
 pub struct Operation {
     pub alloc: bool,
     pub reference: u64,
@@ -121,7 +123,7 @@ pub struct Operation {
 
 // What a list of operations returns: the number that document 02 gives; the place of the operation that failed, from 0, and 0 with
 // every other answer; and the cache, unchanged where the number is not 0.
-#[derive(Drop)]
+#[derive(Clone, Copy)]
 pub struct OperationsOutcome {
     pub answer: u64,
     pub place: u64,
@@ -130,7 +132,7 @@ pub struct OperationsOutcome {
 
 // What the chooser returns: the number that document 02 gives; the number of the block given, from 0, its address, and how many blocks are free
 // (unmarked), zeros where the answer is not 0; and the cache, which has that block as the one given last, unchanged where the answer is not 0.
-#[derive(Drop)]
+#[derive(Clone, Copy)]
 pub struct Choice {
     pub answer: u64,
     pub block: u64,

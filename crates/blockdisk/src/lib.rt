@@ -1,11 +1,13 @@
 // Upstream's BlockDisk as definitions: two table areas, 128 node blocks, four queues of what is outstanding, the freeze rule; what each call and a
 // crash answers and leaves, upstream's predicates, and the theorem of demand 2. No code: `disk` has the calls.
+#![tactic(auto)]
+
 use disklayout::Location;
 use queue::Requests;
 use sectortype::{Node, Table};
 
 // What a table area holds: one table at a place within it, or nothing, all zeros.
-#[derive(Drop)]
+#[derive(Clone, Copy)]
 pub struct TableRecord {
     pub present: bool,
     pub loc: Location,
@@ -13,7 +15,7 @@ pub struct TableRecord {
 }
 
 // What a node block holds: one node at a place within it, or nothing, all zeros.
-#[derive(Drop)]
+#[derive(Clone, Copy)]
 pub struct NodeRecord {
     pub present: bool,
     pub loc: Location,
@@ -21,14 +23,14 @@ pub struct NodeRecord {
 }
 
 // All that is stored.
-#[derive(Drop)]
+#[derive(Clone, Copy)]
 pub struct Records {
     pub tables: [TableRecord; 2],
     pub nodes: [NodeRecord; 128],
 }
 
 // All that is outstanding: upstream's req_read_indirection_tables, req_read_nodes, req_write_indirection_tables and req_write_nodes.
-#[derive(Drop)]
+#[derive(Clone, Copy)]
 pub struct Queues {
     pub tablereads: Requests,
     pub nodereads: Requests,
@@ -37,7 +39,7 @@ pub struct Queues {
 }
 
 // All that upstream's disk has, and the freeze rule.
-#[derive(Drop)]
+#[derive(Clone, Copy)]
 pub struct DiskState {
     pub records: Records,
     pub queues: Queues,
@@ -47,14 +49,14 @@ pub struct DiskState {
 }
 
 // Whether a read answer brings something.
-#[derive(Drop)]
+#[derive(Clone, Copy)]
 pub enum Brought {
     Something,
     Nothing,
 }
 
 // Upstream's DiskOp: numbers alone; its node or its table stands beside it.
-#[derive(Drop)]
+#[derive(Clone, Copy)]
 pub enum DiskOp {
     ReqReadIndirectionTableOp(u64, Location),
     ReqReadNodeOp(u64, Location),
@@ -68,7 +70,7 @@ pub enum DiskOp {
 }
 
 // A call of the disk: the operation with its node and its table.
-#[derive(Drop)]
+#[derive(Clone, Copy)]
 pub struct DiskCall {
     pub op: DiskOp,
     pub node: Node,
@@ -76,21 +78,21 @@ pub struct DiskCall {
 }
 
 // What a call of the disk returns: document 01's number, and the disk, unchanged where the number is not 0.
-#[derive(Drop)]
+#[derive(Clone, Copy)]
 pub struct DiskOutcome {
     pub answer: u64,
     pub disk: DiskState,
 }
 
 // What one walk over stored or offered records finds: each record is in its written form; each lies in its own area or block.
-#[derive(Drop)]
+#[derive(Clone, Copy)]
 pub struct Checked {
     pub form: bool,
     pub placed: bool,
 }
 
 // What a request or an answer does to its queue: document 01's number, and the queue, unchanged where the number is not 0.
-#[derive(Drop)]
+#[derive(Clone, Copy)]
 pub struct QueueOutcome {
     pub answer: u64,
     pub queue: Requests,

@@ -5,6 +5,8 @@
 // `case=NAME picture=same` where it has that node of the reference, else `picture=other`. Then the two freeze rules: `case=NAME rule=R`
 // is the rule that a disk carries. Last, lists of operations, with the place of each refusal. (`forms` has the written forms that are
 // broken.)
+#![tactic(auto)]
+
 mod audit_cases;
 mod cache_cases;
 mod crash_cases;

@@ -2,6 +2,8 @@
 // kept=Y` for a call of the chooser on the store, where L is the block given last afterwards and Y is 1 where the cache is otherwise as it was; and
 // `case=NAME answer=N low=X high=Y last=L` for a step on the cache alone, with the two words of the marks that it leaves. (`forms` has the marks that
 // are refused.)
+#![tactic(auto)]
+
 mod choose_cases;
 mod disk_cases;
 mod step_cases;

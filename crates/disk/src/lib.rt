@@ -1,4 +1,6 @@
 // The disk: each call, and a crash, is proved to answer and to leave what `blockdisk` defines.
+#![tactic(auto)]
+
 mod crashing;
 mod form;
 mod ops;
@@ -10,7 +12,7 @@ pub use form::is_rule;
 pub use read::{empty_records, node_at, table_at, zero_node_record};
 
 // A disk: which device it is, and its state. A step takes it by value and returns the answer's number and the state; the device stays.
-#[derive(Drop)]
+#[derive(Clone, Copy)]
 pub struct Disk {
     pub device: u64,
     pub state: DiskState,

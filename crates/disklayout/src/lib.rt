@@ -1,15 +1,17 @@
 // Upstream's DiskLayout as definitions: the types, a device's row, which places are valid, and the laws of the layout for any good
 // row. No code: `layout` has the calls, each of which is proved to return what is defined here.
+#![tactic(auto)]
+
 
 // A place on the device: len bytes from addr on. Upstream's Addr is a u64.
-#[derive(Drop)]
+#[derive(Clone, Copy)]
 pub struct Location {
     pub addr: u64,
     pub len: u64,
 }
 
 // Document 01's row of four numbers: journal blocks, table length, node block size, first node block.
-#[derive(Drop)]
+#[derive(Clone, Copy)]
 pub struct Device {
     pub journal: u64,
     pub table: u64,
@@ -18,7 +20,7 @@ pub struct Device {
 }
 
 // What a place is (document 02, Q-5): upstream's five validity predicates as one answer. On a good row at most one of them holds.
-#[derive(Drop)]
+#[derive(Clone, Copy)]
 pub enum Kind {
     Superblock1,
     Superblock2,
@@ -29,33 +31,33 @@ pub enum Kind {
 }
 
 // What a call returns: its answer, 0 or 1, beside its result. Where the answer is 1 the rest is zeros.
-#[derive(Drop)]
+#[derive(Clone, Copy)]
 pub struct Number {
     pub answer: u64,
     pub value: u64,
 }
 
-#[derive(Drop)]
+#[derive(Clone, Copy)]
 pub struct Flag {
     pub answer: u64,
     pub yes: bool,
 }
 
-#[derive(Drop)]
+#[derive(Clone, Copy)]
 pub struct Place {
     pub answer: u64,
     pub loc: Location,
 }
 
 // 01's form of an Option is a flag beside the thing, which is zeros where the flag is false.
-#[derive(Drop)]
+#[derive(Clone, Copy)]
 pub struct PlaceOption {
     pub answer: u64,
     pub exists: bool,
     pub loc: Location,
 }
 
-#[derive(Drop)]
+#[derive(Clone, Copy)]
 pub struct NumberOption {
     pub answer: u64,
     pub exists: bool,
@@ -63,7 +65,7 @@ pub struct NumberOption {
 }
 
 // Where the answer is 1 the kind is none.
-#[derive(Drop)]
+#[derive(Clone, Copy)]
 pub struct PlaceKind {
     pub answer: u64,
     pub kind: Kind,

@@ -1,5 +1,7 @@
 // A million calls of the disk that do nothing but judge its written form, to be timed: `time target/bin/formspeed`.
 // Prints how many were accepted.
+#![tactic(auto)]
+
 use blockdisk::{DiskCall, DiskOp, DiskState};
 use disk::Disk;
 

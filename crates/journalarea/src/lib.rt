@@ -4,6 +4,8 @@
 // where upstream's `requires` of the part's location fails (the front takes any length, the back at most the journal's); else 23 where the
 // lent area isn't exactly as long as the device's journal; else 0. `front_part` and `back_part` tell the same of a count of bytes: the number, and
 // where in an area of so many bytes the part lies. No call has a `requires`.
+#![tactic(auto)]
+
 mod parts;
 
 pub use parts::{back, back_part, back_result, front, front_part, front_result};

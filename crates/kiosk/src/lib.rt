@@ -2,6 +2,8 @@
 // a journal range lie in an area of `bytes` bytes that holds the journal. All numbers are 64 bits wide, and each number of an answer is a function of
 // its own, the result among them; where the result isn't 0 the others are 0. kiosk/layout.h declares the functions, and kiosk/check
 // compares it with this file: C looks at the order of the arguments alone, and no contract says what it is. No function has a `requires`.
+#![tactic(auto)]
+
 ghost use Rattle.std.specs.Prelude.{◌≡◌};
 ghost use Rattle.base.specs.Refusals.{answer};
 ghost use Rattle.base.specs.Scan.{bit};

@@ -3,6 +3,8 @@
 // kind, which are one call, `kind_of`. A call returns 0 with its result, or 1 with zeros (none for a kind): a device above 2, a failed
 // upstream `requires`, a result past 64 bits. Three ask about nothing on a device and name none: equality of two locations, the number of a
 // kind, and whether an answer is the kind of a number. No call has a `requires`.
+#![tactic(auto)]
+
 mod answers;
 mod areas;
 mod blocks;

@@ -1,4 +1,6 @@
 // Document 02's small tables by number (Q-13): every complete table on references 0 to 2, on which the loader is tried before a release.
+#![tactic(auto)]
+
 ghost use Rattle.std.specs.Prelude.{◌≡◌, ◌<◌, ◌≤◌, ◌/◌, ◌%◌, eqb};
 ghost use Rattle.smalltable.specs.Numbers.{small_sets, small_tables, zero_two};
 ghost use Rattle.smalltable.specs.Tables.{list_of, listed_if, small_entry, small_table, table_of};

@@ -1,4 +1,6 @@
 // What the programs print to standard output, in one place: text, numbers, words with a number, lists of references.
+#![tactic(auto)]
+
 use libc::STDOUT_FILENO;
 use sectortype::Succs;
 

@@ -1,5 +1,7 @@
 // Prints a line for each device: its number, journal start, journal end, both table addresses, first node address, end of the node
 // blocks. Each number is the layout library's.
+#![tactic(auto)]
+
 use output::{text, word};
 
 fn line(device: u64) {

@@ -1,5 +1,7 @@
 // A map keyed by an id, as document 01 keeps one: at most 16 outstanding requests by ascending id, unused places zeros.
 // All six queues of disk and cache have this one shape, so what is proved here is proved once.
+#![tactic(auto)]
+
 ghost use Rattle.std.specs.Prelude.{get_or, take, [], ◌∷◌, ◌++◌, ◌≡◌, ◌<◌, ◌≤◌};
 ghost use Rattle.base.specs.Lists.{opened, closed};
 ghost use Rattle.queue.specs.Queue.{zero_request, request_form, requests_form, has_of, has_addr, find_of, place_of, entry_of, insert_of, remove_of, empty_requests};
@@ -7,14 +9,14 @@ ghost use Rattle.queue.specs.Queue.{zero_request, request_form, requests_form, h
 use disklayout::Location;
 
 // An outstanding request: its id, the reference that it is for, its place. A queue that has no use for one of these keeps it zero.
-#[derive(Drop)]
+#[derive(Clone, Copy)]
 pub struct Request {
     pub id: u64,
     pub reference: u8,
     pub loc: Location,
 }
 
-#[derive(Drop)]
+#[derive(Clone, Copy)]
 pub struct Requests {
     pub count: u8,
     pub at: [Request; 16],

@@ -1,5 +1,7 @@
 // Prints a line for each of a list of journal ranges: what is asked, the number of each part's call, and the blocks of each part, read off the
 // bytes that were handed back. A ? would be 4096 bytes that are not one block's, and +N would be N bytes behind the last whole block.
+#![tactic(auto)]
+
 ghost use Rattle.std.specs.Prelude.{◌≡◌, ℕ, ◌/◌, ◌%◌, ◌<◌, length, get_or};
 
 use output::{number as print_number, text, word};

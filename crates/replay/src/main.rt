@@ -1,5 +1,7 @@
 // The store's command line: reads a list of calls from standard input, makes each on the proved library, and prints a line for
 // each. Here the input is cut into lines, each of which goes to the session.
+#![tactic(auto)]
+
 mod print;
 mod session;
 mod show;
@@ -12,7 +14,7 @@ use words::text::{after, find, front};
 const ROOM: usize = 4097;
 
 // How far the input is taken: the session, how many bytes of a line that has no end yet are kept, and whether there is more.
-#[derive(Drop)]
+#[derive(Clone, Copy)]
 struct Taken {
     session: Session,
     used: usize,

@@ -6,7 +6,7 @@ use output::{list, number, text, word};
 use sectortype::{Contents, Node};
 
 // The lines passed, and how many of them were calls, accepted, refused and errors.
-#[derive(Drop)]
+#[derive(Clone, Copy)]
 pub struct Tally {
     pub lines: u64,
     pub calls: u64,

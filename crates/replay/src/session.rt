@@ -11,14 +11,14 @@ use system::{CRASH, READ, Store, TRANSACTION};
 use words::line::Line;
 
 // A sequence of calls on one device: the store as the last call left it, and its names and pictures.
-#[derive(Drop)]
+#[derive(Clone, Copy)]
 pub struct Sequence {
     pub store: Store,
     pub pictures: Pictures,
 }
 
 // Until a `format` has been accepted no sequence has been started, and what is in `sequence` is not used.
-#[derive(Drop)]
+#[derive(Clone, Copy)]
 pub struct Session {
     pub started: bool,
     pub sequence: Sequence,

@@ -9,14 +9,14 @@ use cache::is_ready;
 use sectortype::{Node, Nodes, Table};
 
 // A node or nothing, which is zeros.
-#[derive(Drop)]
+#[derive(Clone, Copy)]
 pub struct BroughtNode {
     pub brought: Brought,
     pub node: Node,
 }
 
 // A table or nothing, which is the empty table.
-#[derive(Drop)]
+#[derive(Clone, Copy)]
 pub struct BroughtTable {
     pub brought: Brought,
     pub table: Table,

@@ -9,13 +9,13 @@ use words::lists::node;
 use words::tables::{TableRead, no_table, table};
 use words::text::{after, find, front, same, starts, word};
 
-#[derive(Drop)]
+#[derive(Clone, Copy)]
 pub struct AreaRead {
     pub ok: bool,
     pub held: TableRecord,
 }
 
-#[derive(Drop)]
+#[derive(Clone, Copy)]
 pub struct BlockRead {
     pub ok: bool,
     pub held: NodeRecord,
@@ -23,7 +23,7 @@ pub struct BlockRead {
 
 // The records so far, and the blocks that a word has named; where a word is not of the form, `ok` is false and the rest says
 // nothing.
-#[derive(Drop)]
+#[derive(Clone, Copy)]
 pub struct Offer {
     pub ok: bool,
     pub named: [bool; 128],

@@ -7,20 +7,20 @@ use blockdisk::{Brought, DiskOp};
 use disklayout::Location;
 use words::text::{after, same, word};
 
-#[derive(Drop)]
+#[derive(Clone, Copy)]
 pub enum VersionRead {
     Op(VersionOp),
     Bad,
 }
 
-#[derive(Drop)]
+#[derive(Clone, Copy)]
 pub enum DiskRead {
     Op(DiskOp),
     Bad,
 }
 
 // Whether an AdvanceOp's uiop is NoOp.
-#[derive(Drop)]
+#[derive(Clone, Copy)]
 pub enum Uiop {
     IsNoOp(bool),
     Bad,

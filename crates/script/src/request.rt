@@ -14,7 +14,7 @@ use words::tables::table;
 use words::text::{Keys, after, same, starts, word, words_fit};
 
 // Where a call's node comes from. No word, and `none`, bring nothing.
-#[derive(Drop)]
+#[derive(Clone, Copy)]
 pub enum NodeSource {
     Nothing,
     Written,
@@ -23,7 +23,7 @@ pub enum NodeSource {
 }
 
 // The same for its table; `empty` counts as written out, and a small table has its number.
-#[derive(Drop)]
+#[derive(Clone, Copy)]
 pub enum TableSource {
     Nothing,
     Written,
@@ -35,14 +35,14 @@ pub enum TableSource {
 }
 
 // The source, with the node itself where it is written out, else zeros.
-#[derive(Drop)]
+#[derive(Clone, Copy)]
 pub struct NodeWord {
     pub ok: bool,
     pub source: NodeSource,
     pub node: Node,
 }
 
-#[derive(Drop)]
+#[derive(Clone, Copy)]
 pub struct TableWord {
     pub ok: bool,
     pub source: TableSource,
@@ -51,7 +51,7 @@ pub struct TableWord {
 
 // The two operations, and the id that the disk operation has, which `stored` goes by too; where a word of theirs is not of the
 // form, `ok` is false and the rest says nothing.
-#[derive(Drop)]
+#[derive(Clone, Copy)]
 pub struct Operations {
     pub ok: bool,
     pub id: u64,
@@ -60,7 +60,7 @@ pub struct Operations {
 }
 
 // A step line, read; where it is not of the form, `ok` is false and the rest says nothing.
-#[derive(Drop)]
+#[derive(Clone, Copy)]
 pub struct Request {
     pub ok: bool,
     pub reference: u64,

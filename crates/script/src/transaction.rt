@@ -12,14 +12,14 @@ use words::text::{after, find, front, starts};
 pub const MOST: usize = 40;
 
 // Where a word is not of the form, `ok` is false and the rest says nothing.
-#[derive(Drop)]
+#[derive(Clone, Copy)]
 pub struct OperationRead {
     pub ok: bool,
     pub operation: Operation,
 }
 
 // The operations so far, `count` of them; where a word is not of the form, or is the 41st, `ok` is false and the rest says nothing.
-#[derive(Drop)]
+#[derive(Clone, Copy)]
 pub struct OperationList {
     pub ok: bool,
     pub count: usize,

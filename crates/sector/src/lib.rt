@@ -1,4 +1,6 @@
 // The functions on the records of `sectortype`: written form, equality, graphs, well-formed tables, and changes by value.
+#![tactic(auto)]
+
 mod contents;
 mod form;
 mod graph;

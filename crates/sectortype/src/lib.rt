@@ -1,9 +1,11 @@
 // Upstream's SectorType as definitions: the records that cache and disk share, by value and of fixed size, each with its one written
 // form, and their laws. No code: `sector` has the functions, each of which is proved to return what is defined here.
+#![tactic(auto)]
+
 use disklayout::Location;
 
 // A list of up to 8 references, repeats allowed; places from count on hold 0.
-#[derive(Drop)]
+#[derive(Clone, Copy)]
 pub struct Succs {
     pub count: u8,
     pub at: [u8; 8],
@@ -11,28 +13,28 @@ pub struct Succs {
 
 // A node's contents: two 64-bit numbers, as a card with its course and tee doesn't fit one. They are zeroed and compared by the definitions
 // here and by `sector`; above `sector` only the words of a script, the programs and their fixtures name the two fields.
-#[derive(Drop)]
+#[derive(Clone, Copy)]
 pub struct Contents {
     pub high: u64,
     pub low: u64,
 }
 
 // What is stored under a reference: its contents and the references that it points to.
-#[derive(Drop)]
+#[derive(Clone, Copy)]
 pub struct Node {
     pub contents: Contents,
     pub succs: Succs,
 }
 
 // A node as it was stored when its contents were one number. `carried` says which node it is now.
-#[derive(Drop)]
+#[derive(Clone, Copy)]
 pub struct OlderNode {
     pub contents: u64,
     pub succs: Succs,
 }
 
 // A reference's entry in a table: its list (the graph) and perhaps its location; all zeros where it is not allocated.
-#[derive(Drop)]
+#[derive(Clone, Copy)]
 pub struct Entry {
     pub allocated: bool,
     pub located: bool,
@@ -41,21 +43,21 @@ pub struct Entry {
 }
 
 // Upstream's IndirectionTable: an entry for each of the 64 references, and how many are allocated.
-#[derive(Drop)]
+#[derive(Clone, Copy)]
 pub struct Table {
     pub count: u8,
     pub entries: [Entry; 64],
 }
 
 // A reference's node where there is one; else zeros.
-#[derive(Drop)]
+#[derive(Clone, Copy)]
 pub struct Slot {
     pub present: bool,
     pub node: Node,
 }
 
 // A map from references to nodes, and how many it has: the cached nodes, and a picture.
-#[derive(Drop)]
+#[derive(Clone, Copy)]
 pub struct Nodes {
     pub count: u8,
     pub slots: [Slot; 64],

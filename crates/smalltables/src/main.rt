@@ -1,5 +1,7 @@
 // Every small table (document 02, Q-13): a line for each number, with the table of device 0 in a script's form; then for each device how
 // many of its tables a Loading cache that awaits the read accepts in step 9.
+#![tactic(auto)]
+
 ghost use Rattle.std.specs.Prelude.{◌≤◌};
 
 use blockcache::{CacheState, Call, Settings, VersionOp};

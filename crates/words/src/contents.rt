@@ -7,7 +7,7 @@ use crate::digits::{Digits, Pair, number, sides};
 use crate::text::{after, word};
 use sectortype::Contents;
 
-#[derive(Drop)]
+#[derive(Clone, Copy)]
 pub enum ContentsText {
     Value(Contents),
     Bad,

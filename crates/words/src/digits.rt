@@ -6,19 +6,19 @@ ghost use Rattle.words.specs.Numbers.{worth_of, appended_of, number_of, small_of
 use crate::text::{after, find, front, word};
 use disklayout::Location;
 
-#[derive(Drop)]
+#[derive(Clone, Copy)]
 pub enum Digits {
     Value(u64),
     Bad,
 }
 
-#[derive(Drop)]
+#[derive(Clone, Copy)]
 pub enum Pair {
     Of(u64, u64),
     Bad,
 }
 
-#[derive(Drop)]
+#[derive(Clone, Copy)]
 pub enum Place {
     At(Location),
     Bad,

@@ -12,7 +12,7 @@ use sectortype::Contents;
 // A line is at most this long, without its line feed.
 pub const MOST: usize = 4096;
 
-#[derive(Drop)]
+#[derive(Clone, Copy)]
 pub enum Line {
     // Empty, or a comment.
     Skip,

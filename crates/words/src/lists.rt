@@ -8,13 +8,13 @@ use crate::text::{after, find, front};
 use sectortype::{Node, Succs};
 
 // A list, or zeros where the text is none. (A list has an array, so that no enum holds it.)
-#[derive(Drop)]
+#[derive(Clone, Copy)]
 pub struct Listed {
     pub ok: bool,
     pub succs: Succs,
 }
 
-#[derive(Drop)]
+#[derive(Clone, Copy)]
 pub struct NodeRead {
     pub ok: bool,
     pub node: Node,

@@ -9,14 +9,14 @@ use disklayout::Location;
 use sectortype::{Entry, Table};
 
 // The reference of an entry, and perhaps its location.
-#[derive(Drop)]
+#[derive(Clone, Copy)]
 pub enum Head {
     Located(u64, Location),
     Unlocated(u64),
     Bad,
 }
 
-#[derive(Drop)]
+#[derive(Clone, Copy)]
 pub struct EntryRead {
     pub ok: bool,
     pub reference: usize,
@@ -24,7 +24,7 @@ pub struct EntryRead {
 }
 
 // A table, and the lowest reference that its next entry may have; the empty table where the text is none.
-#[derive(Drop)]
+#[derive(Clone, Copy)]
 pub struct TableRead {
     pub ok: bool,
     pub next: usize,

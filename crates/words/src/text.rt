@@ -6,7 +6,7 @@ ghost use Rattle.words.specs.Bytes.{find_of, starts_of, same_of, key_of, rare_ke
 ghost use Rattle.words.specs.Cut.{word_of, fit_of};
 
 // The lines that have words behind the first one. Which keys each may have is `allowed`'s to say.
-#[derive(Drop)]
+#[derive(Clone, Copy)]
 pub enum Keys {
     Step,
     Crash,
