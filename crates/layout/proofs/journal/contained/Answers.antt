@@ -1,0 +1,13 @@
+-- Whether the range goes round the journal's end: a law of the layout for each. Assumes nothing.
+use Rattle.disklayout.proofs.Ranges.{contained_whole, contained_round}
+use Rattle.layout.proofs.journal.contained.Goals as goal
+
+pub returns-then-len-room : goal.returns-then-len-room
+returns-then-len-room c =
+    rw (c.lies_in.ensures, c.point-to.ensures, c.point-from.ensures)
+    (contained_whole _ _ _ _ c.requires.start_lt_journal c.if-len-room.true)
+
+pub returns : goal.returns
+returns c =
+        rw (c.lies_in-back.ensures, c.lies_in-front.ensures, c.point-to-2.ensures, c.table1-end.ensures, c.point-from.ensures)
+    (contained_round _ _ _ _ c.requires.start_lt_journal c.if-len-room.false)
