@@ -1,0 +1,22 @@
+-- A search, left at the first place that is free or has a larger id. Assumes nothing.
+use Prim.Native.Nat.{◌-◌}
+use mathlib.Core.Bool.{false}
+use mathlib.Core.Path.{sym}
+use borrow.Author.Rules.{rules}
+use Rattle.base.proofs.Scan.{first_end, first_hit, some_none, some_turn}
+use Rattle.queue.specs.Queue.{place_of}
+use Rattle.queue.proofs.place.Goals as goal
+
+pub loop-i-init : goal.loop-i-init
+loop-i-init c = (search rules, some_none _)
+
+pub returns-then-here : goal.returns-then-here
+unfolding place_of
+returns-then-here c = first_hit _ 16 c.loop-i.i c.loop-i.invariant.1 c.if-here.true c.loop-i-test.true
+
+pub loop-i-preserved : goal.loop-i-preserved
+loop-i-preserved c = (search rules, some_turn _ _ c.loop-i.invariant.1 (sym c.if-here.false))
+
+pub returns : goal.returns
+unfolding place_of
+returns c = first_end _ c.loop-i.invariant.1 c.loop-i.invariant.0 c.loop-i-test.false
