@@ -190,6 +190,7 @@ place_rows g c q id l o m v some free = (rw (o, m, v, ne_eqb l.len 0 some) refl,
 pub given_usable : (g : Settings) (c : CacheState) (q : Call) (id len : ℕ) → answer (chooser_rows g c) ≡ 0 →
     q.dop ≡ ReqWriteNodeOp id (record { addr = (chooser g c).addr; len = len }) → 1 ≤ len → len ≤ node_block_size (device_of g.device) →
     (holds 6 (cache_rows g (chooser g c).cache 1 q) ≡ false) × (holds 7 (cache_rows g (chooser g c).cache 1 q) ≡ false)
+unfolding step_of steps
 given_usable g c q id len e o some most =
     let b = chosen_block g c in
     let w = device_of g.device in

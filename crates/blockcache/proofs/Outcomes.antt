@@ -1,9 +1,9 @@
 -- The theorems said of cache_step, which is what the code's contract equates: its answer is that of the rows, a refused call leaves the cache as it
 -- was, and every call, accepted or refused, keeps the written form and upstream's Inv. Assumes nothing.
 use Prim.Native.Nat.{ℕ}
-use mathlib.Core.Bool.{Bool, cond, false, true}
+use mathlib.Core.Bool.{cond, false, true}
 use mathlib.Core.List.{List}
-use mathlib.Core.Path.{◌∙◌, ◌≡◌, ap, refl, subst, sym}
+use mathlib.Core.Path.{◌∙◌, ◌≡◌, ap, subst, sym}
 use borrow.Author.Tests.{eq-eqb, eqb-false, eqb-true, ne_eqb}
 use lib.Dec.{eqb}
 use Rattle.base.proofs.Tests.{cond_same, split}

@@ -8,7 +8,7 @@ use Rattle.disklayout.specs.declared.Location.{Location}
 use Rattle.queue.specs.Queue.{has_addr, request_at}
 use Rattle.queue.specs.declared.Requests.{Requests}
 use Rattle.sectortype.specs.Form.{entry_at, succ_at}
-use Rattle.sectortype.specs.Graph.{distinct_addrs, wf_complete_indirection_table, allocated_in, holds_addr, located_in, same_set}
+use Rattle.sectortype.specs.Graph.{distinct_addrs, wf_complete_indirection_table, holds_addr, same_set}
 use Rattle.disklayout.specs.Layout.{same_loc}
 use Rattle.sectortype.specs.declared.Entry.{Entry}
 use Rattle.sectortype.specs.declared.Node.{Node}

@@ -1,7 +1,7 @@
 -- Where no write is outstanding, a call that is no request to write, and a crash, whatever records it is offered, leave every stored table
 -- and node unchanged and no write outstanding; so what was read at a place is read there. Assumes nothing.
 use Prim.Native.Nat.{◌<◌, ◌≤◌, ℕ}
-use mathlib.Core.Bool.{Bool, ◌&&◌, cond, false, false≢true, true}
+use mathlib.Core.Bool.{Bool, ◌&&◌, false, false≢true, true}
 use mathlib.Core.List.{List}
 use mathlib.Core.Logic.{◌↔◌}
 use mathlib.Core.Path.{◌∙◌, ◌≡◌, ap, refl, subst, sym}
@@ -15,13 +15,13 @@ use Rattle.base.specs.Refusals.{answer}
 use Rattle.base.proofs.Refusals.{Clear}
 use Rattle.disklayout.specs.Layout.{same_loc}
 use Rattle.disklayout.specs.declared.Location.{Location}
-use Rattle.blockdisk.proofs.Accepting.{AnswerOk, answer_ok_iff, disk_accepted_iff}
+use Rattle.blockdisk.proofs.Accepting.{answer_ok_iff, disk_accepted_iff}
 use Rattle.blockdisk.proofs.Crashing.{CrashOk, crash_ok_iff, nodes_kept_iff, records_kept_iff, tables_kept_iff}
-use Rattle.blockdisk.proofs.Forms.{RecordsForm, records_form_iff}
+use Rattle.blockdisk.proofs.Forms.{records_form_iff}
 use Rattle.blockdisk.proofs.Havoc.{kept_in, kept_iff}
 use Rattle.blockdisk.proofs.RecordArray.{Formed, Laws, RecordArray, record_at}
 use Rattle.blockdisk.proofs.RecordArrays.{node_laws, node_array, nodes_are_formed, table_laws, table_array, tables_are_formed}
-use Rattle.blockdisk.specs.Crash.{crash_rows, crashed, disk_crash}
+use Rattle.blockdisk.specs.Crash.{crash_rows, disk_crash}
 use Rattle.blockdisk.specs.Ops.{answer_rows, disk_rows, disk_step, next_disk, op_rows}
 use Rattle.blockdisk.specs.Records.{area_of, block_of, node_record_at, read_node, read_table, table_record_at}
 use Rattle.blockdisk.specs.Unwritten.{StoredUnchanged, Unwritten, is_write_req, has_no_writes}

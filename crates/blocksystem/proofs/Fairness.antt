@@ -233,7 +233,7 @@ module _ (d : ℕ) where
       clash (subst (λ m. conditions d s n q o m ≡ true) is ((answered_as d s (step n q o)).refused (λ (z : a ≡ 0). omega arith))) c
 
   pub block_usable : (s : State) → GivenUsable d s
-  unfolding conditions
+  unfolding conditions step_of steps
   block_usable s e q o id len op positive most =
       let g = settings_of d s.disk in
       let t = after_choice d s in

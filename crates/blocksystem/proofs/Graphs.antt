@@ -2,7 +2,7 @@
 -- and the frozen place the second's; the ephemeral graph is the working picture, the frozen graph the frozen picture. Each wherever the
 -- invariant holds, so after any of demand 3's lists. Assumes nothing.
 use Prim.Native.Nat.{ℕ}
-use mathlib.Core.Bool.{cond, false, false≢true, true}
+use mathlib.Core.Bool.{cond, false≢true, true}
 use mathlib.Core.Logic.{◌↔◌, ◌⊎◌, inl, inr, ⊎_elim}
 use mathlib.Core.Option.{Option, none, some}
 use mathlib.Core.Path.{◌∙◌, ◌≡◌, ap, fun_ext, refl, subst, sym}

@@ -26,7 +26,7 @@ use Rattle.sectortype.specs.Graph.{wf_complete_indirection_table as complete_tes
 use Rattle.sectortype.specs.declared.Node.{Node}
 use Rattle.sectortype.specs.declared.Table.{Table}
 use Rattle.blocksystem.specs.Start.{wf_succs as whole_graph, graph_stored, node_agrees, ref_agrees}
-use Rattle.blocksystem.specs.Upstream.{disk_graph, NoDanglingPointers, SuccessorsAgree, WFSuccs, at, system_vars}
+use Rattle.blocksystem.specs.Upstream.{disk_graph, NoDanglingPointers, SuccessorsAgree, WFSuccs, system_vars}
 
 module _ (d : ℕ) (s : DiskState) (f : DiskForm d s) where
   abbrev nodes : Location → Option Node

@@ -39,9 +39,9 @@ module _ (d : ℕ) (on : made d ≡ true) where
     in_graph : (r : ℕ) → located_in t r ≡ true → allocated_in t r ≡ true
     in_graph r l = located_allocated t m.form r l
 
-    locs_valid : locs_valid d t ≡ true
+    locs_valid_lem : locs_valid d t ≡ true
     unfolding locs_valid
-    locs_valid =
+    locs_valid_lem =
         all_of (λ r. loc_ok d (entry_at t r)) 64
         (λ r b. split (located_in t r) (λ l. rw (l, on, m.placed r (in_graph r l)) (place_valid r)) (λ l. rw l))
 
@@ -65,7 +65,7 @@ module _ (d : ℕ) (on : made d ≡ true) where
 
     pub small_complete : wf_complete_indirection_table d t ≡ true
     unfolding wf_complete_indirection_table wf_indirection_table
-    small_complete = rw (locs_valid, locs_in_graph_lem, m.root, closed, locs_complete_lem)
+    small_complete = rw (locs_valid_lem, locs_in_graph_lem, m.root, closed, locs_complete_lem)
 
     pub small_distinct : distinct_addrs t ≡ true
     small_distinct =
