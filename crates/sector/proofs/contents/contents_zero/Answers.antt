@@ -1,0 +1,7 @@
+use mathlib.Core.Path.{refl}
+use Rattle.sectortype.specs.HighLow.{contents_zero}
+use Rattle.sector.proofs.contents.contents_zero.Goals as goal
+
+pub returns : goal.returns
+unfolding contents_zero
+returns c = refl
