@@ -1,0 +1,12 @@
+use Prim.Native.Nat.{◌-◌, ◌≤◌}
+use mathlib.Core.Path.{◌≡◌}
+use lib.Dec.{ltb}
+use Rattle.queue.specs.Queue.{request_at}
+use Rattle.bitmap.proofs.MarksMade.{scanned}
+use Rattle.bitmap.proofs.marking.writes_marks.Given as goal
+
+abbrev pub invariant-loop-i : goal.invariant-loop-i
+invariant-loop-i l = (l.i ≤ 16) × (l.marks ≡ scanned l.device (λ k. ltb k l.q.count) (λ k. (request_at l.q k).loc.addr) l.i)
+
+abbrev pub decreases-loop-i : goal.decreases-loop-i
+decreases-loop-i l = 16 - l.i

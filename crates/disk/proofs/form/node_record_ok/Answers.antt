@@ -1,0 +1,15 @@
+-- Present: its address is that of whichever block begins there, and its length is asked. Absent: zeros. Assumes nothing.
+use mathlib.Core.Bool.{and-true}
+use Rattle.blockdisk.specs.Form.{node_record_checked}
+use Rattle.disklayout.proofs.RunningAddr.{place_on}
+use Rattle.disk.proofs.form.node_record_ok.Goals as goal
+
+pub returns-then-there : goal.returns-then-there
+unfolding node_record_checked
+returns-then-there c = λ k h e.
+        let a = c.args in
+    simp (c.if-there.true, and-true, place_on a.device k a.r.loc h e c.node_place_length-may.ensures, c.node_form-form.ensures)
+
+pub returns : goal.returns
+unfolding node_record_checked
+returns c = λ k h e. simp (c.if-there.false, c.loc_zero-nowhere.ensures, c.node_zero-zero.ensures, c.node_form-form.ensures)
