@@ -1,0 +1,44 @@
+-- By the first name that is the same. Assumes nothing.
+use mathlib.Core.Path.{◌∙◌, sym}
+use Rattle.script.specs.Operations.{answer_of}
+use Rattle.script.proofs.operations.answer_of.Goals as goal
+
+pub returns-then-same : goal.returns-then-same
+unfolding answer_of
+returns-then-same c = simp (sym c.same.ensures ∙ c.if-same.true)
+
+pub returns-then-same-2 : goal.returns-then-same-2
+unfolding answer_of
+returns-then-same-2 c = simp (sym c.same-2.ensures ∙ c.if-same-2.true, sym c.same.ensures ∙ c.if-same.false)
+
+pub returns-then-same-3 : goal.returns-then-same-3
+unfolding answer_of
+returns-then-same-3 c =
+    simp (sym c.same-3.ensures ∙ c.if-same-3.true, sym c.same-2.ensures ∙ c.if-same-2.false, sym c.same.ensures ∙ c.if-same.false)
+
+pub returns-then-same-4 : goal.returns-then-same-4
+unfolding answer_of
+returns-then-same-4 c =
+    simp (sym c.same-4.ensures ∙ c.if-same-4.true, sym c.same-3.ensures ∙ c.if-same-3.false, sym c.same-2.ensures ∙ c.if-same-2.false, sym c.same.ensures ∙ c.if-same.false)
+
+pub returns-then-same-5 : goal.returns-then-same-5
+unfolding answer_of
+returns-then-same-5 c =
+    simp (
+      sym c.same-5.ensures ∙ c.if-same-5.true,
+      sym c.same-4.ensures ∙ c.if-same-4.false,
+      sym c.same-3.ensures ∙ c.if-same-3.false,
+      sym c.same-2.ensures ∙ c.if-same-2.false,
+      sym c.same.ensures ∙ c.if-same.false,
+    )
+
+pub returns : goal.returns
+unfolding answer_of
+returns c =
+    simp (
+      sym c.same-5.ensures ∙ c.if-same-5.false,
+      sym c.same-4.ensures ∙ c.if-same-4.false,
+      sym c.same-3.ensures ∙ c.if-same-3.false,
+      sym c.same-2.ensures ∙ c.if-same-2.false,
+      sym c.same.ensures ∙ c.if-same.false,
+    )

@@ -1,0 +1,13 @@
+-- There is such a word, or not. Assumes nothing.
+use borrow.Author.Tests.{eq-eqb, ne_eqb}
+use Rattle.words.specs.Cut.{place_word}
+use Rattle.words.proofs.digits.place_word.Goals as goal
+
+pub returns-then-w-eq0 : goal.returns-then-w-eq0
+unfolding place_word
+returns-then-w-eq0 c = simp (eq-eqb _ _ (rw c.word-w.ensures at c.if-w-eq0.true))
+
+pub returns : goal.returns
+unfolding place_word
+returns c =
+    simp (ne_eqb _ _ (rw c.word-w.ensures at c.if-w-eq0.false)) (rw (c.after.ensures.result_value, c.word-w.ensures) at c.location.ensures)

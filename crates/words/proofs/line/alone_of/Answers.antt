@@ -1,0 +1,30 @@
+-- By the word. Assumes nothing.
+use mathlib.Core.Path.{◌∙◌, sym}
+use Rattle.words.specs.Parsed.{alone_of}
+use Rattle.words.proofs.line.alone_of.Goals as goal
+
+pub returns-then-same : goal.returns-then-same
+unfolding alone_of
+returns-then-same c = simp (sym c.same.ensures ∙ c.if-same.true)
+
+pub returns-then-same-2 : goal.returns-then-same-2
+unfolding alone_of
+returns-then-same-2 c = simp (sym c.same.ensures ∙ c.if-same.false, sym c.same-2.ensures ∙ c.if-same-2.true)
+
+pub returns-then-same-3 : goal.returns-then-same-3
+unfolding alone_of
+returns-then-same-3 c =
+    simp (
+      sym c.same.ensures ∙ c.if-same.false,
+      sym c.same-2.ensures ∙ c.if-same-2.false,
+      sym c.same-3.ensures ∙ c.if-same-3.true,
+    )
+
+pub returns : goal.returns
+unfolding alone_of
+returns c =
+    simp (
+      sym c.same.ensures ∙ c.if-same.false,
+      sym c.same-2.ensures ∙ c.if-same-2.false,
+      sym c.same-3.ensures ∙ c.if-same-3.false,
+    )
