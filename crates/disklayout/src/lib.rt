@@ -2,7 +2,6 @@
 // row. No code: `layout` has the calls, each of which is proved to return what is defined here.
 #![tactic(auto)]
 
-
 // A place on the device: len bytes from addr on. Upstream's Addr is a u64.
 #[derive(Clone, Copy)]
 pub struct Location {

@@ -3,7 +3,6 @@
 // what is defined here.
 #![tactic(auto)]
 
-
 // What is told of a part of a range: the number of its call, and where in the lent area it lies, `len` bytes from byte `start` on. Where the
 // call is refused, or the range has no such part, `start` and `len` are 0.
 #[derive(Clone, Copy)]

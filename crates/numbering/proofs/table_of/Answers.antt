@@ -5,7 +5,7 @@ use Rattle.numbering.proofs.table_of.Goals as goal
 pub returns : goal.returns
 unfolding table_of
 returns c =
-        simp (
+    simp (
       c.with_entry.ensures,
       c.with_entry-u.ensures,
       c.with_entry-t.ensures,

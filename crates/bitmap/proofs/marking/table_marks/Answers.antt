@@ -14,7 +14,7 @@ loop-i-preserved c =
     let l = c.loop-i in (
       search rules,
       elim c.if-located.branch [
-        then-located w ↦ w.marks-is ∙ w.with_addr-marks.ensures ∙ scan_turn _ _ _ _ l.invariant.1 w.if-located.true
+        | then-located w ↦ w.marks-is ∙ w.with_addr-marks.ensures ∙ scan_turn _ _ _ _ l.invariant.1 w.if-located.true
         | else-located w ↦ w.marks-is ∙ scan_skip _ _ _ _ l.invariant.1 w.if-located.false
       ],
     )

@@ -15,7 +15,7 @@ loop-i-preserved c =
     let l = c.loop-i in (
       search rules,
       elim c.if-i-n.branch [
-        then-i-n w ↦ w.marks-is ∙ w.with_addr-marks.ensures ∙ scan_turn _ _ _ _ l.invariant.1 (lt-ltb _ _ w.if-i-n.true)
+        | then-i-n w ↦ w.marks-is ∙ w.with_addr-marks.ensures ∙ scan_turn _ _ _ _ l.invariant.1 (lt-ltb _ _ w.if-i-n.true)
         | else-i-n w ↦ w.marks-is ∙ scan_skip _ _ _ _ l.invariant.1 (le-ltb _ _ w.if-i-n.false)
       ],
     )

@@ -5,4 +5,4 @@ use Rattle.cache.proofs.Cache.alloc_refusal.Goals as goal
 pub returns : goal.returns
 unfolding answer
 returns c =
-        simp (c.first_of.ensures, c.first_of-n13.ensures, c.points_within-inside.ensures)
+    simp (c.first_of.ensures, c.first_of-n13.ensures, c.points_within-inside.ensures)

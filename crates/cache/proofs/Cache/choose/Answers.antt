@@ -11,7 +11,7 @@ use Rattle.cache.proofs.Cache.choose.Goals as goal
 
 pub returns-then-not-named : goal.returns-then-not-named
 returns-then-not-named c =
-        let a = c.args in
+    let a = c.args in
     let unnamed = sym c.settings_form-named.ensures ∙ c.if-not-named.true in
     c.refused_choice.ensures ∙ sym (choice_unnamed a.self.settings a.self.state unnamed)
 
@@ -20,13 +20,13 @@ cache_form-form-requires c = and_left _ _ (sym c.settings_form-named.ensures ∙
 
 pub returns-then-not-form : goal.returns-then-not-form
 returns-then-not-form c =
-        let a = c.args in
+    let a = c.args in
     let unformed = sym c.cache_form-form.ensures ∙ c.if-not-form.true in
     c.refused_choice-then-not-form.ensures ∙ sym (choice_unformed a.self.settings a.self.state unformed)
 
 pub returns-then-not-ready : goal.returns-then-not-ready
 returns-then-not-ready c =
-        let a = c.args in
+    let a = c.args in
     let named = sym c.settings_form-named.ensures ∙ c.if-not-named.false in
     let form = sym c.cache_form-form.ensures ∙ c.if-not-form.false in
     let unready = sym c.is_ready-ready.ensures ∙ c.if-not-ready.true in
@@ -34,7 +34,7 @@ returns-then-not-ready c =
 
 pub returns-then-free-eq0 : goal.returns-then-free-eq0
 returns-then-free-eq0 c =
-        let a = c.args in
+    let a = c.args in
     let named = sym c.settings_form-named.ensures ∙ c.if-not-named.false in
     let form = sym c.cache_form-form.ensures ∙ c.if-not-form.false in
     let ready = sym c.is_ready-ready.ensures ∙ c.if-not-ready.false in
@@ -43,7 +43,7 @@ returns-then-free-eq0 c =
 
 pub returns : goal.returns
 returns c =
-        let g = c.args.self.settings in
+    let g = c.args.self.settings in
     let state = c.args.self.state in
     let named = sym c.settings_form-named.ensures ∙ c.if-not-named.false in
     let form = sym c.cache_form-form.ensures ∙ c.if-not-form.false in

@@ -6,14 +6,14 @@ use Rattle.cache.proofs.Cache.clean_up.Goals as goal
 pub returns-then-waiting : goal.returns-then-waiting
 unfolding past_gate answer
 returns-then-waiting c =
-        simp (c.if-waiting.true, c.answered.ensures)
+    simp (c.if-waiting.true, c.answered.ensures)
 
 pub returns-then-absent : goal.returns-then-absent
 unfolding past_gate answer
 returns-then-absent c =
-        simp (c.if-absent.true, c.if-waiting.false, c.answered-then-absent.ensures)
+    simp (c.if-absent.true, c.if-waiting.false, c.answered-then-absent.ensures)
 
 pub returns : goal.returns
 unfolding past_gate answer
 returns c =
-        simp (c.answered-2.ensures, c.zero_loc-nowhere.ensures, c.empty_table-none.ensures) (rw (c.if-absent.false, c.if-waiting.false))
+    simp (c.answered-2.ensures, c.zero_loc-nowhere.ensures, c.empty_table-none.ensures) (rw (c.if-absent.false, c.if-waiting.false))

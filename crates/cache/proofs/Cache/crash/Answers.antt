@@ -6,4 +6,4 @@ use Rattle.cache.proofs.Cache.crash.Goals as goal
 pub returns : goal.returns
 unfolding past_gate answer
 returns c =
-        simp (c.answered.ensures, c.empty_cache-next.ensures)
+    simp (c.answered.ensures, c.empty_cache-next.ensures)

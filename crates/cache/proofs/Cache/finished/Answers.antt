@@ -23,17 +23,17 @@ module _ (g : Settings) (c : CacheState) (w : OperationsOutcome) where
 
 pub returns-then-not-taken : goal.returns-then-not-taken
 returns-then-not-taken c =
-        let a = c.args in
+    let a = c.args in
     let bad = subst (λ (b : Bool). (b && eqb a.w.answer 0) ≡ false) c.settings_form-named.ensures c.if-not-taken.true in
     refused a.self.settings a.self.state a.w (bad)
 
 pub renew_marks-renewed-requires : goal.renew_marks-renewed-requires
 renew_marks-renewed-requires c =
-        and_left _ _ (sym c.settings_form-named.ensures ∙ and_left _ _ (c.if-not-taken.false))
+    and_left _ _ (sym c.settings_form-named.ensures ∙ and_left _ _ (c.if-not-taken.false))
 
 pub returns : goal.returns
 returns c =
-        let a = c.args in
+    let a = c.args in
     let good = subst (λ (b : Bool). (b && eqb a.w.answer 0) ≡ true) c.settings_form-named.ensures c.if-not-taken.false in
     simp (c.renew_marks-renewed.ensures, c.answered-o.ensures)
     (taken a.self.settings a.self.state a.w (good))

@@ -10,9 +10,9 @@ returns-then-waiting c = simp (c.if-waiting.true, c.answered.ensures)
 pub returns-then-rule-set : goal.returns-then-rule-set
 unfolding past_gate answer
 returns-then-rule-set c =
-        simp (c.if-rule-set.true, c.if-waiting.false, c.answered-then-rule-set.ensures)
+    simp (c.if-rule-set.true, c.if-waiting.false, c.answered-then-rule-set.ensures)
 
 pub returns : goal.returns
 unfolding past_gate answer
 returns c =
-        simp (c.if-rule-set.false, c.if-waiting.false, c.answered-2.ensures, c.zero_loc-nowhere.ensures)
+    simp (c.if-rule-set.false, c.if-waiting.false, c.answered-2.ensures, c.zero_loc-nowhere.ensures)

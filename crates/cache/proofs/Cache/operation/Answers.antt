@@ -34,32 +34,32 @@ module _ (g : Settings) (c : CacheState) (o : Operation) where
 
 pub returns-then-not-good : goal.returns-then-not-good
 returns-then-not-good c =
-        let a = c.args in
+    let a = c.args in
     let bad = subst (λ (b : Bool). (leb a.o.reference 63 && b) ≡ false) c.node_form-formed.ensures c.if-not-good.true in
     c.answered.ensures ∙ outside a.self.settings a.self.state a.o (bad)
 
 pub alloc-requires : goal.alloc-requires
 alloc-requires c =
-        let a = c.args in
+    let a = c.args in
     let small = leb-true a.o.reference 63 (and_left (leb a.o.reference 63) _ (c.if-not-good.false)) in
     rw c.operation_call-q.ensures (omega (arith, small))
 
 pub returns-then-alloc : goal.returns-then-alloc
 returns-then-alloc c =
-        let a = c.args in
+    let a = c.args in
     let good = subst (λ (b : Bool). (leb a.o.reference 63 && b) ≡ true) c.node_form-formed.ensures c.if-not-good.false in
     c.alloc.ensures ∙ ap (λ q. past_gate a.self.settings a.self.state q alloc_step) c.operation_call-q.ensures
     ∙ allocated a.self.settings a.self.state a.o (good) c.if-alloc.true
 
 pub dirty-requires : goal.dirty-requires
 dirty-requires c =
-        let a = c.args in
+    let a = c.args in
     let small = leb-true a.o.reference 63 (and_left (leb a.o.reference 63) _ (c.if-not-good.false)) in
     rw c.operation_call-q.ensures (omega (arith, small))
 
 pub returns : goal.returns
 returns c =
-        let a = c.args in
+    let a = c.args in
     let good = subst (λ (b : Bool). (leb a.o.reference 63 && b) ≡ true) c.node_form-formed.ensures c.if-not-good.false in
     c.dirty.ensures ∙ ap (λ q. past_gate a.self.settings a.self.state q dirty_step) c.operation_call-q.ensures
     ∙ dirtied a.self.settings a.self.state a.o (good) c.if-alloc.false

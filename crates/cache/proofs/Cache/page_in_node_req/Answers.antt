@@ -8,10 +8,10 @@ use Rattle.cache.proofs.Cache.page_in_node_req.Goals as goal
 pub returns-then-n-ne0 : goal.returns-then-n-ne0
 unfolding past_gate
 returns-then-n-ne0 c =
-        simp (c.answered.ensures, ne_eqb _ _ (rw c.page_in_node_req_refusal-n.ensures at c.if-n-ne0.true), c.page_in_node_req_refusal-n.ensures)
+    simp (c.answered.ensures, ne_eqb _ _ (rw c.page_in_node_req_refusal-n.ensures at c.if-n-ne0.true), c.page_in_node_req_refusal-n.ensures)
 
 pub returns : goal.returns
 unfolding past_gate
 returns c =
-        let e = sym c.page_in_node_req_refusal-n.ensures ∙ c.if-n-ne0.false in
+    let e = sym c.page_in_node_req_refusal-n.ensures ∙ c.if-n-ne0.false in
     simp (eq-eqb _ _ e, e, mod-eq_of_lt c.requires, c.answered-2.ensures, c.insert-w2.ensures, c.zero_loc-loc.ensures, c.dop_id-id.ensures)

@@ -5,7 +5,7 @@ use Rattle.cache.proofs.Cache.page_in_node_req_refusal.Goals as goal
 pub returns : goal.returns
 unfolding answer
 returns c =
-        simp (
+    simp (
       c.first_of.ensures,
       c.first_of-n6.ensures,
       c.first_of-n8.ensures,

@@ -31,17 +31,17 @@ module _ (g : Settings) (s : CacheState) (q : Call) where
 pub returns-then-not-known : goal.returns-then-not-known
 unfolding answer
 returns-then-not-known c =
-        let unknown = rw (c.has-known.ensures, c.dop_id-id.ensures) at c.if-not-known.true in
+    let unknown = rw (c.has-known.ensures, c.dop_id-id.ensures) at c.if-not-known.true in
     simp unknown
 
 pub bounds-t-k : goal.bounds-t-k
 bounds-t-k c =
-        let small : c.index-k.result < 64 = rw (c.index-k.ensures, c.entry-x.ensures, c.dop_id-id.ensures) c.requires in
+    let small : c.index-k.result < 64 = rw (c.index-k.ensures, c.entry-x.ensures, c.dop_id-id.ensures) c.requires in
     search rules
 
 pub bounds-m-k : goal.bounds-m-k
 bounds-m-k c =
-        let small : c.index-k.result < 64 = rw (c.index-k.ensures, c.entry-x.ensures, c.dop_id-id.ensures) c.requires in
+    let small : c.index-k.result < 64 = rw (c.index-k.ensures, c.entry-x.ensures, c.dop_id-id.ensures) c.requires in
     search rules
 
 pub returns-then-slot-e : goal.returns-then-slot-e
@@ -54,7 +54,7 @@ returns-then-slot-e c =
 pub returns-in_default : goal.returns-in_default
 unfolding answer
 returns-in_default c =
-        let a = c.args in
+    let a = c.args in
     let known = rw (c.has-known.ensures, c.dop_id-id.ensures) at c.if-not-known.false in
     let left = rw (c.index-k.ensures, c.entry-x.ensures, c.dop_id-id.ensures) at c.if-slot-e.false in
     let fit = past_8 a.self.settings a.self.state a.q left in
@@ -64,7 +64,7 @@ returns-in_default c =
 pub returns-then-not-same : goal.returns-then-not-same
 unfolding answer
 returns-then-not-same c =
-        let a = c.args in
+    let a = c.args in
     let known = rw (c.has-known.ensures, c.dop_id-id.ensures) at c.if-not-known.false in
     let left = rw (c.index-k.ensures, c.entry-x.ensures, c.dop_id-id.ensures) at c.if-slot-e.false in
     let fit = past_8 a.self.settings a.self.state a.q left in
@@ -75,7 +75,7 @@ returns-then-not-same c =
 pub returns : goal.returns
 unfolding answer
 returns c =
-        let a = c.args in
+    let a = c.args in
     let known = rw (c.has-known.ensures, c.dop_id-id.ensures) at c.if-not-known.false in
     let left = rw (c.index-k.ensures, c.entry-x.ensures, c.dop_id-id.ensures) at c.if-slot-e.false in
     let fit = past_8 a.self.settings a.self.state a.q left in

@@ -6,9 +6,9 @@ use Rattle.cache.proofs.Cache.read_step.Goals as goal
 pub returns-then-absent : goal.returns-then-absent
 unfolding past_gate answer
 returns-then-absent c =
-        simp (c.if-absent.true, c.answered.ensures)
+    simp (c.if-absent.true, c.answered.ensures)
 
 pub returns : goal.returns
 unfolding past_gate answer
 returns c =
-        simp c.if-absent.false
+    simp c.if-absent.false

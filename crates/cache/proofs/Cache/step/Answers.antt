@@ -14,20 +14,20 @@ cache_form-form-requires c = and_left _ _ (sym c.settings_form-named.ensures ∙
 
 pub returns-then-not-good : goal.returns-then-not-good
 returns-then-not-good c =
-        let named = sym c.settings_form-named.ensures ∙ c.if-not-named.false in
+    let named = sym c.settings_form-named.ensures ∙ c.if-not-named.false in
     let bad = rw (c.call_form-call.ensures, c.cache_form-form.ensures) at c.if-not-good.true in
     c.answered-then-not-good.ensures ∙ arm_unformed _ _ _ _ named (bad)
 
 pub returns-then-n-ne0 : goal.returns-then-n-ne0
 returns-then-n-ne0 c =
-        let named = sym c.settings_form-named.ensures ∙ c.if-not-named.false in
+    let named = sym c.settings_form-named.ensures ∙ c.if-not-named.false in
     let good = rw (c.call_form-call.ensures, c.cache_form-form.ensures) at c.if-not-good.false in
     let shut = rw c.gate-n.ensures at c.if-n-ne0.true in
     simp (c.answered-then-n-ne0.ensures, c.gate-n.ensures) (arm_shut _ _ _ _ named (good) shut)
 
 pub dispatch-o-requires : goal.dispatch-o-requires
 dispatch-o-requires c =
-        let a = c.args in
+    let a = c.args in
     let named = sym c.settings_form-named.ensures ∙ c.if-not-named.false in
     let good = rw (c.call_form-call.ensures, c.cache_form-form.ensures) at c.if-not-good.false in
     let h = (well_formed_iff a.self.settings a.self.state a.q).0 (formed a.self.settings a.self.state 0 a.q named (good)) in
@@ -35,11 +35,11 @@ dispatch-o-requires c =
 
 pub renew_marks-requires : goal.renew_marks-requires
 renew_marks-requires c =
-        and_left _ _ (sym c.settings_form-named.ensures ∙ c.if-not-named.false)
+    and_left _ _ (sym c.settings_form-named.ensures ∙ c.if-not-named.false)
 
 pub returns-then-renew : goal.returns-then-renew
 returns-then-renew c =
-        let named = sym c.settings_form-named.ensures ∙ c.if-not-named.false in
+    let named = sym c.settings_form-named.ensures ∙ c.if-not-named.false in
     let good = rw (c.call_form-call.ensures, c.cache_form-form.ensures) at c.if-not-good.false in
     let z = sym c.gate-n.ensures ∙ c.if-n-ne0.false in
     let moved = rw (c.relocates-moved.ensures, c.dispatch-o.ensures) at c.if-renew.true in
@@ -47,7 +47,7 @@ returns-then-renew c =
 
 pub returns : goal.returns
 returns c =
-        let named = sym c.settings_form-named.ensures ∙ c.if-not-named.false in
+    let named = sym c.settings_form-named.ensures ∙ c.if-not-named.false in
     let good = rw (c.call_form-call.ensures, c.cache_form-form.ensures) at c.if-not-good.false in
     let z = sym c.gate-n.ensures ∙ c.if-n-ne0.false in
     let stays = rw (c.relocates-moved.ensures, c.dispatch-o.ensures) at c.if-renew.false in

@@ -7,10 +7,10 @@ use Rattle.cache.proofs.Cache.unalloc.Goals as goal
 pub returns-then-n-ne0 : goal.returns-then-n-ne0
 unfolding past_gate
 returns-then-n-ne0 c =
-        simp (c.answered.ensures, ne_eqb _ _ (rw c.unalloc_refusal-n.ensures at c.if-n-ne0.true), c.unalloc_refusal-n.ensures)
+    simp (c.answered.ensures, ne_eqb _ _ (rw c.unalloc_refusal-n.ensures at c.if-n-ne0.true), c.unalloc_refusal-n.ensures)
 
 pub returns : goal.returns
 unfolding past_gate
 returns c =
-        let e = sym c.unalloc_refusal-n.ensures ∙ c.if-n-ne0.false in
+    let e = sym c.unalloc_refusal-n.ensures ∙ c.if-n-ne0.false in
     simp (eq-eqb _ _ e, e, c.answered-2.ensures, c.with_slot-m2.ensures, c.zero_slot-s.ensures, c.with_entry-t2.ensures, c.zero_entry-e.ensures)

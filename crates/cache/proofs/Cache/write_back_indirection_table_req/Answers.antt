@@ -8,10 +8,10 @@ use Rattle.cache.proofs.Cache.write_back_indirection_table_req.Goals as goal
 pub returns-then-n-ne0 : goal.returns-then-n-ne0
 unfolding past_gate
 returns-then-n-ne0 c =
-        simp (c.answered.ensures, ne_eqb _ _ (rw c.write_back_indirection_table_req_refusal-n.ensures at c.if-n-ne0.true), c.write_back_indirection_table_req_refusal-n.ensures)
+    simp (c.answered.ensures, ne_eqb _ _ (rw c.write_back_indirection_table_req_refusal-n.ensures at c.if-n-ne0.true), c.write_back_indirection_table_req_refusal-n.ensures)
 
 pub returns : goal.returns
 unfolding past_gate
 returns c =
-        let e = sym c.write_back_indirection_table_req_refusal-n.ensures ∙ c.if-n-ne0.false in
+    let e = sym c.write_back_indirection_table_req_refusal-n.ensures ∙ c.if-n-ne0.false in
     simp (eq-eqb _ _ e, e, c.answered-2.ensures, c.dop_loc-loc.ensures, c.dop_id-id.ensures)

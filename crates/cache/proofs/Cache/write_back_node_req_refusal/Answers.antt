@@ -6,7 +6,7 @@ use Rattle.cache.proofs.Cache.write_back_node_req_refusal.Goals as goal
 pub returns : goal.returns
 unfolding answer
 returns c =
-        let a = c.args in
+    let a = c.args in
     let node = rw c.dop_loc-loc.ensures at (node_told a.self.settings.device c.dop_loc-loc.result c.kind_of-asked.ensures c.is_kind-valid.ensures) in
     simp (
       c.first_of.ensures,

@@ -3,4 +3,4 @@ use Rattle.cache.proofs.entry.renew_marks.Goals as goal
 
 pub returns : goal.returns
 returns c =
-        simp (c.marks_of-marks.ensures, c.requires)
+    simp (c.marks_of-marks.ensures, c.requires)

@@ -14,7 +14,7 @@ returns-then-not-going c = simp (ne_eqb _ _ c.if-not-going.true)
 pub returns-then-answer-ne0 : goal.returns-then-answer-ne0
 unfolding advanced
 returns-then-answer-ne0 c =
-        let a = c.args in
+    let a = c.args in
     let said = ap (λ x. x.answer) c.operation-x.ensures in
     simp (
       c.operation-x.ensures,
@@ -25,7 +25,7 @@ returns-then-answer-ne0 c =
 pub returns : goal.returns
 unfolding advanced
 returns c =
-        let a = c.args in
+    let a = c.args in
     let said = ap (λ x. x.answer) c.operation-x.ensures in
     simp (
       c.operation-x.ensures,

@@ -15,11 +15,11 @@ loop-j-init c = (search rules, c.search.invariant.1, some_none _)
 
 pub loop-j-preserved : goal.loop-j-preserved
 loop-j-preserved c =
-        (search rules, c.loop-j.invariant.1, some_turn _ _ c.loop-j.invariant.2 (sym (rw c.names_at.ensures at c.if-here.false)))
+    (search rules, c.loop-j.invariant.1, some_turn _ _ c.loop-j.invariant.2 (sym (rw c.names_at.ensures at c.if-here.false)))
 
 pub search-preserved : goal.search-preserved
 search-preserved c =
-        (search rules, c.loop-j.invariant.1, some_turn _ _ c.search.invariant.2 (some_end _ c.loop-j.invariant.2 c.loop-j.invariant.0 c.loop-j-test.false))
+    (search rules, c.loop-j.invariant.1, some_turn _ _ c.search.invariant.2 (some_end _ c.loop-j.invariant.2 c.loop-j.invariant.0 c.loop-j-test.false))
 
 pub returns-after-search : goal.returns-after-search
 unfolding has_predecessor
@@ -28,4 +28,4 @@ returns-after-search c = c.search.invariant.1 ∙ some_end _ c.search.invariant.
 pub returns-then-here : goal.returns-then-here
 unfolding has_predecessor
 returns-then-here c =
-        sym (some_at _ 64 c.search.i c.search-test.true (some_at _ 8 c.loop-j.j c.loop-j-test.true (rw c.names_at.ensures at c.if-here.true)))
+    sym (some_at _ 64 c.search.i c.search-test.true (some_at _ 8 c.loop-j.j c.loop-j-test.true (rw c.names_at.ensures at c.if-here.true)))

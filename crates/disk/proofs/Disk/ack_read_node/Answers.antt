@@ -7,7 +7,7 @@ use Rattle.disk.proofs.Disk.ack_read_node.Goals as goal
 pub returns-then-n-ne0 : goal.returns-then-n-ne0
 unfolding answer_outcome node_not_stored
 returns-then-n-ne0 c =
-        let at = c.node_at-x.ensures in
+    let at = c.node_at-x.ensures in
     let w = c.entry-w.ensures in
     let e = simp (c.take-t.ensures, c.node_not_stored-wrong.ensures, at, w) at c.if-n-ne0.true in
     simp (c.take-t.ensures, c.node_not_stored-wrong.ensures, at, w, ne_eqb _ _ e)
@@ -15,7 +15,7 @@ returns-then-n-ne0 c =
 pub returns : goal.returns
 unfolding answer_outcome node_not_stored
 returns c =
-        let at = c.node_at-x.ensures in
+    let at = c.node_at-x.ensures in
     let w = c.entry-w.ensures in
     let e = simp (c.take-t.ensures, c.node_not_stored-wrong.ensures, at, w) at c.if-n-ne0.false in
     simp (c.take-t.ensures, c.node_not_stored-wrong.ensures, at, w, e)

@@ -20,7 +20,7 @@ formed d s q e = rw e
 pub returns-then-not-good : goal.returns-then-not-good
 unfolding disk_form disk_step answer
 returns-then-not-good c =
-        simp
+    simp
     (rw (c.table_form-table_ok.ensures, c.node_form-node_ok.ensures, c.disk_ok-form.ensures, c.queues_ok-waiting.ensures, c.records_ok-stored.ensures)
     at c.if-not-good.true)
 

@@ -6,13 +6,13 @@ use Rattle.disk.proofs.Disk.recv_write_indirection_table.Goals as goal
 pub returns-then-n-ne0 : goal.returns-then-n-ne0
 unfolding request_outcome
 returns-then-n-ne0 c =
-        let allowed = c.table_allowed-allowed.ensures in
+    let allowed = c.table_allowed-allowed.ensures in
     let e = simp (c.ask-t.ensures, allowed) at c.if-n-ne0.true in
     simp (c.ask-t.ensures, allowed, ne_eqb _ _ e)
 
 pub returns : goal.returns
 unfolding request_outcome
 returns c =
-        let allowed = c.table_allowed-allowed.ensures in
+    let allowed = c.table_allowed-allowed.ensures in
     let e = simp (c.ask-t.ensures, allowed) at c.if-n-ne0.false in
     simp (c.ask-t.ensures, allowed, c.with_table-records.ensures, e)

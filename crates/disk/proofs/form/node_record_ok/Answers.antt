@@ -7,7 +7,7 @@ use Rattle.disk.proofs.form.node_record_ok.Goals as goal
 pub returns-then-there : goal.returns-then-there
 unfolding node_record_checked
 returns-then-there c = λ k h e.
-        let a = c.args in
+    let a = c.args in
     simp (c.if-there.true, and-true, place_on a.device k a.r.loc h e c.node_place_length-may.ensures, c.node_form-form.ensures)
 
 pub returns : goal.returns

@@ -12,11 +12,11 @@ loop-i-init c = (search rules, walk_first c.args.device c.first_node_addr-first.
 
 pub overflow_add-at : goal.overflow_add-at
 overflow_add-at c =
-        record { fits = walk_fits c.args.device c.loop-i.i c.loop-i-test.true c.loop-i.invariant.1 c.node_block_size-size.ensures }
+    record { fits = walk_fits c.args.device c.loop-i.i c.loop-i-test.true c.loop-i.invariant.1 c.node_block_size-size.ensures }
 
 pub loop-i-preserved : goal.loop-i-preserved
 loop-i-preserved c =
-        let v = c.loop-i.invariant in
+    let v = c.loop-i.invariant in
     let e = c.node_record_ok-c.ensures _ c.loop-i-test.true v.1 in
     let device = c.args.device in
     (search rules, walk_next device c.loop-i.i v.1 c.node_block_size-size.ensures, all_turn _ _ v.2 (ap (λ x. x.form) e), all_turn _ _ v.3 (ap (λ x. x.placed) e))

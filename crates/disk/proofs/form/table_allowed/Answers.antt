@@ -4,5 +4,5 @@ use Rattle.disk.proofs.form.table_allowed.Goals as goal
 
 pub returns : goal.returns
 returns c =
-        let a = c.args in
+    let a = c.args in
     table_told a.device a.loc c.kind_of-asked.ensures c.is_kind.ensures

@@ -5,7 +5,7 @@ use Rattle.disk.proofs.form.tables_ok.Goals as goal
 pub returns : goal.returns
 unfolding table_record_checked tables_checked
 returns c =
-        simp (
+    simp (
       c.table_record_placed-placed2.ensures,
       c.table_record_placed-placed1.ensures,
       c.table_record_form-form2.ensures,

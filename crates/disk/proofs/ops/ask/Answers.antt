@@ -16,10 +16,10 @@ returns-then-not-allowed c = simp (sym c.has-known.ensures ∙ c.if-known.false,
 pub returns-then-full : goal.returns-then-full
 unfolding request_outcome answer
 returns-then-full c =
-        simp (sym c.has-known.ensures ∙ c.if-known.false, c.if-not-allowed.false, le-leb _ _ c.if-full.true)
+    simp (sym c.has-known.ensures ∙ c.if-known.false, c.if-not-allowed.false, le-leb _ _ c.if-full.true)
 
 pub returns : goal.returns
 unfolding request_outcome answer
 returns c =
-        let new = sym c.has-known.ensures ∙ c.if-known.false in
+    let new = sym c.has-known.ensures ∙ c.if-known.false in
     simp (new, c.if-not-allowed.false, lt-leb _ _ c.if-full.false, c.insert-next.ensures, c.request-w.ensures)

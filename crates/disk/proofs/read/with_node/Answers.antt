@@ -4,5 +4,5 @@ use Rattle.disk.proofs.read.with_node.Goals as goal
 
 pub returns : goal.returns
 returns c =
-        let a = c.args in
+    let a = c.args in
     node_set_lem a.device a.r a.loc c.node_block_by_walk-block.result a.node c.node_block_by_walk-block.ensures

@@ -11,7 +11,7 @@ returns-then-addr-one c = rw (c.found.ensures, eq-eqb _ _ (c.if-addr-one.true âˆ
 pub returns-then-addr-two : goal.returns-then-addr-two
 unfolding table_area_of
 returns-then-addr-two c =
-        let first = rw c.table1-one.ensures at c.if-addr-one.false in
+    let first = rw c.table1-one.ensures at c.if-addr-one.false in
     rw (c.found-then-addr-two.ensures, ne_eqb _ _ first, eq-eqb _ _ (c.if-addr-two.true âˆ™ c.table2-two.ensures))
 
 pub returns : goal.returns

@@ -10,7 +10,7 @@ overflow_sub-k c =
 
 pub returns-then-k-lt-BLOCKS : goal.returns-then-k-lt-BLOCKS
 returns-then-k-lt-BLOCKS c =
-        let valid = sym c.is_node_addr-valid.ensures ∙ c.if-valid.true in
+    let valid = sym c.is_node_addr-valid.ensures ∙ c.if-valid.true in
     c.found.ensures ∙ block_found _ c.requires _ valid (omega (arith, c.if-k-lt-BLOCKS.true))
 
 pub returns-else-k-lt-BLOCKS : goal.returns-else-k-lt-BLOCKS

@@ -5,4 +5,4 @@ use Rattle.layout.proofs.blocks.is_node_place.Goals as goal
 
 pub returns : goal.returns
 returns c =
-        rw (node_place_test _ c.requires c.args.loc, ← kind_test _ c.requires c.args.loc 5, c.number_in-kind.ensures, c.block_addr-end.ensures)
+    rw (node_place_test _ c.requires c.args.loc, ← kind_test _ c.requires c.args.loc 5, c.number_in-kind.ensures, c.block_addr-end.ensures)

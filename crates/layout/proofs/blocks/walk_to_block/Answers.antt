@@ -13,17 +13,17 @@ loop-k-init c = (search rules, c.first_node-at.ensures ∙ running_first _, miss
 
 pub returns-then-addr-at : goal.returns-then-addr-at
 returns-then-addr-at c =
-        let here : c.args.addr ≡ c.loop-k.at = omega (arith, c.if-addr-at.true, c.if-addr-at-2.false) in
+    let here : c.args.addr ≡ c.loop-k.at = omega (arith, c.if-addr-at.true, c.if-addr-at-2.false) in
     c.found.ensures ∙ walk_found _ c.requires _ _ (omega (arith, c.loop-k-test.true)) (here ∙ c.loop-k.invariant.1)
 
 pub next_addr-at-requires : goal.next_addr-at-requires
 next_addr-at-requires c =
-        rw (c.loop-k.invariant.1, running_next c.args.w c.loop-k.k)
+    rw (c.loop-k.invariant.1, running_next c.args.w c.loop-k.k)
     (running_fits _ c.requires _ (search rules))
 
 pub loop-k-preserved : goal.loop-k-preserved
 loop-k-preserved c =
-        let w = c.args.w in
+    let w = c.args.w in
     let v = c.loop-k.invariant in
     let below : c.loop-k.at < c.args.addr = c.if-addr-at.false in
     let next : c.next_addr-at.result ≡ running_addr w (c.loop-k.k + 1) = omega (arith, v.1, running_next w c.loop-k.k) in
@@ -31,10 +31,10 @@ loop-k-preserved c =
 
 pub returns-after-loop-k : goal.returns-after-loop-k
 returns-after-loop-k c =
-        walk_none _ c.requires _ (λ j b. c.loop-k.invariant.2 j (omega (arith, c.loop-k-test.false)))
+    walk_none _ c.requires _ (λ j b. c.loop-k.invariant.2 j (omega (arith, c.loop-k-test.false)))
 
 pub returns-then-addr-at-2 : goal.returns-then-addr-at-2
 returns-then-addr-at-2 c =
-        let v = c.loop-k.invariant in
+    let v = c.loop-k.invariant in
     let past : c.args.addr < c.loop-k.at = omega (arith, c.if-addr-at-2.true) in
     walk_none _ c.requires _ (missed_past _ _ _ v.2 (rw v.1 at past))

@@ -9,5 +9,5 @@ returns-then-len-room c =
 
 pub returns : goal.returns
 returns c =
-        rw (c.lies_in-back.ensures, c.lies_in-front.ensures, c.point-to-2.ensures, c.table1-end.ensures, c.point-from.ensures)
+    rw (c.lies_in-back.ensures, c.lies_in-front.ensures, c.point-to-2.ensures, c.table1-end.ensures, c.point-from.ensures)
     (contained_round _ _ _ _ c.requires.start_lt_journal c.if-len-room.false)

@@ -9,5 +9,5 @@ returns-then-len-room c =
 
 pub returns : goal.returns
 returns c =
-        rw (c.lies_in-between.ensures, c.lies_outside-outside.ensures, c.point-to-2.ensures, c.table1-end.ensures, c.point-from.ensures)
+    rw (c.lies_in-between.ensures, c.lies_outside-outside.ensures, c.point-to-2.ensures, c.table1-end.ensures, c.point-from.ensures)
     (disjoint_round _ _ _ _ c.requires.start_lt_journal c.if-len-room.false)

@@ -11,13 +11,12 @@ pub loop-i-init : goal.loop-i-init
 loop-i-init c = (search rules, c.index-n.ensures, search (rules, unmapped), all_none _)
 
 pub loop-i-preserved : goal.loop-i-preserved
-loop-i-preserved c =
-    (
-      search rules,
-      c.loop-i.invariant.1,
-      c.loop-i.invariant.2,
-      all_turn _ _ c.loop-i.invariant.3 (within_turn c.args.t _ c.loop-i.invariant.2 c.loop-i.invariant.1 c.index-r.ensures c.within_at-p.ensures),
-    )
+loop-i-preserved c = (
+  search rules,
+  c.loop-i.invariant.1,
+  c.loop-i.invariant.2,
+  all_turn _ _ c.loop-i.invariant.3 (within_turn c.args.t _ c.loop-i.invariant.2 c.loop-i.invariant.1 c.index-r.ensures c.within_at-p.ensures),
+)
 
 pub returns : goal.returns
 unfolding within

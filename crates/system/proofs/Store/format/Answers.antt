@@ -10,14 +10,14 @@ use Rattle.system.proofs.Store.format.Goals as goal
 pub returns-then-not-good : goal.returns-then-not-good
 unfolding formatted
 returns-then-not-good c =
-        let a = c.args in
+    let a = c.args in
     let e : made a.device && is_rule a.rule ≡ false = (rw c.is_rule-ruled.ensures at c.if-not-good.true) in
     simp (e, c.empty_records-records.ensures, c.empty_queues-queues.ensures, c.empty_cache-cache.ensures, c.zero_node-node.ensures)
 
 pub returns : goal.returns
 unfolding formatted
 returns c =
-        let a = c.args in
+    let a = c.args in
     let e : made a.device && is_rule a.rule ≡ true = (rw c.is_rule-ruled.ensures at c.if-not-good.false) in
     simp (
       e,

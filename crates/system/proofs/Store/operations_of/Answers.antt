@@ -11,7 +11,7 @@ lend-requires c = rw c.meant-m.ensures (capped_le 40 c.args.n)
 
 pub returns : goal.returns
 returns c =
-        let a = c.args in
+    let a = c.args in
     -- what the array's type says of its list: `search` doesn't reach it behind the store
     let l : length a.list ≡ 40 = search rules in
     let os = ap (λ k. take k a.list) c.meant-m.ensures ∙ take_capped 40 a.n a.list l in

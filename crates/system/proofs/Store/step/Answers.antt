@@ -13,12 +13,12 @@ returns-then-answer-ne0 c =
     let a = c.args in
     let b : c.if-number-eq-CRASH.b ≡ disk_asked a.self.device a.number a.q a.offered a.self.disk =
     elim c.if-number-eq-CRASH.branch [
-      then-number-eq-CRASH w ↦ w.b-is ∙ simp (eq-eqb _ _ w.if-number-eq-CRASH.true) w.crash-b.ensures
+      | then-number-eq-CRASH w ↦ w.b-is ∙ simp (eq-eqb _ _ w.if-number-eq-CRASH.true) w.crash-b.ensures
       | else-number-eq-CRASH w ↦ w.b-is ∙ simp (ne_eqb _ _ w.if-number-eq-CRASH.false) (rw w.disk_call.ensures at w.next-b.ensures)
     ] in
     let n : c.if-number-eq-START.n20 ≡ answer (start_rows a.self.device a.number a.q a.self.disk) =
     elim c.if-number-eq-START.branch [
-      then-number-eq-START w ↦ w.n20-is ∙ simp w.if-number-eq-START.true w.ask_start-n20.ensures
+      | then-number-eq-START w ↦ w.n20-is ∙ simp w.if-number-eq-START.true w.ask_start-n20.ensures
       | else-number-eq-START w ↦ w.n20-is ∙ simp (ne_eqb _ _ w.if-number-eq-START.false)
     ] in
     let e = simp (c.lower-answer.ensures, c.lower.ensures, n, b, c.step-a.ensures) at c.if-answer-ne0.true in
@@ -30,12 +30,12 @@ returns c =
     let a = c.args in
     let b : c.if-number-eq-CRASH.b ≡ disk_asked a.self.device a.number a.q a.offered a.self.disk =
     elim c.if-number-eq-CRASH.branch [
-      then-number-eq-CRASH w ↦ w.b-is ∙ simp (eq-eqb _ _ w.if-number-eq-CRASH.true) w.crash-b.ensures
+      | then-number-eq-CRASH w ↦ w.b-is ∙ simp (eq-eqb _ _ w.if-number-eq-CRASH.true) w.crash-b.ensures
       | else-number-eq-CRASH w ↦ w.b-is ∙ simp (ne_eqb _ _ w.if-number-eq-CRASH.false) (rw w.disk_call.ensures at w.next-b.ensures)
     ] in
     let n : c.if-number-eq-START.n20 ≡ answer (start_rows a.self.device a.number a.q a.self.disk) =
     elim c.if-number-eq-START.branch [
-      then-number-eq-START w ↦ w.n20-is ∙ simp w.if-number-eq-START.true w.ask_start-n20.ensures
+      | then-number-eq-START w ↦ w.n20-is ∙ simp w.if-number-eq-START.true w.ask_start-n20.ensures
       | else-number-eq-START w ↦ w.n20-is ∙ simp (ne_eqb _ _ w.if-number-eq-START.false)
     ] in
     let e = simp (c.lower-answer.ensures, c.lower.ensures, n, b, c.step-a.ensures) at c.if-answer-ne0.false in

@@ -9,4 +9,4 @@ returns-then-two c = simp (rw c.names_place-one.ensures at c.if-one.false, rw c.
 
 pub returns : goal.returns
 returns c =
-        simp (rw c.names_place-one.ensures at c.if-one.false, rw c.names_place-two.ensures at c.if-two.false, c.empty_nodes.ensures)
+    simp (rw c.names_place-one.ensures at c.if-one.false, rw c.names_place-two.ensures at c.if-two.false, c.empty_nodes.ensures)

@@ -29,7 +29,7 @@ loop-i-smaller c = omega arith
 
 pub loop-i-preserved : goal.loop-i-preserved
 loop-i-preserved c =
-        let a = c.args in
+    let a = c.args in
     let inv = c.loop-i.invariant in
     let less = c.loop-i-test.true in
     let below : c.loop-i.i < length a.list = omega (arith, less, inv.1, inv.2) in
@@ -38,7 +38,7 @@ loop-i-preserved c =
 
 pub returns : goal.returns
 returns c =
-        let a = c.args in
+    let a = c.args in
     let inv = c.loop-i.invariant in
     let all : c.loop-i.i ≡ c.meant-m.result = omega (arith, c.loop-i-test.false, inv.0) in
     let taken = ap (λ k. take k a.list) (all ∙ c.meant-m.ensures) ∙ take_capped 40 a.n a.list inv.2 in
