@@ -4,6 +4,7 @@ pub mod Flagged
 pub mod Lists
 pub mod Lookup
 pub mod Maps
+pub mod PlainCall
 pub mod QueueForm
 pub mod Refusals
 pub mod Scan

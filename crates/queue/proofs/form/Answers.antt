@@ -1,5 +1,4 @@
 -- The loop keeps a flag for the places passed and the request before; each place has its own test. Assumes nothing.
-use Prim.Native.Nat.{◌-◌}
 use mathlib.Core.Path.{◌≡◌, ap, refl}
 use borrow.Author.Rules.{rules}
 use borrow.Author.Tests.{eq-eqb}

@@ -1,6 +1,4 @@
 -- A search, left at the first place that is free or has a larger id. Assumes nothing.
-use Prim.Native.Nat.{◌-◌}
-use mathlib.Core.Bool.{false}
 use mathlib.Core.Path.{sym}
 use borrow.Author.Rules.{rules}
 use Rattle.base.proofs.Scan.{first_end, first_hit, some_none, some_turn}

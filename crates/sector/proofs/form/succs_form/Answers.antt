@@ -1,5 +1,4 @@
 -- A list of zeros by its count; else a scan with a flag, each place with its own test. Assumes nothing.
-use Prim.Native.Nat.{◌-◌}
 use mathlib.Core.Path.{◌≡◌, ◌∙◌, sym}
 use borrow.Author.Rules.{rules}
 use borrow.Author.Tests.{eq-eqb}

@@ -1,5 +1,4 @@
 -- A scan with a flag. A reference past the table is read at another place, and counts as not allocated. Assumes nothing.
-use Prim.Native.Nat.{◌-◌}
 use borrow.Author.Rules.{rules}
 use Rattle.base.proofs.Lists.{unmapped}
 use Rattle.base.proofs.Scan.{all_end, all_none, all_turn}
