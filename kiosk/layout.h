@@ -6,7 +6,7 @@
  * is not 0, each of the other numbers is 0.
  *
  * Any numbers may be given. No function reads or writes memory of the caller's, and each returns. That each answers as the store's library
- * does, for all numbers, is proved: crates/kiosk/src/lib.rt. Link with libkiosk.a, which `rt staticlib kiosk` writes (x86-64).
+ * does, for all numbers, is proved: crates/kiosk/src/lib.rt. Link with libkiosk.a, which `kiosk/check` builds (x86-64).
  */
 #ifndef CLUBHOUSE_LAYOUT_H
 #define CLUBHOUSE_LAYOUT_H

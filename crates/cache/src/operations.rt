@@ -1,5 +1,5 @@
 // Step 20: a lent list of operations, each in turn as Dirty or Alloc on the cache left by those before. One function walks over the
-// slice, `operations`; it has no condition but the loop's and reads no field, as its proof is written by hand, and asks the others.
+// slice, `operations`; it has no condition but the loop's and reads no field, and asks the others.
 ghost use Rattle.std.specs.Prelude.{◌≡◌};
 ghost use Rattle.blockcache.specs.Operations.{cache_operations, operation_answer, operation_call, operation_next};
 ghost use Rattle.blockcache.specs.Step.{outcome};
