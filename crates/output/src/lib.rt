@@ -30,8 +30,8 @@ impl Output {
         }
     }
 
-    // Writes what is kept.
-    fn write(&mut self)
+    // Writes what is kept, now.
+    pub fn write(&mut self)
         ensures { self.new.used ≡ 0 }
     {
         if self.outcome.is_ok() {

@@ -24,13 +24,11 @@ struct Taken {
 // Puts a piece behind the line's first `used` bytes, as far as there is room, and answers how many bytes the line has then.
 fn gather(line: &mut [u8], used: usize, piece: &[u8]) -> usize {
     let mut n = used;
-    let mut i: usize = 0;
-    while i < piece.len() {
+    for i in 0..piece.len() {
         if n < line.len() {
             line[n] = piece[i];
             n += 1;
         }
-        i += 1;
     }
     n
 }

@@ -39,13 +39,11 @@ pub fn sizes(line: u64, cache: CacheState) {
 // The address of each reference's location; 0, at which no node block of a device that is made begins, where the reference has none.
 fn located(t: Table) -> [u64; 64] {
     let mut addrs: [u64; 64] = [0; 64];
-    let mut i: usize = 0;
-    while i < 64 {
+    for i in 0..64 {
         let e = t.entries[i];
         if e.located {
             addrs[i] = e.loc.addr;
         }
-        i += 1;
     }
     addrs
 }
@@ -54,13 +52,11 @@ fn located(t: Table) -> [u64; 64] {
 fn requested(q: Requests) -> [u64; 16] {
     let count = q.count as usize;
     let mut addrs: [u64; 16] = [0; 16];
-    let mut i: usize = 0;
-    while i < 16 {
+    for i in 0..16 {
         let r = q.at[i];
         if i < count {
             addrs[i] = r.loc.addr;
         }
-        i += 1;
     }
     addrs
 }
@@ -68,10 +64,8 @@ fn requested(q: Requests) -> [u64; 16] {
 // Whether one of the addresses is `at`.
 fn has(addrs: &[u64], at: u64) -> bool {
     let mut hit = false;
-    let mut i: usize = 0;
-    while i < addrs.len() {
+    for i in 0..addrs.len() {
         hit = hit | (addrs[i] == at);
-        i += 1;
     }
     hit
 }
@@ -115,8 +109,7 @@ fn letters(device: u64, cache: CacheState, disk: DiskState) -> [u8; 128] {
     let size = layout::node_block_size(device);
     let mut at = first.value;
     let mut row = [b'.'; 128];
-    let mut k: usize = 0;
-    while k < 128 {
+    for k in 0..128 {
         let r = records.nodes[k];
         row[k] = letter(
             ready & has(&w, at),
@@ -126,7 +119,6 @@ fn letters(device: u64, cache: CacheState, disk: DiskState) -> [u8; 128] {
             r.present,
         );
         at += size.value;
-        k += 1;
     }
     row
 }
