@@ -2,7 +2,6 @@
 // made by hand here. The picture's reference k has contents 100 + k, high 0; a node with contents 200 + k is another one. The numbers
 // follow from document 01: a reference is lost if only the picture has it, added if only the disk has it, altered if both have it with
 // different nodes; the disk has what is stored at exactly the place, then at exactly the reference's location.
-use output::Output;
 use blockdisk::Records;
 use blocksystem::Named;
 use fixtures::ranges::{block_addr, picture_of, table_of, with_nodes};
@@ -11,6 +10,7 @@ use fixtures::{
     AREA1, AREA2, at, entry_nowhere, high_leaf, leaf, node_record, put_node, put_table, storing,
     table_record,
 };
+use output::Output;
 use sectortype::{Node, Nodes, Table};
 use system::Store;
 
@@ -112,7 +112,12 @@ fn one_lost(out: &mut Output) {
     let t = sector::with_entry(table, 63, nowhere);
     let unlocated = with_table(full, t);
     audited(out, b"no_node_at_one_location", all, absent);
-    audited(out, b"a_node_of_another_length_at_one_location", all, longer);
+    audited(
+        out,
+        b"a_node_of_another_length_at_one_location",
+        all,
+        longer,
+    );
     audited(out, b"one_reference_not_in_the_table", all, unlisted);
     audited(out, b"one_reference_without_a_location", all, unlocated);
 }

@@ -1,5 +1,4 @@
 // The cache's numbers that no script reaches: 8 in step 7, 11 in step 11; and 14 at its edge.
-use output::Output;
 use blockcache::CacheState;
 use blockdisk::{Brought, DiskOp};
 use fixtures::show::{cache_answer, internal, line};
@@ -7,6 +6,7 @@ use fixtures::{
     BLOCK1, BLOCK2, BLOCK3, at, entry_nowhere, leaf, one, queue_of, ready, two_entries,
     with_cached, with_ephemeral, with_frozen, with_reads, with_writes,
 };
+use output::Output;
 use sectortype::Table;
 
 // A Ready cache that awaits, under id 5, the node of this reference.
@@ -82,7 +82,8 @@ fn step_11(out: &mut Output) {
     line(out, b"evict_with_a_location_in_the_frozen_table", b);
     line(out, b"evict_without_a_location_in_the_frozen_table", c);
     line(out, b"evict_of_a_reference_not_in_the_frozen_table", d);
-    line(out, 
+    line(
+        out,
         b"evict_of_an_unallocated_one_without_a_location_in_the_frozen_table",
         e,
     );

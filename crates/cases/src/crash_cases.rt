@@ -1,11 +1,11 @@
 // A crash of the disk: 19 unless the records offered are possible, 1 where one is not in its written form.
-use output::Output;
 use blockdisk::{Queues, Records};
 use fixtures::show::{crash_answer, line, pair};
 use fixtures::{
     AREA1, AREA2, BLOCK0, BLOCK1, absent_node_record, at, high_leaf, leaf, node_record, one,
     put_node, put_table, queues_with, stored, table_record, two_entries,
 };
+use output::Output;
 
 // Block k has a node with these contents at this place.
 fn with_node(r: Records, k: usize, addr: u64, len: u64, contents: u64) -> Records {
@@ -154,7 +154,11 @@ fn absent(out: &mut Output) {
     let c = crash_answer(r, none, tabled);
     let d = crash_answer(r, none, higher);
     line(out, b"crash_offers_an_absent_node_that_is_not_zeros", a);
-    line(out, b"crash_loses_a_node_and_the_absent_one_is_not_zeros", b);
+    line(
+        out,
+        b"crash_loses_a_node_and_the_absent_one_is_not_zeros",
+        b,
+    );
     line(out, b"crash_offers_an_absent_table_that_is_not_zeros", c);
     line(out, b"crash_offers_an_absent_node_with_high_alone", d);
 }

@@ -1,10 +1,10 @@
 // The disk's numbers 15, 16, 17 and 18. A kind is 1 table read, 2 node read, 3 table write, 4 node write.
-use output::Output;
 use blockdisk::{Brought, DiskCall, DiskOp, DiskState, Queues};
 use disk::Disk;
 use disklayout::Location;
 use fixtures::show::{disk_answer, disk_brings, line, pair};
 use fixtures::{AREA1, AREA2, BLOCK0, at, high_leaf, leaf, queue_of, stored, storing, two_entries};
+use output::Output;
 use queue::{Request, Requests};
 use sectortype::{Node, Table};
 

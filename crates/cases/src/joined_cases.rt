@@ -1,6 +1,5 @@
 // The joined call: the lowest number of cache and disk, and where either refuses neither moves. After each case stands how many of
 // the two have changed: none after a refusal, or after step 14 without an answer.
-use output::Output;
 use blockcache::{Awaited, CacheState, Call, Phase, VersionOp};
 use blockdisk::{Brought, DiskOp, DiskState, Records};
 use disklayout::Location;
@@ -11,10 +10,19 @@ use fixtures::{
     ready, stored, storing, two_entries, with_cached, with_ephemeral, with_frozen,
     with_frozen_place, with_reads, with_writes,
 };
+use output::Output;
 use queue::Requests;
 use system::Store;
 
-fn both(out: &mut Output, name: &[u8], number: u64, q: Call, offered: Records, c: CacheState, s: DiskState) {
+fn both(
+    out: &mut Output,
+    name: &[u8],
+    number: u64,
+    q: Call,
+    offered: Records,
+    c: CacheState,
+    s: DiskState,
+) {
     let store = Store {
         device: 0,
         cache: c,
@@ -28,7 +36,14 @@ fn both(out: &mut Output, name: &[u8], number: u64, q: Call, offered: Records, c
     pair(out, b"changed_by", name, n);
 }
 
-pub(crate) fn joined(out: &mut Output, name: &[u8], number: u64, q: Call, c: CacheState, s: DiskState) {
+pub(crate) fn joined(
+    out: &mut Output,
+    name: &[u8],
+    number: u64,
+    q: Call,
+    c: CacheState,
+    s: DiskState,
+) {
     let offered = disk::empty_records();
     both(out, name, number, q, offered, c, s);
 }
@@ -68,7 +83,8 @@ fn step_1_ids(out: &mut Output) {
     let loc = at(BLOCK3, 4096);
     let q = write_call(1, loc);
     joined(out, b"step_1_accepted", 1, q, c, none);
-    joined(out, 
+    joined(
+        out,
         b"step_1_with_5_of_the_cache_and_15_of_the_disk",
         1,
         q,
@@ -89,7 +105,8 @@ fn step_1_limits(out: &mut Output) {
     let past = at(8650752, 1);
     let q = write_call(99, loc);
     let r = write_call(99, past);
-    joined(out, 
+    joined(
+        out,
         b"step_1_with_14_of_the_cache_and_18_of_the_disk",
         1,
         q,
@@ -111,7 +128,14 @@ fn step_2(out: &mut Output) {
     let node = sector::zero_node();
     let q = internal(0, dop, node);
     joined(out, b"step_2_accepted", 2, q, awaiting, s);
-    joined(out, b"step_2_with_15_of_the_disk_alone", 2, q, awaiting, none);
+    joined(
+        out,
+        b"step_2_with_15_of_the_disk_alone",
+        2,
+        q,
+        awaiting,
+        none,
+    );
 }
 
 // n requests at table area 2.
@@ -139,7 +163,14 @@ fn step_3(out: &mut Output) {
     let mut x = internal(0, other, node);
     x.table = t;
     joined(out, b"step_3_accepted", 3, q, frozen, none);
-    joined(out, b"step_3_with_15_of_the_disk_alone", 3, q, frozen, known);
+    joined(
+        out,
+        b"step_3_with_15_of_the_disk_alone",
+        3,
+        q,
+        frozen,
+        known,
+    );
     joined(out, b"step_3_with_18_of_the_disk_alone", 3, x, frozen, full);
 }
 
@@ -247,7 +278,14 @@ fn step_7(out: &mut Output) {
     let none = empty();
     let q = node_answer(Brought::Something);
     joined(out, b"step_7_with_17_of_the_disk_alone", 7, q, awaiting, s);
-    joined(out, b"step_7_with_15_of_the_disk_alone", 7, q, awaiting, none);
+    joined(
+        out,
+        b"step_7_with_15_of_the_disk_alone",
+        7,
+        q,
+        awaiting,
+        none,
+    );
 }
 
 // A cache that is loading this place.
@@ -320,7 +358,14 @@ fn forms(out: &mut Output) {
     let wrong = with_reads(c, r);
     joined(out, b"step_14_accepted", 14, q, c, none);
     joined(out, b"step_14_with_1_of_the_disk_alone", 14, q, c, broken);
-    joined(out, b"step_14_with_1_of_the_cache_alone", 14, q, wrong, none);
+    joined(
+        out,
+        b"step_14_with_1_of_the_cache_alone",
+        14,
+        q,
+        wrong,
+        none,
+    );
     joined(out, b"step_0", 0, q, c, none);
     joined(out, b"step_19", 19, q, c, none);
     joined(out, b"step_20", 20, q, c, none);

@@ -1,6 +1,5 @@
 // Answers of reads that cache and disk have, or only one of the two; and in Ready the awaited table write under the id of a read. Since a
 // no-op refuses awaited answers with 22, no list of joined calls leads to a read that only one of the two has.
-use output::Output;
 use crate::joined_cases::{
     awaiting_node, awaiting_table, empty, joined, loading, node_answer, node_read, table_requests,
     table_written,
@@ -9,6 +8,7 @@ use blockcache::{Awaited, CacheState, Call};
 use blockdisk::{Brought, DiskOp, DiskState};
 use fixtures::show::{internal, line};
 use fixtures::{AREA2, at, queued, ready, two_entries};
+use output::Output;
 use system::Store;
 
 // A cache that awaits, under id 1, the table in area 2.
@@ -48,22 +48,32 @@ fn let_node_go(out: &mut Output) {
     let q = node_answer(Brought::Nothing);
     let x = node_answer(Brought::Something);
     joined(out, b"step_19_of_a_node_accepted", 19, q, known, s);
-    joined(out, 
+    joined(
+        out,
         b"step_19_of_an_unallocated_node_accepted",
         19,
         q,
         unallocated,
         s,
     );
-    joined(out, b"step_19_of_a_node_with_5_of_the_cache_alone", 19, q, c, s);
-    joined(out, 
+    joined(
+        out,
+        b"step_19_of_a_node_with_5_of_the_cache_alone",
+        19,
+        q,
+        c,
+        s,
+    );
+    joined(
+        out,
         b"step_19_of_a_node_with_15_of_the_disk_alone",
         19,
         q,
         known,
         none,
     );
-    joined(out, 
+    joined(
+        out,
         b"step_19_of_a_node_with_17_of_the_disk_alone",
         19,
         x,
@@ -83,15 +93,24 @@ fn let_table_go(out: &mut Output) {
     joined(out, b"step_9_with_15_of_the_disk_alone", 9, x, known, none);
     joined(out, b"step_9_with_17_of_the_disk_alone", 9, x, known, s);
     joined(out, b"step_19_of_a_table_accepted", 19, q, known, s);
-    joined(out, b"step_19_of_a_table_with_5_of_the_cache_alone", 19, q, c, s);
-    joined(out, 
+    joined(
+        out,
+        b"step_19_of_a_table_with_5_of_the_cache_alone",
+        19,
+        q,
+        c,
+        s,
+    );
+    joined(
+        out,
         b"step_19_of_a_table_with_15_of_the_disk_alone",
         19,
         q,
         known,
         none,
     );
-    joined(out, 
+    joined(
+        out,
         b"step_19_of_a_table_with_17_of_the_disk_alone",
         19,
         x,
@@ -108,22 +127,32 @@ fn no_op_of_a_node(out: &mut Output) {
     let none = empty();
     let q = node_answer(Brought::Nothing);
     let x = node_answer(Brought::Something);
-    joined(out, b"step_14_of_a_node_that_only_the_disk_has", 14, q, c, s);
-    joined(out, 
+    joined(
+        out,
+        b"step_14_of_a_node_that_only_the_disk_has",
+        14,
+        q,
+        c,
+        s,
+    );
+    joined(
+        out,
         b"step_14_of_a_node_with_22_of_the_cache_alone",
         14,
         q,
         known,
         s,
     );
-    joined(out, 
+    joined(
+        out,
         b"step_14_of_a_node_with_22_of_the_cache_and_15_of_the_disk",
         14,
         q,
         known,
         none,
     );
-    joined(out, 
+    joined(
+        out,
         b"step_14_of_a_node_with_22_of_the_cache_and_17_of_the_disk",
         14,
         x,
@@ -140,22 +169,32 @@ fn no_op_of_a_table(out: &mut Output) {
     let none = empty();
     let q = table_answer(Brought::Nothing);
     let x = table_answer(Brought::Something);
-    joined(out, b"step_14_of_a_table_that_only_the_disk_has", 14, q, c, s);
-    joined(out, 
+    joined(
+        out,
+        b"step_14_of_a_table_that_only_the_disk_has",
+        14,
+        q,
+        c,
+        s,
+    );
+    joined(
+        out,
         b"step_14_of_a_table_with_22_of_the_cache_alone",
         14,
         q,
         known,
         s,
     );
-    joined(out, 
+    joined(
+        out,
         b"step_14_of_a_table_with_22_of_the_cache_and_15_of_the_disk",
         14,
         q,
         known,
         none,
     );
-    joined(out, 
+    joined(
+        out,
         b"step_14_of_a_table_with_22_of_the_cache_and_17_of_the_disk",
         14,
         x,
@@ -172,28 +211,32 @@ fn other_phase(out: &mut Output) {
     let r = node_read();
     let q = table_answer(Brought::Nothing);
     let x = node_answer(Brought::Nothing);
-    joined(out, 
+    joined(
+        out,
         b"step_14_in_ready_of_a_table_read_under_the_id_of_the_table_write",
         14,
         q,
         writing,
         s,
     );
-    joined(out, 
+    joined(
+        out,
         b"step_19_in_ready_of_a_table_read_under_the_id_of_the_table_write",
         19,
         q,
         writing,
         s,
     );
-    joined(out, 
+    joined(
+        out,
         b"step_14_in_loading_of_a_node_read_under_the_id_of_the_table_read",
         14,
         x,
         loads,
         r,
     );
-    joined(out, 
+    joined(
+        out,
         b"step_19_in_loading_of_a_node_read_under_the_id_of_the_table_read",
         19,
         x,
@@ -215,7 +258,8 @@ fn write_stays(out: &mut Output) {
     };
     let offered = disk::empty_records();
     let o = store.step(19, x, offered);
-    line(out, 
+    line(
+        out,
         b"step_19_of_a_node_under_the_id_of_the_table_write",
         o.answer,
     );

@@ -18,8 +18,8 @@ mod node_cases;
 mod rule_cases;
 mod screen_cases;
 
-use std::io;
 use output::{Output, finish};
+use std::io;
 
 fn main(rt: HostRuntime) -> io::Result<()> {
     let mut out = Output::new(rt.stdout());

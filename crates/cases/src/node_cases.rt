@@ -1,7 +1,7 @@
 // Two nodes compared by high, low and list. And older nodes carried over, whose contents were one number.
-use output::Output;
 use fixtures::show::equal;
 use fixtures::{high_leaf, leaf};
+use output::Output;
 use sectortype::{Node, OlderNode, Succs};
 
 fn compared(out: &mut Output, name: &[u8], a: Node, b: Node) {
@@ -63,7 +63,12 @@ fn carried(out: &mut Output) {
     exchanged.succs = there;
     let mut largest = high_leaf(0, u64::MAX);
     largest.succs = there;
-    compared(out, b"carried_has_high_0_and_the_old_number", node, expected);
+    compared(
+        out,
+        b"carried_has_high_0_and_the_old_number",
+        node,
+        expected,
+    );
     compared(out, b"carried_has_the_old_number_as_high", node, exchanged);
     compared(out, b"carried_keeps_the_largest_number", most, largest);
     compared(out, b"carried_from_equal_nodes", node, again);

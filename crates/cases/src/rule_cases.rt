@@ -1,9 +1,9 @@
 // The freeze rule: what Freeze answers under each, on the cache alone and joined, and what formatting and a crash make of the rule.
-use output::Output;
 use crate::joined_cases::{awaiting_table, joined};
 use blockcache::{CacheState, Call, VersionOp};
 use fixtures::show::{pair, rule, ruled_answer, versioned};
 use fixtures::{AREA2, at, ready, stored, storing, two_entries, with_frozen, with_frozen_place};
+use output::Output;
 use system::{CRASH, Store};
 
 const FREEZE: u64 = 12;
@@ -32,27 +32,32 @@ fn freezes(out: &mut Output, name: &[u8], number: u64) {
     let table = with_table(nothing);
     let both = with_table(place);
     let waiting = awaiting_table();
-    pair(out, 
+    pair(
+        out,
         b"freeze_with_nothing_frozen",
         name,
         ruled_answer(number, nothing, FREEZE, q),
     );
-    pair(out, 
+    pair(
+        out,
         b"freeze_with_a_frozen_table",
         name,
         ruled_answer(number, table, FREEZE, q),
     );
-    pair(out, 
+    pair(
+        out,
         b"freeze_with_a_frozen_place",
         name,
         ruled_answer(number, place, FREEZE, q),
     );
-    pair(out, 
+    pair(
+        out,
         b"freeze_with_both",
         name,
         ruled_answer(number, both, FREEZE, q),
     );
-    pair(out, 
+    pair(
+        out,
         b"freeze_with_both_while_the_table_is_written",
         name,
         ruled_answer(number, waiting, FREEZE, q),
@@ -70,21 +75,24 @@ fn joined_freezes(out: &mut Output) {
     two.rule = 2;
     let mut three = one;
     three.rule = 3;
-    joined(out, 
+    joined(
+        out,
         b"step_12_with_a_frozen_place_on_a_disk_of_rule_1",
         FREEZE,
         q,
         both,
         one,
     );
-    joined(out, 
+    joined(
+        out,
         b"step_12_with_a_frozen_place_on_a_disk_of_rule_2",
         FREEZE,
         q,
         both,
         two,
     );
-    joined(out, 
+    joined(
+        out,
         b"step_12_with_a_frozen_place_on_a_disk_of_rule_3",
         FREEZE,
         q,

@@ -1,12 +1,12 @@
 // A node compared with the working picture's. After a list of joined calls with starts at named places an accepted read hands out no other node than the picture's,
 // so pictures are made by hand here. The picture's reference k has contents 100 + k, high 0, and lists nothing, where a case doesn't say otherwise. The words follow
 // from document 02, Q-9: same where the picture has that reference with this node, high, low and list in its order, else other.
-use output::Output;
 use crate::node_cases::list;
 use blocksystem::Pictures;
 use fixtures::ranges::picture_of;
 use fixtures::show::picture;
 use fixtures::{high_leaf, leaf};
+use output::Output;
 use sectortype::{Node, Nodes, Slot};
 
 // These as the working picture; the other pictures are empty, and a place is named.
@@ -44,13 +44,19 @@ fn numbers(out: &mut Output) {
     shown(out, b"the_node_of_another_reference", m, 62, leaf(163));
     last(out, b"reference_63_as_in_the_picture", leaf(163));
     last(out, b"reference_63_with_another_low", leaf(162));
-    last(out, b"reference_63_with_a_low_that_ends_alike", leaf(4294967459));
+    last(
+        out,
+        b"reference_63_with_a_low_that_ends_alike",
+        leaf(4294967459),
+    );
     last(out, b"reference_63_with_another_high", high_leaf(1, 163));
-    last(out, 
+    last(
+        out,
         b"reference_63_with_a_high_of_one_bit",
         high_leaf(9223372036854775808, 163),
     );
-    last(out, 
+    last(
+        out,
         b"reference_63_with_high_and_low_exchanged",
         high_leaf(163, 0),
     );
@@ -72,7 +78,13 @@ fn highs(out: &mut Output) {
     let m = having(7, high_leaf(5, 73));
     let zero = sector::zero_node();
     let n = having(8, zero);
-    shown(out, b"high_and_low_as_in_the_picture", m, 7, high_leaf(5, 73));
+    shown(
+        out,
+        b"high_and_low_as_in_the_picture",
+        m,
+        7,
+        high_leaf(5, 73),
+    );
     shown(out, b"low_alone", m, 7, leaf(73));
     shown(out, b"low_with_another_high", m, 7, high_leaf(6, 73));
     shown(out, b"zeros_that_the_picture_has", n, 8, zero);
@@ -136,7 +148,13 @@ fn lacking(out: &mut Output) {
     };
     let absent = sector::with_slot(m, 63, slot);
     shown(out, b"a_reference_that_the_picture_lacks", m, 63, node);
-    shown(out, b"zeros_for_a_reference_that_the_picture_lacks", m, 63, zero);
+    shown(
+        out,
+        b"zeros_for_a_reference_that_the_picture_lacks",
+        m,
+        63,
+        zero,
+    );
     shown(out, b"the_node_of_a_slot_that_is_absent", absent, 63, node);
     shown(out, b"a_node_and_an_empty_picture", none, 0, leaf(100));
     shown(out, b"zeros_and_an_empty_picture", none, 0, zero);
@@ -150,13 +168,15 @@ fn above(out: &mut Output) {
     shown(out, b"reference_64_with_zeros", m, 64, zero);
     shown(out, b"reference_127_with_the_node_of_63", m, 127, leaf(163));
     shown(out, b"reference_256_with_the_node_of_0", m, 256, leaf(100));
-    shown(out, 
+    shown(
+        out,
         b"reference_4294967296_with_the_node_of_0",
         m,
         4294967296,
         leaf(100),
     );
-    shown(out, 
+    shown(
+        out,
         b"the_largest_reference_with_the_node_of_63",
         m,
         u64::MAX,

@@ -1,6 +1,5 @@
 // What the chooser gives: the first block after the last one given that no table and no outstanding write holds, going round. On device 0 block k is at
 // 262144 + k * 65536.
-use output::Output;
 use blockcache::{Awaited, CacheState};
 use blockdisk::DiskState;
 use fixtures::changed::same_cache;
@@ -10,11 +9,18 @@ use fixtures::{
     AREA2, BLOCK2, RULE_1, at, entry_at, loading, marked_on, one, ready, storing, two_entries,
     with_ephemeral, with_frozen, with_frozen_place, with_last, with_persistent, with_writes,
 };
+use output::Output;
 use sectortype::Entry;
 use system::Store;
 
 // The store's chooser, on this disk.
-pub(crate) fn asked_with(out: &mut Output, name: &[u8], device: u64, c: CacheState, disk: DiskState) -> CacheState {
+pub(crate) fn asked_with(
+    out: &mut Output,
+    name: &[u8],
+    device: u64,
+    c: CacheState,
+    disk: DiskState,
+) -> CacheState {
     let r = Store {
         device,
         cache: c,
@@ -122,7 +128,8 @@ fn holders(out: &mut Output) {
     waiting.awaited = a;
     chosen(out, b"2_held_by_a_write", written, 127);
     chosen(out, b"2_held_by_the_frozen_table", frozen, 127);
-    chosen(out, 
+    chosen(
+        out,
         b"2_held_by_the_frozen_table_while_it_is_written",
         waiting,
         127,
@@ -138,7 +145,12 @@ fn outside(out: &mut Output) {
     let b = full_but(0, odd);
     let t = table_of(1, 64);
     let two = with_persistent(a, t);
-    chosen(out, b"0_and_64_free_and_a_location_past_the_blocks", two, 127);
+    chosen(
+        out,
+        b"0_and_64_free_and_a_location_past_the_blocks",
+        two,
+        127,
+    );
     chosen(out, b"64_free_and_a_location_in_the_block", b, 127);
 }
 

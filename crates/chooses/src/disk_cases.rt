@@ -1,13 +1,13 @@
 // The chooser judges the disk too: the state of a joined call is cache and disk, and number 1 is given where either is out of its written
 // form (document 01). The cache is `ready`, of which blocks 0 and 1 are marked and block 127 was given last; so on a disk in its form
 // block 2 is given, of 126, at 393216.
-use output::Output;
 use crate::choose_cases::{asked_with, full};
 use blockdisk::{DiskState, NodeRecord, TableRecord};
 use fixtures::{
     AREA2, BLOCK0, BLOCK1, absent_node_record, at, leaf, loading, node_record, one, put_node,
     put_table, queue_of, queued, ready, stored, storing, table_record, two_entries, with_last,
 };
+use output::Output;
 use queue::{Request, Requests};
 
 fn on(out: &mut Output, name: &[u8], disk: DiskState) {

@@ -8,8 +8,8 @@ mod choose_cases;
 mod disk_cases;
 mod step_cases;
 
-use std::io;
 use output::{Output, finish};
+use std::io;
 
 fn main(rt: HostRuntime) -> io::Result<()> {
     let mut out = Output::new(rt.stdout());

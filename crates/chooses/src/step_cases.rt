@@ -1,6 +1,5 @@
 // The marks that an accepted step leaves, and the block given last: a load sets it to 127, a start and a crash leave zeros, every other step keeps it.
 // Block k's bit is 2 to the k: blocks 0 to 4 are 1, 2, 4, 8 and 16 in the low word, block 100 is 68719476736 in the high one.
-use output::Output;
 use blockcache::{CacheState, Call, Settings, VersionOp};
 use blockdisk::{Brought, DiskOp};
 use cache::Cache;
@@ -11,6 +10,7 @@ use fixtures::{
     AREA1, AREA2, BLOCK3, RULE_1, at, entry_at, entry_nowhere, leaf, loading, ready, two_entries,
     with_cached, with_ephemeral, with_frozen, with_frozen_place, with_last,
 };
+use output::Output;
 use sectortype::{Entry, Table};
 
 fn after(out: &mut Output, name: &[u8], c: CacheState, number: u64, q: Call) -> CacheState {
@@ -67,7 +67,13 @@ fn steps_1_and_2(out: &mut Output) {
     let loc = at(BLOCK3, 4096);
     let q = write_call(loc);
     let a = written_call();
-    let d = after(out, b"step_1_of_a_reference_without_a_location", dirty, 1, q);
+    let d = after(
+        out,
+        b"step_1_of_a_reference_without_a_location",
+        dirty,
+        1,
+        q,
+    );
     after(out, b"step_2_of_a_block_that_the_table_has", d, 2, a);
     let clean = moved(1);
     let addr = block_addr(100);

@@ -1,5 +1,4 @@
 // Number 1: lists, tables and queues that are not in their written form, at each place where one can stand.
-use output::Output;
 use blockdisk::{DiskCall, DiskOp, DiskState, Records};
 use disk::Disk;
 use disklayout::Location;
@@ -11,6 +10,7 @@ use fixtures::{
     queued, ready, storing, table_record, two_entries, with_cached, with_ephemeral, with_frozen,
     with_persistent, with_reads, with_writes,
 };
+use output::Output;
 use queue::Requests;
 use sectortype::{Node, Succs, Table};
 

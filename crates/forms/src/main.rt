@@ -6,8 +6,8 @@ mod form_cases;
 mod mark_cases;
 mod state_cases;
 
-use std::io;
 use output::{Output, finish};
+use std::io;
 
 fn main(rt: HostRuntime) -> io::Result<()> {
     let mut out = Output::new(rt.stdout());

@@ -1,7 +1,6 @@
 // Number 1: marks that disagree with the tables and the outstanding writes, a last block above 127, and either outside Ready. Each cache is asked for a
 // no-op, for a read of the root, which it has cached, and for a block: 1 comes before every other number in all three. Block k is bit k of the low word,
 // block 64 + k bit k of the high one.
-use output::Output;
 use blockcache::{CacheState, Settings};
 use cache::Cache;
 use fixtures::ranges::block_addr;
@@ -10,6 +9,7 @@ use fixtures::{
     BLOCK2, BLOCK3, RULE_1, at, entry_at, leaf, loading, one, ready, two_entries, with_blocks,
     with_cached, with_ephemeral, with_frozen, with_last, with_marks, with_persistent, with_writes,
 };
+use output::Output;
 use sectortype::Table;
 
 // The lowest and the highest bit of a word: blocks 0 and 63, or 64 and 127.
@@ -113,13 +113,15 @@ fn on_device(out: &mut Output, name: &[u8], device: u64, low: u64) {
 }
 
 fn devices(out: &mut Output) {
-    on_device(out, 
+    on_device(
+        out,
         b"on_device_0_with_the_mark_of_block_60",
         0,
         1152921504606846976,
     );
     on_device(out, b"on_device_0_with_the_mark_of_block_25", 0, 33554432);
-    on_device(out, 
+    on_device(
+        out,
         b"on_device_1_with_the_mark_of_block_60",
         1,
         1152921504606846976,
@@ -162,7 +164,8 @@ pub(crate) fn run(out: &mut Output) {
     last(out, b"with_last_block_0", 0);
     last(out, b"with_last_block_127", 127);
     last(out, b"with_last_block_128", 128);
-    last(out, 
+    last(
+        out,
         b"with_last_block_18446744073709551615",
         18446744073709551615,
     );

@@ -1,5 +1,4 @@
 // Number 1: what a phase doesn't have, flags that are off, records and queued places, and numbers outside their range.
-use output::Output;
 use blockcache::{Awaited, CacheState, Phase, Settings};
 use blockdisk::{DiskCall, DiskOp, NodeRecord, TableRecord};
 use cache::Cache;
@@ -12,6 +11,7 @@ use fixtures::{
     two_entries, with_cached, with_ephemeral, with_frozen, with_frozen_place, with_persistent,
     with_reads, with_writes,
 };
+use output::Output;
 use sectortype::Node;
 
 fn with_awaited(c: CacheState, waiting: bool, id: u64) -> CacheState {
@@ -110,7 +110,11 @@ fn cached(out: &mut Output) {
     line(out, b"cached_nodes_with_an_absent_one_that_is_not_zeros", b);
     line(out, b"cached_nodes_with_a_wrong_count", d);
     line(out, b"cached_nodes_with_an_absent_one_of_zeros", e);
-    line(out, b"cached_nodes_with_an_absent_one_that_has_high_alone", f);
+    line(
+        out,
+        b"cached_nodes_with_an_absent_one_that_has_high_alone",
+        f,
+    );
 }
 
 // Neither phase before Ready has a table, a frozen place, a node, or a node request outstanding.
@@ -219,7 +223,14 @@ fn table_records(out: &mut Output) {
 }
 
 // A queue of the disk with one request.
-fn queue_place(out: &mut Output, name: &[u8], what: &[u8], kind: u64, reference: u8, loc: Location) {
+fn queue_place(
+    out: &mut Output,
+    name: &[u8],
+    what: &[u8],
+    kind: u64,
+    reference: u8,
+    loc: Location,
+) {
     let q = one(1, reference, loc);
     let s = queued(kind, q);
     let a = disk_form(s);
