@@ -2,16 +2,16 @@
 use blockcache::{CacheState, Phase};
 use blockdisk::DiskState;
 use cache::is_ready;
-use output::{text, word};
+use output::{Output, text, word};
 use queue::Requests;
 use sectortype::Table;
 use words::digits::wide;
 
-fn phase_name(phase: Phase) {
+fn phase_name(out: &mut Output, phase: Phase) {
     match phase {
-        Phase::Unready => text(b"Unready"),
-        Phase::Loading => text(b"Loading"),
-        Phase::Ready => text(b"Ready"),
+        Phase::Unready => text(out, b"Unready"),
+        Phase::Loading => text(out, b"Loading"),
+        Phase::Ready => text(out, b"Ready"),
     }
 }
 
@@ -23,17 +23,29 @@ fn counted(ready: bool, n: u8) -> u64 {
     0
 }
 
-pub fn sizes(line: u64, cache: CacheState) {
+pub fn sizes(out: &mut Output, line: u64, cache: CacheState) {
     let phase = cache.phase;
     let ready = is_ready(phase);
-    word(b"line=", line);
-    text(b" phase=");
-    phase_name(phase);
-    word(b" allocated=", counted(ready, cache.tables.ephemeral.count));
-    word(b" cached=", counted(ready, cache.nodes.count));
-    word(b" writes=", counted(ready, cache.outstanding.writes.count));
-    word(b" reads=", counted(ready, cache.outstanding.reads.count));
-    text(b"\n");
+    word(out, b"line=", line);
+    text(out, b" phase=");
+    phase_name(out, phase);
+    word(
+        out,
+        b" allocated=",
+        counted(ready, cache.tables.ephemeral.count),
+    );
+    word(out, b" cached=", counted(ready, cache.nodes.count));
+    word(
+        out,
+        b" writes=",
+        counted(ready, cache.outstanding.writes.count),
+    );
+    word(
+        out,
+        b" reads=",
+        counted(ready, cache.outstanding.reads.count),
+    );
+    text(out, b"\n");
 }
 
 // The address of each reference's location; 0, at which no node block of a device that is made begins, where the reference has none.
@@ -123,10 +135,10 @@ fn letters(device: u64, cache: CacheState, disk: DiskState) -> [u8; 128] {
     row
 }
 
-pub fn blocks(line: u64, device: u64, cache: CacheState, disk: DiskState) {
+pub fn blocks(out: &mut Output, line: u64, device: u64, cache: CacheState, disk: DiskState) {
     let row = letters(device, cache, disk);
-    word(b"line=", line);
-    text(b" blocks=");
-    text(&row);
-    text(b"\n");
+    word(out, b"line=", line);
+    text(out, b" blocks=");
+    text(out, &row);
+    text(out, b"\n");
 }
