@@ -37,7 +37,7 @@ fn turn(s: DiskState) -> u64 {
 fn main(rt: HostRuntime) -> io::Result<()> {
     let s = empty();
     let mut accepted: u64 = 0;
-    for _ in 0..1000000 {
+    for _ in 0..1000000u64 {
         let n = turn(s);
         if n == 1 {
             accepted += 1;
