@@ -2,13 +2,16 @@
 // the calls made, those accepted, and a checksum of the answers, of the contents read and of the places where a list failed.
 #![tactic(auto)]
 
-ghost use Rattle.std.specs.Prelude.{◌≤◌};
+ghost use Rattle.std.specs.Prelude.{◌≤◌, IfOk};
 
 mod calls;
 mod script;
 mod steps;
 
 use calls::State;
+use output::{Output, finish, text, word};
+use std::rt::Env;
+use std::{env, io};
 
 // The digit's value; 0 for another byte.
 fn digit(b: u8) -> u64
@@ -28,43 +31,40 @@ fn number(digits: &[u8]) -> u64
     ensures { result ≤ 99999999 }
 {
     let mut n: u64 = 0;
-    let mut i: usize = 0;
-    while i < digits.len() {
+    for i in 0..digits.len() {
         let d = digit(digits[i]);
         if n < 9999999 {
             n = n * 10 + d;
         }
-        i += 1;
     }
     n
 }
 
-fn rounds() -> u64
-    ensures { result ≤ 99999999 }
+// The program's first argument; 0 where it has none.
+fn rounds(rt: &(impl Env + Alloc)) -> io::Result<u64>
+    ensures { IfOk result (λ n. n ≤ 99999999) }
 {
-    let mut buf = io::buffer();
-    let n = os::arg(1, &mut buf);
-    number(&buf[..n])
+    match env::args(rt)?.nth(1) {
+        Some(digits) => Ok(number(digits.as_bytes())),
+        None => Ok(0),
+    }
 }
 
 fn run(count: u64) -> State {
     let mut s = script::start();
-    let mut i: u64 = 0;
-    while i < count {
+    for i in 0..count {
         s = script::round(s, i);
-        i += 1;
     }
     s
 }
 
-fn main() {
-    let n = rounds();
+fn main(rt: HostRuntime) -> io::Result<()> {
+    let n = rounds(&rt)?;
     let s = run(n);
-    io::write_all(1, b"calls=");
-    io::print_decimal(1, s.calls);
-    io::write_all(1, b" accepted=");
-    io::print_decimal(1, s.accepted);
-    io::write_all(1, b" checksum=");
-    io::print_decimal(1, s.checksum);
-    io::write_all(1, b"\n");
+    let mut out = Output::new(rt.stdout());
+    word(&mut out, b"calls=", s.calls);
+    word(&mut out, b" accepted=", s.accepted);
+    word(&mut out, b" checksum=", s.checksum);
+    text(&mut out, b"\n");
+    finish(out)
 }

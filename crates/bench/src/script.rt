@@ -54,11 +54,9 @@ fn load(s: State) -> State {
 // 8 calls: references 1 to 8.
 fn grow(s: State) -> State {
     let mut now = s;
-    let mut r: u8 = 1;
-    while r <= 8 {
+    for r in 1..9 {
         let n = leaf(now.base, r);
         now = alloc(now, wide(r), n);
-        r += 1;
     }
     now
 }
@@ -66,10 +64,8 @@ fn grow(s: State) -> State {
 // 9 calls: references 0 to 8.
 fn read_all(s: State) -> State {
     let mut now = s;
-    let mut r: u8 = 0;
-    while r <= 8 {
+    for r in 0..9 {
         now = read(now, wide(r));
-        r += 1;
     }
     now
 }
@@ -144,8 +140,7 @@ fn together(s: State) -> State {
 // 8 calls: references 0 to 7 to blocks 1 to 8.
 fn write_all(s: State) -> State {
     let mut now = s;
-    let mut r: u8 = 0;
-    while r < 8 {
+    for r in 0..8 {
         let k = wide(r);
         let n = latest(now.base, r);
         now = write_back_node_req(
@@ -155,7 +150,6 @@ fn write_all(s: State) -> State {
             std::num::wrapping_add_u64(1, k),
             n,
         );
-        r += 1;
     }
     now
 }
@@ -163,10 +157,8 @@ fn write_all(s: State) -> State {
 // 8 calls: the answers.
 fn answer_all(s: State) -> State {
     let mut now = s;
-    let mut k: u64 = 0;
-    while k < 8 {
+    for k in 0..8 {
         now = write_back_node_resp(now, 20 + k);
-        k += 1;
     }
     now
 }

@@ -10,10 +10,11 @@ use fixtures::{
     AREA1, AREA2, at, entry_nowhere, high_leaf, leaf, node_record, put_node, put_table, storing,
     table_record,
 };
+use output::Output;
 use sectortype::{Node, Nodes, Table};
 use system::Store;
 
-fn audited(name: &[u8], picture: Nodes, r: Records) {
+fn audited(out: &mut Output, name: &[u8], picture: Nodes, r: Records) {
     let place = at(AREA1, 4096);
     let s = storing(r);
     let m = Named {
@@ -28,7 +29,7 @@ fn audited(name: &[u8], picture: Nodes, r: Records) {
         disk: s,
     };
     let c = store.audit(m);
-    counts(name, c.lost, c.added, c.altered);
+    counts(out, name, c.lost, c.added, c.altered);
 }
 
 // The nodes of a range, with contents `first + k`, and nothing else.
@@ -65,20 +66,20 @@ fn with_last(r: Records, len: u64, node: Node) -> Records {
 }
 
 // Both have the same references with the same nodes: none, one, all.
-fn agreeing() {
+fn agreeing(out: &mut Output) {
     let none = sector::empty_nodes();
     let one = picture_of(0, 1, 100);
     let all = picture_of(0, 64, 100);
     let stored = nodes(0, 64, 100);
     let first = located(stored, 0, 1);
     let full = whole();
-    audited(b"no_picture_and_no_table", none, stored);
-    audited(b"nodes_that_the_table_does_not_locate", one, first);
-    audited(b"all_64_as_in_the_picture", all, full);
+    audited(out, b"no_picture_and_no_table", none, stored);
+    audited(out, b"nodes_that_the_table_does_not_locate", one, first);
+    audited(out, b"all_64_as_in_the_picture", all, full);
 }
 
 // The picture has all 64; the disk has no table at exactly the place, or no node at a location of it.
-fn all_lost() {
+fn all_lost(out: &mut Output) {
     let all = picture_of(0, 64, 100);
     let stored = nodes(0, 64, 100);
     let none = disk::empty_records();
@@ -90,15 +91,15 @@ fn all_lost() {
     let y = table_record(other, table);
     let longer = put_table(stored, 0, x);
     let elsewhere = put_table(stored, 1, y);
-    audited(b"no_table_at_the_place", all, stored);
-    audited(b"a_table_of_another_length_at_the_place", all, longer);
-    audited(b"a_table_in_the_other_area", all, elsewhere);
-    audited(b"a_table_of_64_and_no_nodes", all, empty);
+    audited(out, b"no_table_at_the_place", all, stored);
+    audited(out, b"a_table_of_another_length_at_the_place", all, longer);
+    audited(out, b"a_table_in_the_other_area", all, elsewhere);
+    audited(out, b"a_table_of_64_and_no_nodes", all, empty);
 }
 
 // The picture has all 64; of reference 63 the disk has no node at its location, one of another length there, no entry in the table, or
 // an entry without a location.
-fn one_lost() {
+fn one_lost(out: &mut Output) {
     let all = picture_of(0, 64, 100);
     let full = whole();
     let most = nodes(0, 63, 100);
@@ -110,24 +111,29 @@ fn one_lost() {
     let nowhere = entry_nowhere();
     let t = sector::with_entry(table, 63, nowhere);
     let unlocated = with_table(full, t);
-    audited(b"no_node_at_one_location", all, absent);
-    audited(b"a_node_of_another_length_at_one_location", all, longer);
-    audited(b"one_reference_not_in_the_table", all, unlisted);
-    audited(b"one_reference_without_a_location", all, unlocated);
+    audited(out, b"no_node_at_one_location", all, absent);
+    audited(
+        out,
+        b"a_node_of_another_length_at_one_location",
+        all,
+        longer,
+    );
+    audited(out, b"one_reference_not_in_the_table", all, unlisted);
+    audited(out, b"one_reference_without_a_location", all, unlocated);
 }
 
 // The disk has all 64; the picture has none of them, or all but 63.
-fn added() {
+fn added(out: &mut Output) {
     let none = sector::empty_nodes();
     let most = picture_of(0, 63, 100);
     let full = whole();
-    audited(b"64_references_and_no_picture", none, full);
-    audited(b"one_reference_not_in_the_picture", most, full);
+    audited(out, b"64_references_and_no_picture", none, full);
+    audited(out, b"one_reference_not_in_the_picture", most, full);
 }
 
 // Both have all 64; each has other contents on the disk, or 63 alone has other contents, another high with the same low, both exchanged, or
 // the same contents and another list.
-fn altered() {
+fn altered(out: &mut Output) {
     let all = picture_of(0, 64, 100);
     let full = whole();
     let others = with_nodes(full, 0, 64, 200);
@@ -141,27 +147,27 @@ fn altered() {
     let higher = with_last(full, 4096, above);
     let turned = high_leaf(163, 0);
     let exchanged = with_last(full, 4096, turned);
-    audited(b"64_other_nodes", all, others);
-    audited(b"one_node_with_other_contents", all, last);
-    audited(b"one_node_with_another_list", all, list);
-    audited(b"one_node_with_another_high", all, higher);
-    audited(b"one_node_with_high_and_low_exchanged", all, exchanged);
+    audited(out, b"64_other_nodes", all, others);
+    audited(out, b"one_node_with_other_contents", all, last);
+    audited(out, b"one_node_with_another_list", all, list);
+    audited(out, b"one_node_with_another_high", all, higher);
+    audited(out, b"one_node_with_high_and_low_exchanged", all, exchanged);
 }
 
 // The picture has 0 to 61, the table 1 to 63: 0 is lost, 62 and 63 are added. The nodes of 1, 2 and 3 are others.
-fn mixed() {
+fn mixed(out: &mut Output) {
     let picture = picture_of(0, 62, 100);
     let stored = nodes(0, 64, 100);
     let changed = with_nodes(stored, 1, 4, 200);
     let r = located(changed, 1, 64);
-    audited(b"one_lost_two_added_and_three_altered", picture, r);
+    audited(out, b"one_lost_two_added_and_three_altered", picture, r);
 }
 
-pub(crate) fn run() {
-    agreeing();
-    all_lost();
-    one_lost();
-    added();
-    altered();
-    mixed();
+pub(crate) fn run(out: &mut Output) {
+    agreeing(out);
+    all_lost(out);
+    one_lost(out);
+    added(out);
+    altered(out);
+    mixed(out);
 }

@@ -6,6 +6,7 @@ use fixtures::{
     BLOCK1, BLOCK2, BLOCK3, at, entry_nowhere, leaf, one, queue_of, ready, two_entries,
     with_cached, with_ephemeral, with_frozen, with_reads, with_writes,
 };
+use output::Output;
 use sectortype::Table;
 
 // A Ready cache that awaits, under id 5, the node of this reference.
@@ -24,7 +25,7 @@ fn page_in(c: CacheState) -> u64 {
     cache_answer(c, 7, q)
 }
 
-fn step_7() {
+fn step_7(out: &mut Output) {
     let good = awaiting(1);
     let unallocated = awaiting(2);
     let node = leaf(9);
@@ -32,9 +33,9 @@ fn step_7() {
     let a = page_in(good);
     let b = page_in(cached);
     let c = page_in(unallocated);
-    line(b"page_in_answer_for_an_uncached_reference", a);
-    line(b"page_in_answer_for_a_cached_reference", b);
-    line(b"page_in_answer_for_an_unallocated_reference", c);
+    line(out, b"page_in_answer_for_an_uncached_reference", a);
+    line(out, b"page_in_answer_for_a_cached_reference", b);
+    line(out, b"page_in_answer_for_an_unallocated_reference", c);
 }
 
 // Evict of reference 1.
@@ -59,7 +60,7 @@ fn root_alone() -> Table {
     sector::with_entry(t, 1, e)
 }
 
-fn step_11() {
+fn step_11(out: &mut Output) {
     let none = ready();
     let node = leaf(9);
     let plain = with_cached(none, 1, node);
@@ -77,15 +78,16 @@ fn step_11() {
     let d = evict(absent);
     let e = evict(gone);
     let f = evict(both);
-    line(b"evict_with_nothing_frozen", a);
-    line(b"evict_with_a_location_in_the_frozen_table", b);
-    line(b"evict_without_a_location_in_the_frozen_table", c);
-    line(b"evict_of_a_reference_not_in_the_frozen_table", d);
+    line(out, b"evict_with_nothing_frozen", a);
+    line(out, b"evict_with_a_location_in_the_frozen_table", b);
+    line(out, b"evict_without_a_location_in_the_frozen_table", c);
+    line(out, b"evict_of_a_reference_not_in_the_frozen_table", d);
     line(
+        out,
         b"evict_of_an_unallocated_one_without_a_location_in_the_frozen_table",
         e,
     );
-    line(b"evict_without_a_location_in_either_table", f);
+    line(out, b"evict_without_a_location_in_either_table", f);
 }
 
 // Step 1 for the cached reference 1 to block 3 with so many writes outstanding.
@@ -115,19 +117,19 @@ fn page_in_request(n: u64) -> u64 {
     cache_answer(s, 6, q)
 }
 
-fn steps_1_and_6() {
+fn steps_1_and_6(out: &mut Output) {
     let a = write_back(15);
     let b = write_back(16);
     let c = page_in_request(15);
     let d = page_in_request(16);
-    line(b"write_back_with_fifteen_writes", a);
-    line(b"write_back_with_sixteen_writes", b);
-    line(b"page_in_with_fifteen_reads", c);
-    line(b"page_in_with_sixteen_reads", d);
+    line(out, b"write_back_with_fifteen_writes", a);
+    line(out, b"write_back_with_sixteen_writes", b);
+    line(out, b"page_in_with_fifteen_reads", c);
+    line(out, b"page_in_with_sixteen_reads", d);
 }
 
-pub(crate) fn run() {
-    step_7();
-    step_11();
-    steps_1_and_6();
+pub(crate) fn run(out: &mut Output) {
+    step_7(out);
+    step_11(out);
+    steps_1_and_6(out);
 }

@@ -5,6 +5,7 @@ use fixtures::{
     AREA1, AREA2, BLOCK0, BLOCK1, absent_node_record, at, high_leaf, leaf, node_record, one,
     put_node, put_table, queues_with, stored, table_record, two_entries,
 };
+use output::Output;
 
 // Block k has a node with these contents at this place.
 fn with_node(r: Records, k: usize, addr: u64, len: u64, contents: u64) -> Records {
@@ -44,7 +45,7 @@ fn table_changed(r: Records) -> Records {
 }
 
 // The stored node: kept, lost, changed, changed in high alone, of another length, moved.
-fn nodes(name: &[u8], queues: Queues) {
+fn nodes(out: &mut Output, name: &[u8], queues: Queues) {
     let r = stored();
     let lost = without_node(r);
     let changed = with_node(r, 0, BLOCK0, 4096, 8);
@@ -60,16 +61,16 @@ fn nodes(name: &[u8], queues: Queues) {
     let d = crash_answer(r, queues, longer);
     let e = crash_answer(r, queues, moved);
     let f = crash_answer(r, queues, higher);
-    pair(name, b"keeps_the_node", a);
-    pair(name, b"loses_the_node", b);
-    pair(name, b"changes_the_node", c);
-    pair(name, b"changes_the_length_of_the_node", d);
-    pair(name, b"puts_the_node_into_another_block", e);
-    pair(name, b"changes_the_high_of_the_node", f);
+    pair(out, name, b"keeps_the_node", a);
+    pair(out, name, b"loses_the_node", b);
+    pair(out, name, b"changes_the_node", c);
+    pair(out, name, b"changes_the_length_of_the_node", d);
+    pair(out, name, b"puts_the_node_into_another_block", e);
+    pair(out, name, b"changes_the_high_of_the_node", f);
 }
 
 // The stored table: kept, lost, changed, of another length, moved.
-fn tables(name: &[u8], queues: Queues) {
+fn tables(out: &mut Output, name: &[u8], queues: Queues) {
     let r = stored();
     let lost = without_table(r);
     let changed = table_changed(r);
@@ -79,10 +80,10 @@ fn tables(name: &[u8], queues: Queues) {
     let b = crash_answer(r, queues, changed);
     let c = crash_answer(r, queues, longer);
     let d = crash_answer(r, queues, moved);
-    pair(name, b"loses_the_table", a);
-    pair(name, b"changes_the_table", b);
-    pair(name, b"changes_the_length_of_the_table", c);
-    pair(name, b"puts_the_table_into_another_area", d);
+    pair(out, name, b"loses_the_table", a);
+    pair(out, name, b"changes_the_table", b);
+    pair(out, name, b"changes_the_length_of_the_table", c);
+    pair(out, name, b"puts_the_table_into_another_area", d);
 }
 
 // One request of a kind in its queue at this address.
@@ -93,26 +94,26 @@ fn outstanding(kind: u64, addr: u64) -> Queues {
 }
 
 // Only a write to that very block or area lets a record go.
-fn each_queue() {
+fn each_queue(out: &mut Output) {
     let none = disk::empty_queues();
     let read = outstanding(2, BLOCK0);
     let other = outstanding(4, BLOCK1);
     let write = outstanding(4, BLOCK0);
-    nodes(b"crash_with_nothing_outstanding", none);
-    nodes(b"crash_with_a_read_of_the_block", read);
-    nodes(b"crash_with_a_write_to_another_block", other);
-    nodes(b"crash_with_a_write_to_the_block", write);
+    nodes(out, b"crash_with_nothing_outstanding", none);
+    nodes(out, b"crash_with_a_read_of_the_block", read);
+    nodes(out, b"crash_with_a_write_to_another_block", other);
+    nodes(out, b"crash_with_a_write_to_the_block", write);
     let tableread = outstanding(1, AREA1);
     let tableother = outstanding(3, AREA2);
     let tablewrite = outstanding(3, AREA1);
-    tables(b"crash_with_nothing_outstanding", none);
-    tables(b"crash_with_a_read_of_the_area", tableread);
-    tables(b"crash_with_a_write_to_the_other_area", tableother);
-    tables(b"crash_with_a_write_to_the_area", tablewrite);
+    tables(out, b"crash_with_nothing_outstanding", none);
+    tables(out, b"crash_with_a_read_of_the_area", tableread);
+    tables(out, b"crash_with_a_write_to_the_other_area", tableother);
+    tables(out, b"crash_with_a_write_to_the_area", tablewrite);
 }
 
 // Empty blocks and areas: any record that 16 allows there may stand.
-fn appears() {
+fn appears(out: &mut Output) {
     let r = stored();
     let none = disk::empty_queues();
     let node = with_node(r, 1, BLOCK1, 1, 9);
@@ -125,15 +126,15 @@ fn appears() {
     let c = crash_answer(r, none, astray);
     let d = crash_answer(r, none, table);
     let e = crash_answer(r, none, tiny);
-    line(b"crash_adds_a_node", a);
-    line(b"crash_adds_a_node_of_length_0", b);
-    line(b"crash_adds_a_node_in_the_wrong_block", c);
-    line(b"crash_adds_a_table", d);
-    line(b"crash_adds_a_table_of_length_0", e);
+    line(out, b"crash_adds_a_node", a);
+    line(out, b"crash_adds_a_node_of_length_0", b);
+    line(out, b"crash_adds_a_node_in_the_wrong_block", c);
+    line(out, b"crash_adds_a_table", d);
+    line(out, b"crash_adds_a_table_of_length_0", e);
 }
 
 // An absent record is zeros: 1, even where 19 holds too.
-fn absent() {
+fn absent(out: &mut Output) {
     let r = stored();
     let none = disk::empty_queues();
     let node = leaf(9);
@@ -152,14 +153,18 @@ fn absent() {
     let b = crash_answer(r, none, lost);
     let c = crash_answer(r, none, tabled);
     let d = crash_answer(r, none, higher);
-    line(b"crash_offers_an_absent_node_that_is_not_zeros", a);
-    line(b"crash_loses_a_node_and_the_absent_one_is_not_zeros", b);
-    line(b"crash_offers_an_absent_table_that_is_not_zeros", c);
-    line(b"crash_offers_an_absent_node_with_high_alone", d);
+    line(out, b"crash_offers_an_absent_node_that_is_not_zeros", a);
+    line(
+        out,
+        b"crash_loses_a_node_and_the_absent_one_is_not_zeros",
+        b,
+    );
+    line(out, b"crash_offers_an_absent_table_that_is_not_zeros", c);
+    line(out, b"crash_offers_an_absent_node_with_high_alone", d);
 }
 
-pub(crate) fn run() {
-    each_queue();
-    appears();
-    absent();
+pub(crate) fn run(out: &mut Output) {
+    each_queue(out);
+    appears(out);
+    absent(out);
 }

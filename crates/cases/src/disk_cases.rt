@@ -4,6 +4,7 @@ use disk::Disk;
 use disklayout::Location;
 use fixtures::show::{disk_answer, disk_brings, line, pair};
 use fixtures::{AREA1, AREA2, BLOCK0, at, high_leaf, leaf, queue_of, stored, storing, two_entries};
+use output::Output;
 use queue::{Request, Requests};
 use sectortype::{Node, Table};
 
@@ -71,7 +72,7 @@ fn asked(kind: u64, s: DiskState, id: u64) -> u64 {
 
 // 18 with sixteen in the request's own queue and none in the others, 0 with fifteen and sixteen in the others; 15 under an id of its
 // own queue, and before 18; 16 before 18.
-fn requests(name: &[u8], kind: u64) {
+fn requests(out: &mut Output, name: &[u8], kind: u64) {
     let full = filled(kind, 16, 0);
     let room = filled(kind, 15, 16);
     let nowhere = sector::zero_loc();
@@ -82,16 +83,16 @@ fn requests(name: &[u8], kind: u64) {
     let d = asked(kind, room, 16);
     let e = asked(kind, full, 1);
     let f = disk_answer(full, wrong);
-    pair(name, b"with_sixteen_queued", a);
-    pair(name, b"with_fifteen_queued", b);
-    pair(name, b"under_a_queued_id", c);
-    pair(name, b"under_an_id_of_the_other_queues", d);
-    pair(name, b"under_a_queued_id_with_sixteen_queued", e);
-    pair(name, b"at_a_forbidden_place_with_sixteen_queued", f);
+    pair(out, name, b"with_sixteen_queued", a);
+    pair(out, name, b"with_fifteen_queued", b);
+    pair(out, name, b"under_a_queued_id", c);
+    pair(out, name, b"under_an_id_of_the_other_queues", d);
+    pair(out, name, b"under_a_queued_id_with_sixteen_queued", e);
+    pair(out, name, b"at_a_forbidden_place_with_sixteen_queued", f);
 }
 
 // 15 where the id is not in the answer's own queue.
-fn answers(name: &[u8], kind: u64) {
+fn answers(out: &mut Output, name: &[u8], kind: u64) {
     let s = filled(kind, 15, 16);
     let unknown = answer_of(kind, 99);
     let other = answer_of(kind, 16);
@@ -99,9 +100,9 @@ fn answers(name: &[u8], kind: u64) {
     let a = disk_answer(s, unknown);
     let b = disk_answer(s, other);
     let c = disk_answer(s, known);
-    pair(name, b"under_an_id_not_queued", a);
-    pair(name, b"under_an_id_of_the_other_queues", b);
-    pair(name, b"under_a_queued_id", c);
+    pair(out, name, b"under_an_id_not_queued", a);
+    pair(out, name, b"under_an_id_of_the_other_queues", b);
+    pair(out, name, b"under_a_queued_id", c);
 }
 
 // A request on an empty disk.
@@ -112,22 +113,22 @@ fn edge(kind: u64, addr: u64, len: u64) -> u64 {
     disk_answer(s, op)
 }
 
-fn table_edges(name: &[u8], kind: u64) {
+fn table_edges(out: &mut Output, name: &[u8], kind: u64) {
     let a = edge(kind, AREA1, 0);
     let b = edge(kind, AREA1, 1);
     let c = edge(kind, AREA1, 65536);
     let d = edge(kind, AREA1, 65537);
     let e = edge(kind, 73729, 1);
     let f = edge(kind, AREA2, 1);
-    pair(name, b"at_73728_length_0", a);
-    pair(name, b"at_73728_length_1", b);
-    pair(name, b"at_73728_length_65536", c);
-    pair(name, b"at_73728_length_65537", d);
-    pair(name, b"at_73729_length_1", e);
-    pair(name, b"at_139264_length_1", f);
+    pair(out, name, b"at_73728_length_0", a);
+    pair(out, name, b"at_73728_length_1", b);
+    pair(out, name, b"at_73728_length_65536", c);
+    pair(out, name, b"at_73728_length_65537", d);
+    pair(out, name, b"at_73729_length_1", e);
+    pair(out, name, b"at_139264_length_1", f);
 }
 
-fn node_edges(name: &[u8], kind: u64) {
+fn node_edges(out: &mut Output, name: &[u8], kind: u64) {
     let a = edge(kind, BLOCK0, 0);
     let b = edge(kind, BLOCK0, 1);
     let c = edge(kind, BLOCK0, 65536);
@@ -136,14 +137,14 @@ fn node_edges(name: &[u8], kind: u64) {
     let f = edge(kind, 262145, 1);
     let g = edge(kind, 8585216, 1);
     let h = edge(kind, 8650752, 1);
-    pair(name, b"at_262144_length_0", a);
-    pair(name, b"at_262144_length_1", b);
-    pair(name, b"at_262144_length_65536", c);
-    pair(name, b"at_262144_length_65537", d);
-    pair(name, b"at_196608_length_1", e);
-    pair(name, b"at_262145_length_1", f);
-    pair(name, b"in_the_last_block", g);
-    pair(name, b"past_the_last_block", h);
+    pair(out, name, b"at_262144_length_0", a);
+    pair(out, name, b"at_262144_length_1", b);
+    pair(out, name, b"at_262144_length_65536", c);
+    pair(out, name, b"at_262144_length_65537", d);
+    pair(out, name, b"at_196608_length_1", e);
+    pair(out, name, b"at_262145_length_1", f);
+    pair(out, name, b"in_the_last_block", g);
+    pair(out, name, b"past_the_last_block", h);
 }
 
 // Two reads at this address: id 1 with length 8192, id 2 with length 4096.
@@ -198,7 +199,7 @@ fn table_brought(id: u64, table: Table) -> u64 {
 }
 
 // 17: only what is stored at exactly the address and length that were asked for may be brought.
-fn brought() {
+fn brought(out: &mut Output) {
     let t = two_entries();
     let none = sector::empty_table();
     let node = leaf(7);
@@ -211,27 +212,27 @@ fn brought() {
     let e = table_brought(2, t);
     let f = table_brought(1, t);
     let g = table_brought(2, none);
-    line(b"node_answer_at_the_stored_length", a);
-    line(b"node_answer_at_another_length", b);
-    line(b"node_answer_with_another_node", c);
-    line(b"node_answer_with_another_high", d);
-    line(b"table_answer_at_the_stored_length", e);
-    line(b"table_answer_at_another_length", f);
-    line(b"table_answer_with_another_table", g);
+    line(out, b"node_answer_at_the_stored_length", a);
+    line(out, b"node_answer_at_another_length", b);
+    line(out, b"node_answer_with_another_node", c);
+    line(out, b"node_answer_with_another_high", d);
+    line(out, b"table_answer_at_the_stored_length", e);
+    line(out, b"table_answer_at_another_length", f);
+    line(out, b"table_answer_with_another_table", g);
 }
 
-pub(crate) fn run() {
-    requests(b"table_read_request", 1);
-    requests(b"node_read_request", 2);
-    requests(b"table_write_request", 3);
-    requests(b"node_write_request", 4);
-    answers(b"table_read_answer", 1);
-    answers(b"node_read_answer", 2);
-    answers(b"table_write_answer", 3);
-    answers(b"node_write_answer", 4);
-    table_edges(b"table_read_request", 1);
-    table_edges(b"table_write_request", 3);
-    node_edges(b"node_read_request", 2);
-    node_edges(b"node_write_request", 4);
-    brought();
+pub(crate) fn run(out: &mut Output) {
+    requests(out, b"table_read_request", 1);
+    requests(out, b"node_read_request", 2);
+    requests(out, b"table_write_request", 3);
+    requests(out, b"node_write_request", 4);
+    answers(out, b"table_read_answer", 1);
+    answers(out, b"node_read_answer", 2);
+    answers(out, b"table_write_answer", 3);
+    answers(out, b"node_write_answer", 4);
+    table_edges(out, b"table_read_request", 1);
+    table_edges(out, b"table_write_request", 3);
+    node_edges(out, b"node_read_request", 2);
+    node_edges(out, b"node_write_request", 4);
+    brought(out);
 }

@@ -10,10 +10,19 @@ use fixtures::{
     ready, stored, storing, two_entries, with_cached, with_ephemeral, with_frozen,
     with_frozen_place, with_reads, with_writes,
 };
+use output::Output;
 use queue::Requests;
 use system::Store;
 
-fn both(name: &[u8], number: u64, q: Call, offered: Records, c: CacheState, s: DiskState) {
+fn both(
+    out: &mut Output,
+    name: &[u8],
+    number: u64,
+    q: Call,
+    offered: Records,
+    c: CacheState,
+    s: DiskState,
+) {
     let store = Store {
         device: 0,
         cache: c,
@@ -23,13 +32,20 @@ fn both(name: &[u8], number: u64, q: Call, offered: Records, c: CacheState, s: D
     let d = o.cache;
     let t = o.disk;
     let n = changed(c, d, s, t);
-    pair(b"joined", name, o.answer);
-    pair(b"changed_by", name, n);
+    pair(out, b"joined", name, o.answer);
+    pair(out, b"changed_by", name, n);
 }
 
-pub(crate) fn joined(name: &[u8], number: u64, q: Call, c: CacheState, s: DiskState) {
+pub(crate) fn joined(
+    out: &mut Output,
+    name: &[u8],
+    number: u64,
+    q: Call,
+    c: CacheState,
+    s: DiskState,
+) {
     let offered = disk::empty_records();
-    both(name, number, q, offered, c, s);
+    both(out, name, number, q, offered, c, s);
 }
 
 // A disk that stores nothing and has nothing outstanding.
@@ -58,7 +74,7 @@ fn writes(n: u64) -> Requests {
     queue_of(n, loc)
 }
 
-fn step_1_ids() {
+fn step_1_ids(out: &mut Output) {
     let c = cached();
     let w = writes(1);
     let known = with_writes(c, w);
@@ -66,19 +82,20 @@ fn step_1_ids() {
     let none = empty();
     let loc = at(BLOCK3, 4096);
     let q = write_call(1, loc);
-    joined(b"step_1_accepted", 1, q, c, none);
+    joined(out, b"step_1_accepted", 1, q, c, none);
     joined(
+        out,
         b"step_1_with_5_of_the_cache_and_15_of_the_disk",
         1,
         q,
         known,
         s,
     );
-    joined(b"step_1_with_5_of_the_cache_alone", 1, q, known, none);
-    joined(b"step_1_with_15_of_the_disk_alone", 1, q, c, s);
+    joined(out, b"step_1_with_5_of_the_cache_alone", 1, q, known, none);
+    joined(out, b"step_1_with_15_of_the_disk_alone", 1, q, c, s);
 }
 
-fn step_1_limits() {
+fn step_1_limits(out: &mut Output) {
     let c = cached();
     let w = writes(16);
     let full = with_writes(c, w);
@@ -89,18 +106,19 @@ fn step_1_limits() {
     let q = write_call(99, loc);
     let r = write_call(99, past);
     joined(
+        out,
         b"step_1_with_14_of_the_cache_and_18_of_the_disk",
         1,
         q,
         full,
         s,
     );
-    joined(b"step_1_with_18_of_the_disk_alone", 1, q, c, s);
-    joined(b"step_1_with_16_of_the_disk_alone", 1, r, c, none);
+    joined(out, b"step_1_with_18_of_the_disk_alone", 1, q, c, s);
+    joined(out, b"step_1_with_16_of_the_disk_alone", 1, r, c, none);
 }
 
 // Step 2 under id 1, which the cache awaits.
-fn step_2() {
+fn step_2(out: &mut Output) {
     let c = cached();
     let w = writes(1);
     let awaiting = with_writes(c, w);
@@ -109,8 +127,15 @@ fn step_2() {
     let dop = DiskOp::RespWriteNodeOp(1);
     let node = sector::zero_node();
     let q = internal(0, dop, node);
-    joined(b"step_2_accepted", 2, q, awaiting, s);
-    joined(b"step_2_with_15_of_the_disk_alone", 2, q, awaiting, none);
+    joined(out, b"step_2_accepted", 2, q, awaiting, s);
+    joined(
+        out,
+        b"step_2_with_15_of_the_disk_alone",
+        2,
+        q,
+        awaiting,
+        none,
+    );
 }
 
 // n requests at table area 2.
@@ -120,7 +145,7 @@ pub(crate) fn table_requests(n: u64) -> Requests {
 }
 
 // The frozen table, whole, to area 2 under id 1.
-fn step_3() {
+fn step_3(out: &mut Output) {
     let c = ready();
     let t = two_entries();
     let frozen = with_frozen(c, true, t);
@@ -137,9 +162,16 @@ fn step_3() {
     q.table = t;
     let mut x = internal(0, other, node);
     x.table = t;
-    joined(b"step_3_accepted", 3, q, frozen, none);
-    joined(b"step_3_with_15_of_the_disk_alone", 3, q, frozen, known);
-    joined(b"step_3_with_18_of_the_disk_alone", 3, x, frozen, full);
+    joined(out, b"step_3_accepted", 3, q, frozen, none);
+    joined(
+        out,
+        b"step_3_with_15_of_the_disk_alone",
+        3,
+        q,
+        frozen,
+        known,
+    );
+    joined(out, b"step_3_with_18_of_the_disk_alone", 3, x, frozen, full);
 }
 
 // A table write to area 2 under id 1 is awaited.
@@ -173,14 +205,14 @@ pub(crate) fn table_written() -> Call {
     }
 }
 
-fn step_4() {
+fn step_4(out: &mut Output) {
     let c = awaiting_table();
     let p = table_requests(1);
     let s = queued(3, p);
     let none = empty();
     let q = table_written();
-    joined(b"step_4_accepted", 4, q, c, s);
-    joined(b"step_4_with_15_of_the_disk_alone", 4, q, c, none);
+    joined(out, b"step_4_accepted", 4, q, c, s);
+    joined(out, b"step_4_with_15_of_the_disk_alone", 4, q, c, none);
 }
 
 // Step 6: reference 1 under an id.
@@ -199,7 +231,7 @@ fn past_the_blocks() -> CacheState {
     with_ephemeral(c, u)
 }
 
-fn step_6() {
+fn step_6(out: &mut Output) {
     let c = ready();
     let past = past_the_blocks();
     let loc = at(BLOCK1, 4096);
@@ -212,10 +244,10 @@ fn step_6() {
     let q = read_call(1, loc);
     let x = read_call(99, loc);
     let y = read_call(1, beyond);
-    joined(b"step_6_accepted", 6, q, c, none);
-    joined(b"step_6_with_15_of_the_disk_alone", 6, q, c, known);
-    joined(b"step_6_with_16_of_the_disk_alone", 6, y, past, none);
-    joined(b"step_6_with_18_of_the_disk_alone", 6, x, c, full);
+    joined(out, b"step_6_accepted", 6, q, c, none);
+    joined(out, b"step_6_with_15_of_the_disk_alone", 6, q, c, known);
+    joined(out, b"step_6_with_16_of_the_disk_alone", 6, y, past, none);
+    joined(out, b"step_6_with_18_of_the_disk_alone", 6, x, c, full);
 }
 
 // The cache awaits, under id 1, the node of this reference as well.
@@ -239,14 +271,21 @@ pub(crate) fn node_answer(b: Brought) -> Call {
 }
 
 // Step 7 under id 1: the disk stores nothing at the place asked for.
-fn step_7() {
+fn step_7(out: &mut Output) {
     let c = ready();
     let awaiting = awaiting_node(c, 1);
     let s = node_read();
     let none = empty();
     let q = node_answer(Brought::Something);
-    joined(b"step_7_with_17_of_the_disk_alone", 7, q, awaiting, s);
-    joined(b"step_7_with_15_of_the_disk_alone", 7, q, awaiting, none);
+    joined(out, b"step_7_with_17_of_the_disk_alone", 7, q, awaiting, s);
+    joined(
+        out,
+        b"step_7_with_15_of_the_disk_alone",
+        7,
+        q,
+        awaiting,
+        none,
+    );
 }
 
 // A cache that is loading this place.
@@ -260,7 +299,7 @@ pub(crate) fn loading(loc: Location) -> CacheState {
     c
 }
 
-fn step_8() {
+fn step_8(out: &mut Output) {
     let loc = at(AREA2, 4096);
     let wrong = at(AREA2, 0);
     let c = loading(loc);
@@ -277,14 +316,14 @@ fn step_8() {
     let q = internal(0, one, node);
     let x = internal(0, many, node);
     let y = internal(0, short, node);
-    joined(b"step_8_accepted", 8, q, c, none);
-    joined(b"step_8_with_15_of_the_disk_alone", 8, q, c, known);
-    joined(b"step_8_with_16_of_the_disk_alone", 8, y, d, none);
-    joined(b"step_8_with_18_of_the_disk_alone", 8, x, c, full);
+    joined(out, b"step_8_accepted", 8, q, c, none);
+    joined(out, b"step_8_with_15_of_the_disk_alone", 8, q, c, known);
+    joined(out, b"step_8_with_16_of_the_disk_alone", 8, y, d, none);
+    joined(out, b"step_8_with_18_of_the_disk_alone", 8, x, c, full);
 }
 
 // A crash that is offered no records while a node and a table are stored.
-fn crash() {
+fn crash(out: &mut Output) {
     let c = ready();
     let r = stored();
     let s = storing(r);
@@ -302,12 +341,12 @@ fn crash() {
     };
     let p = table_requests(1);
     let outstanding = queued(3, p);
-    both(b"crash_accepted", 18, q, none, c, outstanding);
-    both(b"crash_with_19_of_the_disk_alone", 18, q, none, c, s);
+    both(out, b"crash_accepted", 18, q, none, c, outstanding);
+    both(out, b"crash_with_19_of_the_disk_alone", 18, q, none, c, s);
 }
 
 // 1 of one of the two alone, and step numbers outside 1 to 20; step 19 without an answer gives 3, step 20 with this version operation 2.
-fn forms() {
+fn forms(out: &mut Output) {
     let c = ready();
     let none = empty();
     let q = no_op_call();
@@ -317,24 +356,31 @@ fn forms() {
     let loc = at(AREA1, 4096);
     let r = one(1, 0, loc);
     let wrong = with_reads(c, r);
-    joined(b"step_14_accepted", 14, q, c, none);
-    joined(b"step_14_with_1_of_the_disk_alone", 14, q, c, broken);
-    joined(b"step_14_with_1_of_the_cache_alone", 14, q, wrong, none);
-    joined(b"step_0", 0, q, c, none);
-    joined(b"step_19", 19, q, c, none);
-    joined(b"step_20", 20, q, c, none);
-    joined(b"step_21", 21, q, c, none);
+    joined(out, b"step_14_accepted", 14, q, c, none);
+    joined(out, b"step_14_with_1_of_the_disk_alone", 14, q, c, broken);
+    joined(
+        out,
+        b"step_14_with_1_of_the_cache_alone",
+        14,
+        q,
+        wrong,
+        none,
+    );
+    joined(out, b"step_0", 0, q, c, none);
+    joined(out, b"step_19", 19, q, c, none);
+    joined(out, b"step_20", 20, q, c, none);
+    joined(out, b"step_21", 21, q, c, none);
 }
 
-pub(crate) fn run() {
-    step_1_ids();
-    step_1_limits();
-    step_2();
-    step_3();
-    step_4();
-    step_6();
-    step_7();
-    step_8();
-    crash();
-    forms();
+pub(crate) fn run(out: &mut Output) {
+    step_1_ids(out);
+    step_1_limits(out);
+    step_2(out);
+    step_3(out);
+    step_4(out);
+    step_6(out);
+    step_7(out);
+    step_8(out);
+    crash(out);
+    forms(out);
 }

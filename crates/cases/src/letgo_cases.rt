@@ -8,6 +8,7 @@ use blockcache::{Awaited, CacheState, Call};
 use blockdisk::{Brought, DiskOp, DiskState};
 use fixtures::show::{internal, line};
 use fixtures::{AREA2, at, queued, ready, two_entries};
+use output::Output;
 use system::Store;
 
 // A cache that awaits, under id 1, the table in area 2.
@@ -38,7 +39,7 @@ fn table_answer(b: Brought) -> Call {
 }
 
 // Reference 1 is allocated, reference 2 is not: a page-in would refuse it with 8.
-fn let_node_go() {
+fn let_node_go(out: &mut Output) {
     let c = ready();
     let known = awaiting_node(c, 1);
     let unallocated = awaiting_node(c, 2);
@@ -46,16 +47,25 @@ fn let_node_go() {
     let none = empty();
     let q = node_answer(Brought::Nothing);
     let x = node_answer(Brought::Something);
-    joined(b"step_19_of_a_node_accepted", 19, q, known, s);
+    joined(out, b"step_19_of_a_node_accepted", 19, q, known, s);
     joined(
+        out,
         b"step_19_of_an_unallocated_node_accepted",
         19,
         q,
         unallocated,
         s,
     );
-    joined(b"step_19_of_a_node_with_5_of_the_cache_alone", 19, q, c, s);
     joined(
+        out,
+        b"step_19_of_a_node_with_5_of_the_cache_alone",
+        19,
+        q,
+        c,
+        s,
+    );
+    joined(
+        out,
         b"step_19_of_a_node_with_15_of_the_disk_alone",
         19,
         q,
@@ -63,6 +73,7 @@ fn let_node_go() {
         none,
     );
     joined(
+        out,
         b"step_19_of_a_node_with_17_of_the_disk_alone",
         19,
         x,
@@ -71,7 +82,7 @@ fn let_node_go() {
     );
 }
 
-fn let_table_go() {
+fn let_table_go(out: &mut Output) {
     let loc = at(AREA2, 4096);
     let c = loading(loc);
     let known = awaiting_load();
@@ -79,11 +90,19 @@ fn let_table_go() {
     let none = empty();
     let q = table_answer(Brought::Nothing);
     let x = table_answer(Brought::Something);
-    joined(b"step_9_with_15_of_the_disk_alone", 9, x, known, none);
-    joined(b"step_9_with_17_of_the_disk_alone", 9, x, known, s);
-    joined(b"step_19_of_a_table_accepted", 19, q, known, s);
-    joined(b"step_19_of_a_table_with_5_of_the_cache_alone", 19, q, c, s);
+    joined(out, b"step_9_with_15_of_the_disk_alone", 9, x, known, none);
+    joined(out, b"step_9_with_17_of_the_disk_alone", 9, x, known, s);
+    joined(out, b"step_19_of_a_table_accepted", 19, q, known, s);
     joined(
+        out,
+        b"step_19_of_a_table_with_5_of_the_cache_alone",
+        19,
+        q,
+        c,
+        s,
+    );
+    joined(
+        out,
         b"step_19_of_a_table_with_15_of_the_disk_alone",
         19,
         q,
@@ -91,6 +110,7 @@ fn let_table_go() {
         none,
     );
     joined(
+        out,
         b"step_19_of_a_table_with_17_of_the_disk_alone",
         19,
         x,
@@ -100,15 +120,23 @@ fn let_table_go() {
 }
 
 // 22 comes last: after 15 and 17 of the disk.
-fn no_op_of_a_node() {
+fn no_op_of_a_node(out: &mut Output) {
     let c = ready();
     let known = awaiting_node(c, 1);
     let s = node_read();
     let none = empty();
     let q = node_answer(Brought::Nothing);
     let x = node_answer(Brought::Something);
-    joined(b"step_14_of_a_node_that_only_the_disk_has", 14, q, c, s);
     joined(
+        out,
+        b"step_14_of_a_node_that_only_the_disk_has",
+        14,
+        q,
+        c,
+        s,
+    );
+    joined(
+        out,
         b"step_14_of_a_node_with_22_of_the_cache_alone",
         14,
         q,
@@ -116,6 +144,7 @@ fn no_op_of_a_node() {
         s,
     );
     joined(
+        out,
         b"step_14_of_a_node_with_22_of_the_cache_and_15_of_the_disk",
         14,
         q,
@@ -123,6 +152,7 @@ fn no_op_of_a_node() {
         none,
     );
     joined(
+        out,
         b"step_14_of_a_node_with_22_of_the_cache_and_17_of_the_disk",
         14,
         x,
@@ -131,7 +161,7 @@ fn no_op_of_a_node() {
     );
 }
 
-fn no_op_of_a_table() {
+fn no_op_of_a_table(out: &mut Output) {
     let loc = at(AREA2, 4096);
     let c = loading(loc);
     let known = awaiting_load();
@@ -139,8 +169,16 @@ fn no_op_of_a_table() {
     let none = empty();
     let q = table_answer(Brought::Nothing);
     let x = table_answer(Brought::Something);
-    joined(b"step_14_of_a_table_that_only_the_disk_has", 14, q, c, s);
     joined(
+        out,
+        b"step_14_of_a_table_that_only_the_disk_has",
+        14,
+        q,
+        c,
+        s,
+    );
+    joined(
+        out,
         b"step_14_of_a_table_with_22_of_the_cache_alone",
         14,
         q,
@@ -148,6 +186,7 @@ fn no_op_of_a_table() {
         s,
     );
     joined(
+        out,
         b"step_14_of_a_table_with_22_of_the_cache_and_15_of_the_disk",
         14,
         q,
@@ -155,6 +194,7 @@ fn no_op_of_a_table() {
         none,
     );
     joined(
+        out,
         b"step_14_of_a_table_with_22_of_the_cache_and_17_of_the_disk",
         14,
         x,
@@ -164,7 +204,7 @@ fn no_op_of_a_table() {
 }
 
 // In Ready the awaited table request is a write: a table read answer under its id is not awaited. Nor is a node read answer in Loading.
-fn other_phase() {
+fn other_phase(out: &mut Output) {
     let writing = awaiting_table();
     let loads = awaiting_load();
     let s = table_read();
@@ -172,6 +212,7 @@ fn other_phase() {
     let q = table_answer(Brought::Nothing);
     let x = node_answer(Brought::Nothing);
     joined(
+        out,
         b"step_14_in_ready_of_a_table_read_under_the_id_of_the_table_write",
         14,
         q,
@@ -179,6 +220,7 @@ fn other_phase() {
         s,
     );
     joined(
+        out,
         b"step_19_in_ready_of_a_table_read_under_the_id_of_the_table_write",
         19,
         q,
@@ -186,6 +228,7 @@ fn other_phase() {
         s,
     );
     joined(
+        out,
         b"step_14_in_loading_of_a_node_read_under_the_id_of_the_table_read",
         14,
         x,
@@ -193,6 +236,7 @@ fn other_phase() {
         r,
     );
     joined(
+        out,
         b"step_19_in_loading_of_a_node_read_under_the_id_of_the_table_read",
         19,
         x,
@@ -202,7 +246,7 @@ fn other_phase() {
 }
 
 // The awaited table write under the id of a node read stays when that is let go: its answer is taken afterwards.
-fn write_stays() {
+fn write_stays(out: &mut Output) {
     let writing = awaiting_table();
     let cache = awaiting_node(writing, 1);
     let disk = node_read();
@@ -215,6 +259,7 @@ fn write_stays() {
     let offered = disk::empty_records();
     let o = store.step(19, x, offered);
     line(
+        out,
         b"step_19_of_a_node_under_the_id_of_the_table_write",
         o.answer,
     );
@@ -222,14 +267,14 @@ fn write_stays() {
     let p = table_requests(1);
     let s = queued(3, p);
     let q = table_written();
-    joined(b"step_4_after_step_19_under_its_id", 4, q, after, s);
+    joined(out, b"step_4_after_step_19_under_its_id", 4, q, after, s);
 }
 
-pub(crate) fn run() {
-    let_node_go();
-    let_table_go();
-    no_op_of_a_node();
-    no_op_of_a_table();
-    other_phase();
-    write_stays();
+pub(crate) fn run(out: &mut Output) {
+    let_node_go(out);
+    let_table_go(out);
+    no_op_of_a_node(out);
+    no_op_of_a_table(out);
+    other_phase(out);
+    write_stays(out);
 }

@@ -7,6 +7,7 @@ use blockdisk::DiskState;
 use fixtures::changed::changed;
 use fixtures::show::{pair, versioned};
 use fixtures::{AREA1, at, in_phase, leaf, one, queued, ready, with_reads};
+use output::Output;
 use system::{Store, TRANSACTION};
 
 fn alloc(reference: u64) -> Operation {
@@ -27,7 +28,7 @@ fn three() -> [Operation; 40] {
 }
 
 // The first n of them, on this device.
-fn list(name: &[u8], device: u64, n: usize, c: CacheState, s: DiskState) {
+fn list(out: &mut Output, name: &[u8], device: u64, n: usize, c: CacheState, s: DiskState) {
     let store = Store {
         device,
         cache: c,
@@ -39,20 +40,28 @@ fn list(name: &[u8], device: u64, n: usize, c: CacheState, s: DiskState) {
     let d = o.cache;
     let t = o.disk;
     let m = changed(c, d, s, t);
-    pair(b"list", name, o.answer);
-    pair(b"place_of", name, o.place);
-    pair(b"changed_by", name, m);
+    pair(out, b"list", name, o.answer);
+    pair(out, b"place_of", name, o.place);
+    pair(out, b"changed_by", name, m);
 }
 
-fn plain() {
+fn plain(out: &mut Output) {
     let c = ready();
     let none = empty();
     let q = versioned(VersionOp::AdvanceOp(false));
     let loading = in_phase(c, Phase::Loading);
     let empty_cache = cache::empty_cache();
-    joined(b"step_20_accepted", TRANSACTION, q, c, none);
-    joined(b"step_20_in_unready", TRANSACTION, q, empty_cache, none);
+    joined(out, b"step_20_accepted", TRANSACTION, q, c, none);
     joined(
+        out,
+        b"step_20_in_unready",
+        TRANSACTION,
+        q,
+        empty_cache,
+        none,
+    );
+    joined(
+        out,
         b"step_20_on_a_loading_cache_out_of_its_form",
         TRANSACTION,
         q,
@@ -61,7 +70,7 @@ fn plain() {
     );
 }
 
-pub(crate) fn run() {
+pub(crate) fn run(out: &mut Output) {
     let c = ready();
     let none = empty();
     let nowhere = sector::zero_loc();
@@ -70,20 +79,42 @@ pub(crate) fn run() {
     let loc = at(AREA1, 4096);
     let r = one(1, 0, loc);
     let wrong = with_reads(c, r);
-    plain();
-    list(b"no_operation", 0, 0, c, none);
-    list(b"two_operations", 0, 2, c, none);
-    list(b"three_operations_of_which_the_last_fails", 0, 3, c, none);
-    list(b"33_operations", 0, 33, c, none);
+    plain(out);
+    list(out, b"no_operation", 0, 0, c, none);
+    list(out, b"two_operations", 0, 2, c, none);
     list(
+        out,
+        b"three_operations_of_which_the_last_fails",
+        0,
+        3,
+        c,
+        none,
+    );
+    list(out, b"33_operations", 0, 33, c, none);
+    list(
+        out,
         b"more_operations_than_the_array_has",
         0,
         18446744073709551615,
         c,
         none,
     );
-    list(b"a_failing_list_with_1_of_the_disk_alone", 0, 3, c, broken);
-    list(b"a_list_with_1_of_the_cache_alone", 0, 2, wrong, none);
-    list(b"no_operation_with_1_of_the_disk_alone", 0, 0, c, broken);
-    list(b"a_list_on_device_3", 3, 2, c, none);
+    list(
+        out,
+        b"a_failing_list_with_1_of_the_disk_alone",
+        0,
+        3,
+        c,
+        broken,
+    );
+    list(out, b"a_list_with_1_of_the_cache_alone", 0, 2, wrong, none);
+    list(
+        out,
+        b"no_operation_with_1_of_the_disk_alone",
+        0,
+        0,
+        c,
+        broken,
+    );
+    list(out, b"a_list_on_device_3", 3, 2, c, none);
 }

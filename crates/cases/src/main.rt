@@ -18,15 +18,20 @@ mod node_cases;
 mod rule_cases;
 mod screen_cases;
 
-fn main() {
-    disk_cases::run();
-    crash_cases::run();
-    cache_cases::run();
-    joined_cases::run();
-    audit_cases::run();
-    node_cases::run();
-    letgo_cases::run();
-    screen_cases::run();
-    rule_cases::run();
-    list_cases::run();
+use output::{Output, finish};
+use std::io;
+
+fn main(rt: HostRuntime) -> io::Result<()> {
+    let mut out = Output::new(rt.stdout());
+    disk_cases::run(&mut out);
+    crash_cases::run(&mut out);
+    cache_cases::run(&mut out);
+    joined_cases::run(&mut out);
+    audit_cases::run(&mut out);
+    node_cases::run(&mut out);
+    letgo_cases::run(&mut out);
+    screen_cases::run(&mut out);
+    rule_cases::run(&mut out);
+    list_cases::run(&mut out);
+    finish(out)
 }

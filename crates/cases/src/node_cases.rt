@@ -1,11 +1,12 @@
 // Two nodes compared by high, low and list. And older nodes carried over, whose contents were one number.
 use fixtures::show::equal;
 use fixtures::{high_leaf, leaf};
+use output::Output;
 use sectortype::{Node, OlderNode, Succs};
 
-fn compared(name: &[u8], a: Node, b: Node) {
+fn compared(out: &mut Output, name: &[u8], a: Node, b: Node) {
     let same = sector::same_node(a, b);
-    equal(name, same);
+    equal(out, name, same);
 }
 
 // A list of two.
@@ -19,7 +20,7 @@ pub(crate) fn list(first: u8, second: u8) -> Succs {
     s
 }
 
-fn equality() {
+fn equality(out: &mut Output) {
     let node = high_leaf(5, 12);
     let again = high_leaf(5, 12);
     let higher = high_leaf(6, 12);
@@ -31,16 +32,16 @@ fn equality() {
     let low = leaf(u64::MAX);
     let mut listing = node;
     listing.succs = list(3, 0);
-    compared(b"equal_in_high_low_and_list", node, again);
-    compared(b"another_high", node, higher);
-    compared(b"another_low", node, lower);
-    compared(b"high_and_low_exchanged", node, exchanged);
-    compared(b"high_5_and_high_0", node, alone);
-    compared(b"another_list", node, listing);
-    compared(b"both_largest_and_the_same", most, most);
-    compared(b"both_largest_and_high_alone", most, high);
-    compared(b"both_largest_and_low_alone", most, low);
-    compared(b"high_alone_and_low_alone", high, low);
+    compared(out, b"equal_in_high_low_and_list", node, again);
+    compared(out, b"another_high", node, higher);
+    compared(out, b"another_low", node, lower);
+    compared(out, b"high_and_low_exchanged", node, exchanged);
+    compared(out, b"high_5_and_high_0", node, alone);
+    compared(out, b"another_list", node, listing);
+    compared(out, b"both_largest_and_the_same", most, most);
+    compared(out, b"both_largest_and_high_alone", most, high);
+    compared(out, b"both_largest_and_low_alone", most, low);
+    compared(out, b"high_alone_and_low_alone", high, low);
 }
 
 // An older node with this number and this list.
@@ -48,7 +49,7 @@ fn older(contents: u64, succs: Succs) -> OlderNode {
     OlderNode { contents, succs }
 }
 
-fn carried() {
+fn carried(out: &mut Output) {
     let there = list(3, 0);
     let back = list(0, 3);
     let node = sector::carried(older(12, there));
@@ -62,15 +63,20 @@ fn carried() {
     exchanged.succs = there;
     let mut largest = high_leaf(0, u64::MAX);
     largest.succs = there;
-    compared(b"carried_has_high_0_and_the_old_number", node, expected);
-    compared(b"carried_has_the_old_number_as_high", node, exchanged);
-    compared(b"carried_keeps_the_largest_number", most, largest);
-    compared(b"carried_from_equal_nodes", node, again);
-    compared(b"carried_from_another_number", node, other);
-    compared(b"carried_from_another_list", node, turned);
+    compared(
+        out,
+        b"carried_has_high_0_and_the_old_number",
+        node,
+        expected,
+    );
+    compared(out, b"carried_has_the_old_number_as_high", node, exchanged);
+    compared(out, b"carried_keeps_the_largest_number", most, largest);
+    compared(out, b"carried_from_equal_nodes", node, again);
+    compared(out, b"carried_from_another_number", node, other);
+    compared(out, b"carried_from_another_list", node, turned);
 }
 
-pub(crate) fn run() {
-    equality();
-    carried();
+pub(crate) fn run(out: &mut Output) {
+    equality(out);
+    carried(out);
 }

@@ -3,6 +3,7 @@ use crate::joined_cases::{awaiting_table, joined};
 use blockcache::{CacheState, Call, VersionOp};
 use fixtures::show::{pair, rule, ruled_answer, versioned};
 use fixtures::{AREA2, at, ready, stored, storing, two_entries, with_frozen, with_frozen_place};
+use output::Output;
 use system::{CRASH, Store};
 
 const FREEZE: u64 = 12;
@@ -24,7 +25,7 @@ fn with_table(c: CacheState) -> CacheState {
 }
 
 // 25 is under rule 2 alone, of a set place alone, and after 10; another rule gives 1.
-fn freezes(name: &[u8], number: u64) {
+fn freezes(out: &mut Output, name: &[u8], number: u64) {
     let q = freeze_call();
     let nothing = ready();
     let place = placed();
@@ -32,26 +33,31 @@ fn freezes(name: &[u8], number: u64) {
     let both = with_table(place);
     let waiting = awaiting_table();
     pair(
+        out,
         b"freeze_with_nothing_frozen",
         name,
         ruled_answer(number, nothing, FREEZE, q),
     );
     pair(
+        out,
         b"freeze_with_a_frozen_table",
         name,
         ruled_answer(number, table, FREEZE, q),
     );
     pair(
+        out,
         b"freeze_with_a_frozen_place",
         name,
         ruled_answer(number, place, FREEZE, q),
     );
     pair(
+        out,
         b"freeze_with_both",
         name,
         ruled_answer(number, both, FREEZE, q),
     );
     pair(
+        out,
         b"freeze_with_both_while_the_table_is_written",
         name,
         ruled_answer(number, waiting, FREEZE, q),
@@ -59,7 +65,7 @@ fn freezes(name: &[u8], number: u64) {
 }
 
 // The joined call takes the rule from the disk.
-fn joined_freezes() {
+fn joined_freezes(out: &mut Output) {
     let q = freeze_call();
     let place = placed();
     let both = with_table(place);
@@ -70,6 +76,7 @@ fn joined_freezes() {
     let mut three = one;
     three.rule = 3;
     joined(
+        out,
         b"step_12_with_a_frozen_place_on_a_disk_of_rule_1",
         FREEZE,
         q,
@@ -77,6 +84,7 @@ fn joined_freezes() {
         one,
     );
     joined(
+        out,
         b"step_12_with_a_frozen_place_on_a_disk_of_rule_2",
         FREEZE,
         q,
@@ -84,6 +92,7 @@ fn joined_freezes() {
         two,
     );
     joined(
+        out,
         b"step_12_with_a_frozen_place_on_a_disk_of_rule_3",
         FREEZE,
         q,
@@ -93,16 +102,16 @@ fn joined_freezes() {
 }
 
 // What comes of a formatting: its answer, and the rule of the disk.
-fn formats(name: &[u8], device: u64, number: u64) {
+fn formats(out: &mut Output, name: &[u8], device: u64, number: u64) {
     let x = sector::zero_contents();
     let o = Store::format(device, x, number);
-    pair(b"format_under", name, o.answer);
+    pair(out, b"format_under", name, o.answer);
     let s = o.disk;
-    rule(b"disk_formatted_under", name, s.rule);
+    rule(out, b"disk_formatted_under", name, s.rule);
 }
 
 // A crash that is offered the stored records: its answer, and the rule of the disk after it.
-fn crashes(name: &[u8], number: u64) {
+fn crashes(out: &mut Output, name: &[u8], number: u64) {
     let vop = VersionOp::CrashOp;
     let q = versioned(vop);
     let cache = placed();
@@ -115,24 +124,24 @@ fn crashes(name: &[u8], number: u64) {
         disk,
     };
     let o = store.step(CRASH, q, offered);
-    pair(b"crash_under", name, o.answer);
+    pair(out, b"crash_under", name, o.answer);
     let s = o.disk;
-    rule(b"disk_after_a_crash_under", name, s.rule);
+    rule(out, b"disk_after_a_crash_under", name, s.rule);
 }
 
-pub(crate) fn run() {
-    freezes(b"under_rule_1", 1);
-    freezes(b"under_rule_2", 2);
-    freezes(b"under_rule_3", 3);
-    joined_freezes();
-    formats(b"rule_0", 0, 0);
-    formats(b"rule_1", 0, 1);
-    formats(b"rule_2", 0, 2);
-    formats(b"rule_3", 0, 3);
-    formats(b"rule_18446744073709551615", 0, 18446744073709551615);
-    formats(b"rule_2_on_device_2", 2, 2);
-    formats(b"rule_2_on_device_3", 3, 2);
-    crashes(b"rule_1", 1);
-    crashes(b"rule_2", 2);
-    crashes(b"rule_3", 3);
+pub(crate) fn run(out: &mut Output) {
+    freezes(out, b"under_rule_1", 1);
+    freezes(out, b"under_rule_2", 2);
+    freezes(out, b"under_rule_3", 3);
+    joined_freezes(out);
+    formats(out, b"rule_0", 0, 0);
+    formats(out, b"rule_1", 0, 1);
+    formats(out, b"rule_2", 0, 2);
+    formats(out, b"rule_3", 0, 3);
+    formats(out, b"rule_18446744073709551615", 0, 18446744073709551615);
+    formats(out, b"rule_2_on_device_2", 2, 2);
+    formats(out, b"rule_2_on_device_3", 3, 2);
+    crashes(out, b"rule_1", 1);
+    crashes(out, b"rule_2", 2);
+    crashes(out, b"rule_3", 3);
 }

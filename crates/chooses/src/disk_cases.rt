@@ -7,11 +7,12 @@ use fixtures::{
     AREA2, BLOCK0, BLOCK1, absent_node_record, at, leaf, loading, node_record, one, put_node,
     put_table, queue_of, queued, ready, stored, storing, table_record, two_entries, with_last,
 };
+use output::Output;
 use queue::{Request, Requests};
 
-fn on(name: &[u8], disk: DiskState) {
+fn on(out: &mut Output, name: &[u8], disk: DiskState) {
     let c = ready();
-    asked_with(name, 0, c, disk);
+    asked_with(out, name, 0, c, disk);
 }
 
 // Ids 2 and 1, in this order, at one place.
@@ -35,7 +36,7 @@ fn out_of_order(addr: u64) -> Requests {
 
 // A node in block 0, a table in area 1, two outstanding reads: the disk's records and queues mark no block, the cache's tables and writes
 // do.
-fn in_form() {
+fn in_form(out: &mut Output) {
     let loc = at(BLOCK0, 4096);
     let q = queue_of(2, loc);
     let waiting = queued(2, q);
@@ -43,7 +44,7 @@ fn in_form() {
     let mut both = storing(r);
     let queues = waiting.queues;
     both.queues = queues;
-    on(b"on_a_disk_with_records_and_reads", both);
+    on(out, b"on_a_disk_with_records_and_reads", both);
 }
 
 // The disk that has this record of block 0.
@@ -62,7 +63,7 @@ fn with_table(x: TableRecord) -> DiskState {
 
 // Of block 0 a record whose place is block 1's, or a byte past block 0's, or that is absent and has a place; of area 1 one whose place is
 // area 2's.
-fn records() {
+fn records(out: &mut Output) {
     let node = leaf(7);
     let other = at(BLOCK1, 4096);
     let odd = at(262145, 4096);
@@ -77,14 +78,14 @@ fn records() {
     let f = with_node(b);
     let g = with_node(c);
     let h = with_table(d);
-    on(b"on_a_disk_with_a_node_out_of_its_block", e);
-    on(b"on_a_disk_with_a_node_past_its_block", f);
-    on(b"on_a_disk_with_an_absent_node_that_has_a_place", g);
-    on(b"on_a_disk_with_a_table_out_of_its_area", h);
+    on(out, b"on_a_disk_with_a_node_out_of_its_block", e);
+    on(out, b"on_a_disk_with_a_node_past_its_block", f);
+    on(out, b"on_a_disk_with_an_absent_node_that_has_a_place", g);
+    on(out, b"on_a_disk_with_a_table_out_of_its_area", h);
 }
 
 // Each of the four queues with id 2 before id 1, at a place that 16 allows; and a read at a place that it doesn't.
-fn queues() {
+fn queues(out: &mut Output) {
     let tables = out_of_order(AREA2);
     let nodes = out_of_order(BLOCK0);
     let odd = at(262145, 4096);
@@ -94,29 +95,29 @@ fn queues() {
     let c = queued(3, tables);
     let d = queued(4, nodes);
     let e = queued(2, nowhere);
-    on(b"on_a_disk_with_table_reads_out_of_order", a);
-    on(b"on_a_disk_with_node_reads_out_of_order", b);
-    on(b"on_a_disk_with_table_writes_out_of_order", c);
-    on(b"on_a_disk_with_node_writes_out_of_order", d);
-    on(b"on_a_disk_with_a_read_at_no_block", e);
+    on(out, b"on_a_disk_with_table_reads_out_of_order", a);
+    on(out, b"on_a_disk_with_node_reads_out_of_order", b);
+    on(out, b"on_a_disk_with_table_writes_out_of_order", c);
+    on(out, b"on_a_disk_with_node_writes_out_of_order", d);
+    on(out, b"on_a_disk_with_a_read_at_no_block", e);
 }
 
 // 1 before 4 and before 21, for the disk as for the cache.
-fn first() {
+fn first(out: &mut Output) {
     let nodes = out_of_order(BLOCK0);
     let disk = queued(2, nodes);
     let unready = cache::empty_cache();
     let loads = loading();
     let all = full();
     let last = with_last(all, 5);
-    asked_with(b"unready_on_a_disk_out_of_form", 0, unready, disk);
-    asked_with(b"loading_on_a_disk_out_of_form", 0, loads, disk);
-    asked_with(b"all_marked_on_a_disk_out_of_form", 0, last, disk);
+    asked_with(out, b"unready_on_a_disk_out_of_form", 0, unready, disk);
+    asked_with(out, b"loading_on_a_disk_out_of_form", 0, loads, disk);
+    asked_with(out, b"all_marked_on_a_disk_out_of_form", 0, last, disk);
 }
 
-pub(crate) fn run() {
-    in_form();
-    records();
-    queues();
-    first();
+pub(crate) fn run(out: &mut Output) {
+    in_form(out);
+    records(out);
+    queues(out);
+    first(out);
 }

@@ -8,8 +8,13 @@ mod choose_cases;
 mod disk_cases;
 mod step_cases;
 
-fn main() {
-    choose_cases::run();
-    disk_cases::run();
-    step_cases::run();
+use output::{Output, finish};
+use std::io;
+
+fn main(rt: HostRuntime) -> io::Result<()> {
+    let mut out = Output::new(rt.stdout());
+    choose_cases::run(&mut out);
+    disk_cases::run(&mut out);
+    step_cases::run(&mut out);
+    finish(out)
 }

@@ -10,15 +10,16 @@ use fixtures::{
     AREA1, AREA2, BLOCK3, RULE_1, at, entry_at, entry_nowhere, leaf, loading, ready, two_entries,
     with_cached, with_ephemeral, with_frozen, with_frozen_place, with_last,
 };
+use output::Output;
 use sectortype::{Entry, Table};
 
-fn after(name: &[u8], c: CacheState, number: u64, q: Call) -> CacheState {
+fn after(out: &mut Output, name: &[u8], c: CacheState, number: u64, q: Call) -> CacheState {
     let settings = Settings {
         device: 0,
         rule: RULE_1,
     };
     let o = Cache { settings, state: c }.step(number, q);
-    blocks(name, o);
+    blocks(out, name, o);
     o.cache
 }
 
@@ -60,20 +61,26 @@ fn written_call() -> Call {
 
 // Without a location the reference gets block 3, which it keeps: 1 + 2 + 8. With one, block 1, it keeps that; block 100 is the write's alone, and free again
 // once it is answered.
-fn steps_1_and_2() {
+fn steps_1_and_2(out: &mut Output) {
     let e = entry_nowhere();
     let dirty = working(e);
     let loc = at(BLOCK3, 4096);
     let q = write_call(loc);
     let a = written_call();
-    let d = after(b"step_1_of_a_reference_without_a_location", dirty, 1, q);
-    after(b"step_2_of_a_block_that_the_table_has", d, 2, a);
+    let d = after(
+        out,
+        b"step_1_of_a_reference_without_a_location",
+        dirty,
+        1,
+        q,
+    );
+    after(out, b"step_2_of_a_block_that_the_table_has", d, 2, a);
     let clean = moved(1);
     let addr = block_addr(100);
     let far = at(addr, 1);
     let x = write_call(far);
-    let w = after(b"step_1_of_a_reference_with_a_location", clean, 1, x);
-    after(b"step_2_of_a_block_that_the_write_alone_has", w, 2, a);
+    let w = after(out, b"step_1_of_a_reference_with_a_location", clean, 1, x);
+    after(out, b"step_2_of_a_block_that_the_write_alone_has", w, 2, a);
 }
 
 // An operation on reference 1, with a node.
@@ -87,15 +94,15 @@ fn advance(no_op: bool) -> Call {
 }
 
 // The ephemeral table gives up block 100; block 1 is the persistent table's too.
-fn steps_5_and_15() {
+fn steps_5_and_15(out: &mut Output) {
     let c = moved(100);
     let d = moved(1);
     let q = advance(true);
     let x = advance(false);
-    after(b"step_5_of_a_block_of_its_own", c, 5, q);
-    after(b"step_5_of_a_block_of_two_tables", d, 5, q);
-    after(b"step_15_of_a_block_of_its_own", c, 15, x);
-    after(b"step_15_of_a_block_of_two_tables", d, 15, x);
+    after(out, b"step_5_of_a_block_of_its_own", c, 5, q);
+    after(out, b"step_5_of_a_block_of_two_tables", d, 5, q);
+    after(out, b"step_15_of_a_block_of_its_own", c, 15, x);
+    after(out, b"step_15_of_a_block_of_two_tables", d, 15, x);
 }
 
 // Persistent blocks 0 and 1, ephemeral 0 and 3, frozen 0 and 4.
@@ -110,23 +117,23 @@ fn three_tables() -> CacheState {
 }
 
 // Freeze gives up the frozen table's block 4, and 1 + 2 + 8 are left; CleanUp the persistent table's block 1, and 1 + 8 + 16 are left.
-fn steps_12_and_13() {
+fn steps_12_and_13(out: &mut Output) {
     let c = three_tables();
     let freeze = VersionOp::FreezeOp;
     let q = versioned(freeze);
     let clean = VersionOp::CleanUpOp;
     let x = versioned(clean);
-    after(b"step_12_with_a_frozen_table", c, 12, q);
-    after(b"step_13", c, 13, x);
+    after(out, b"step_12_with_a_frozen_table", c, 12, q);
+    after(out, b"step_13", c, 13, x);
 }
 
 // A start, and the load of a table with blocks 0 and 127: the lowest bit of the low word, the highest of the high one. A crash.
-fn steps_9_10_and_18() {
+fn steps_9_10_and_18(out: &mut Output) {
     let none = cache::empty_cache();
     let place = at(AREA1, 4096);
     let start = VersionOp::SendPersistentLocOp(place);
     let q = versioned(start);
-    after(b"step_10", none, 10, q);
+    after(out, b"step_10", none, 10, q);
     let l = loading();
     let node = sector::zero_node();
     let dop = DiskOp::RespReadIndirectionTableOp(1, Brought::Something);
@@ -135,29 +142,29 @@ fn steps_9_10_and_18() {
     let t = with_second(e);
     let mut x = internal(0, dop, node);
     x.table = t;
-    after(b"step_9", l, 9, x);
+    after(out, b"step_9", l, 9, x);
     let c = three_tables();
     let crash = VersionOp::CrashOp;
     let y = versioned(crash);
-    after(b"step_18", c, 18, y);
+    after(out, b"step_18", c, 18, y);
 }
 
 // Steps that move no location: a new reference has none, and an evicted one keeps its own.
-fn steps_11_and_16() {
+fn steps_11_and_16(out: &mut Output) {
     let c = moved(3);
     let node = sector::zero_node();
     let dop = DiskOp::NoDiskOp;
     let q = internal(1, dop, node);
     let mut x = advance(false);
     x.reference = 2;
-    after(b"step_11", c, 11, q);
-    after(b"step_16", c, 16, x);
+    after(out, b"step_11", c, 11, q);
+    after(out, b"step_16", c, 16, x);
 }
 
-pub(crate) fn run() {
-    steps_1_and_2();
-    steps_5_and_15();
-    steps_12_and_13();
-    steps_9_10_and_18();
-    steps_11_and_16();
+pub(crate) fn run(out: &mut Output) {
+    steps_1_and_2(out);
+    steps_5_and_15(out);
+    steps_12_and_13(out);
+    steps_9_10_and_18(out);
+    steps_11_and_16(out);
 }

@@ -10,21 +10,22 @@ use fixtures::{
     queued, ready, storing, table_record, two_entries, with_cached, with_ephemeral, with_frozen,
     with_persistent, with_reads, with_writes,
 };
+use output::Output;
 use queue::Requests;
 use sectortype::{Node, Succs, Table};
 
-fn node_in_cache(kind: &[u8], n: Node) {
+fn node_in_cache(out: &mut Output, kind: &[u8], n: Node) {
     let c = ready();
     let cached = with_cached(c, 1, n);
     let dop = DiskOp::NoDiskOp;
     let q = internal(0, dop, n);
     let a = cache_answer(c, 14, q);
     let b = cache_form(cached);
-    pair(b"cache_call_node", kind, a);
-    pair(b"cached_node", kind, b);
+    pair(out, b"cache_call_node", kind, a);
+    pair(out, b"cached_node", kind, b);
 }
 
-fn node_on_disk(kind: &[u8], n: Node) {
+fn node_on_disk(out: &mut Output, kind: &[u8], n: Node) {
     let none = disk::empty_records();
     let queues = disk::empty_queues();
     let s = storing(none);
@@ -36,9 +37,9 @@ fn node_on_disk(kind: &[u8], n: Node) {
     let a = disk_brings(s, op, n);
     let b = disk_form(t);
     let c = crash_answer(none, queues, r);
-    pair(b"disk_call_node", kind, a);
-    pair(b"stored_node", kind, b);
-    pair(b"offered_node", kind, c);
+    pair(out, b"disk_call_node", kind, a);
+    pair(out, b"stored_node", kind, b);
+    pair(out, b"offered_node", kind, c);
 }
 
 // A table whose root has this list.
@@ -49,19 +50,19 @@ fn listing(s: Succs) -> Table {
     sector::with_entry(none, 0, e)
 }
 
-fn list_everywhere(kind: &[u8], s: Succs) {
+fn list_everywhere(out: &mut Output, kind: &[u8], s: Succs) {
     let mut n = sector::zero_node();
     n.succs = s;
-    node_in_cache(kind, n);
-    node_on_disk(kind, n);
+    node_in_cache(out, kind, n);
+    node_on_disk(out, kind, n);
     let t = listing(s);
     let c = ready();
     let listed = with_ephemeral(c, t);
     let a = cache_form(listed);
-    pair(b"ephemeral_list", kind, a);
+    pair(out, b"ephemeral_list", kind, a);
 }
 
-fn lists() {
+fn lists(out: &mut Output) {
     let eight = Succs {
         count: 8,
         at: [63; 8],
@@ -82,13 +83,13 @@ fn lists() {
         count: 1,
         at: places,
     };
-    list_everywhere(b"naming_63_eight_times", eight);
-    list_everywhere(b"with_a_list_of_nine", nine);
-    list_everywhere(b"naming_64", above);
-    list_everywhere(b"with_a_nonzero_place_past_the_count", past);
+    list_everywhere(out, b"naming_63_eight_times", eight);
+    list_everywhere(out, b"with_a_list_of_nine", nine);
+    list_everywhere(out, b"naming_64", above);
+    list_everywhere(out, b"with_a_nonzero_place_past_the_count", past);
 }
 
-fn table_in_cache(kind: &[u8], t: Table) {
+fn table_in_cache(out: &mut Output, kind: &[u8], t: Table) {
     let c = ready();
     let p = with_persistent(c, t);
     let e = with_ephemeral(c, t);
@@ -99,10 +100,10 @@ fn table_in_cache(kind: &[u8], t: Table) {
     let b = cache_form(e);
     let d = cache_form(f);
     let g = cache_answer(c, 14, q);
-    pair(b"persistent_table", kind, a);
-    pair(b"ephemeral_table", kind, b);
-    pair(b"frozen_table", kind, d);
-    pair(b"cache_call_table", kind, g);
+    pair(out, b"persistent_table", kind, a);
+    pair(out, b"ephemeral_table", kind, b);
+    pair(out, b"frozen_table", kind, d);
+    pair(out, b"cache_call_table", kind, g);
 }
 
 fn disk_with_table(s: DiskState, table: Table) -> u64 {
@@ -124,7 +125,7 @@ fn storing_table(t: Table) -> Records {
     put_table(none, 0, x)
 }
 
-fn table_on_disk(kind: &[u8], t: Table) {
+fn table_on_disk(out: &mut Output, kind: &[u8], t: Table) {
     let none = disk::empty_records();
     let queues = disk::empty_queues();
     let s = storing(none);
@@ -133,14 +134,14 @@ fn table_on_disk(kind: &[u8], t: Table) {
     let a = disk_with_table(s, t);
     let b = disk_form(stored);
     let c = crash_answer(none, queues, r);
-    pair(b"disk_call_table", kind, a);
-    pair(b"stored_table", kind, b);
-    pair(b"offered_table", kind, c);
+    pair(out, b"disk_call_table", kind, a);
+    pair(out, b"stored_table", kind, b);
+    pair(out, b"offered_table", kind, c);
 }
 
-fn table_everywhere(kind: &[u8], t: Table) {
-    table_in_cache(kind, t);
-    table_on_disk(kind, t);
+fn table_everywhere(out: &mut Output, kind: &[u8], t: Table) {
+    table_in_cache(out, kind, t);
+    table_on_disk(out, kind, t);
 }
 
 // Reference 1 is allocated; the flag of its location is off and the location is there.
@@ -172,18 +173,18 @@ fn unallocated_list() -> Table {
     sector::with_entry(t, 2, e)
 }
 
-fn tables() {
+fn tables(out: &mut Output) {
     let good = two_entries();
     let mut count = two_entries();
     count.count = 3;
     let flag = place_without_flag();
     let place = unallocated_place();
     let list = unallocated_list();
-    table_everywhere(b"of_two_references", good);
-    table_everywhere(b"with_a_wrong_count", count);
-    table_everywhere(b"with_a_location_of_a_reference_not_located", flag);
-    table_everywhere(b"with_a_location_of_an_unallocated_reference", place);
-    table_everywhere(b"with_a_list_of_an_unallocated_reference", list);
+    table_everywhere(out, b"of_two_references", good);
+    table_everywhere(out, b"with_a_wrong_count", count);
+    table_everywhere(out, b"with_a_location_of_a_reference_not_located", flag);
+    table_everywhere(out, b"with_a_location_of_an_unallocated_reference", place);
+    table_everywhere(out, b"with_a_list_of_an_unallocated_reference", list);
 }
 
 // The queue of three with another id at its second place.
@@ -222,7 +223,7 @@ fn queue_of_kind(kind: u64, loc: Location) -> Requests {
     }
 }
 
-fn queue_on_disk(name: &[u8], kind: u64) {
+fn queue_on_disk(out: &mut Output, name: &[u8], kind: u64) {
     let table = at(AREA1, 4096);
     let node = at(BLOCK0, 4096);
     let p = queue_of_kind(kind, table);
@@ -235,14 +236,14 @@ fn queue_on_disk(name: &[u8], kind: u64) {
     let b = disk_form(s);
     let c = disk_form(t);
     let d = disk_form(u);
-    pair(b"table_reads", name, a);
-    pair(b"node_reads", name, b);
-    pair(b"table_writes", name, c);
-    pair(b"node_writes", name, d);
+    pair(out, b"table_reads", name, a);
+    pair(out, b"node_reads", name, b);
+    pair(out, b"table_writes", name, c);
+    pair(out, b"node_writes", name, d);
 }
 
-fn queue_everywhere(name: &[u8], kind: u64) {
-    queue_on_disk(name, kind);
+fn queue_everywhere(out: &mut Output, name: &[u8], kind: u64) {
+    queue_on_disk(out, name, kind);
     let c = ready();
     let loc = at(BLOCK0, 4096);
     let nowhere = sector::zero_loc();
@@ -252,16 +253,16 @@ fn queue_everywhere(name: &[u8], kind: u64) {
     let reads = with_reads(c, q);
     let a = cache_form(writes);
     let b = cache_form(reads);
-    pair(b"cache_writes", name, a);
-    pair(b"cache_reads", name, b);
+    pair(out, b"cache_writes", name, a);
+    pair(out, b"cache_reads", name, b);
 }
 
-pub(crate) fn run() {
-    lists();
-    tables();
-    queue_everywhere(b"of_three", 0);
-    queue_everywhere(b"out_of_order", 1);
-    queue_everywhere(b"with_an_id_twice", 2);
-    queue_everywhere(b"with_a_nonzero_place_past_the_count", 3);
-    queue_everywhere(b"with_a_count_of_17", 4);
+pub(crate) fn run(out: &mut Output) {
+    lists(out);
+    tables(out);
+    queue_everywhere(out, b"of_three", 0);
+    queue_everywhere(out, b"out_of_order", 1);
+    queue_everywhere(out, b"with_an_id_twice", 2);
+    queue_everywhere(out, b"with_a_nonzero_place_past_the_count", 3);
+    queue_everywhere(out, b"with_a_count_of_17", 4);
 }

@@ -6,8 +6,13 @@ mod form_cases;
 mod mark_cases;
 mod state_cases;
 
-fn main() {
-    form_cases::run();
-    state_cases::run();
-    mark_cases::run();
+use output::{Output, finish};
+use std::io;
+
+fn main(rt: HostRuntime) -> io::Result<()> {
+    let mut out = Output::new(rt.stdout());
+    form_cases::run(&mut out);
+    state_cases::run(&mut out);
+    mark_cases::run(&mut out);
+    finish(out)
 }

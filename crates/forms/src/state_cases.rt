@@ -11,6 +11,7 @@ use fixtures::{
     two_entries, with_cached, with_ephemeral, with_frozen, with_frozen_place, with_persistent,
     with_reads, with_writes,
 };
+use output::Output;
 use sectortype::Node;
 
 fn with_awaited(c: CacheState, waiting: bool, id: u64) -> CacheState {
@@ -29,7 +30,7 @@ fn with_place(c: CacheState, loc: Location) -> CacheState {
 }
 
 // One outstanding write and one read of a reference, and a read that has a location.
-fn outstanding() {
+fn outstanding(out: &mut Output) {
     let c = ready();
     let loc = at(BLOCK0, 4096);
     let nowhere = sector::zero_loc();
@@ -48,15 +49,15 @@ fn outstanding() {
     let d = cache_form(u);
     let e = cache_form(v);
     let f = cache_form(w);
-    line(b"cache_write_of_reference_63", a);
-    line(b"cache_write_of_reference_64", b);
-    line(b"cache_read_of_reference_63", d);
-    line(b"cache_read_of_reference_64", e);
-    line(b"cache_read_with_a_location", f);
+    line(out, b"cache_write_of_reference_63", a);
+    line(out, b"cache_write_of_reference_64", b);
+    line(out, b"cache_read_of_reference_63", d);
+    line(out, b"cache_read_of_reference_64", e);
+    line(out, b"cache_read_with_a_location", f);
 }
 
 // A flag is off and what it stands beside is there.
-fn flags() {
+fn flags(out: &mut Output) {
     let c = ready();
     let t = two_entries();
     let loc = at(AREA2, 4096);
@@ -66,9 +67,9 @@ fn flags() {
     let a = cache_form(frozen);
     let b = cache_form(place);
     let d = cache_form(awaited);
-    line(b"frozen_flag_off_with_a_frozen_table", a);
-    line(b"frozen_place_flag_off_with_a_place", b);
-    line(b"awaited_flag_off_with_an_id", d);
+    line(out, b"frozen_flag_off_with_a_frozen_table", a);
+    line(out, b"frozen_place_flag_off_with_a_place", b);
+    line(out, b"awaited_flag_off_with_an_id", d);
 }
 
 // A Ready cache in whose slot 1 this node stands, though the slot is absent.
@@ -87,7 +88,7 @@ fn absent_cached(node: Node) -> CacheState {
 }
 
 // Cached nodes: a slot that is absent and zeros, not zeros, or zeros but for its high; a wrong count.
-fn cached() {
+fn cached(out: &mut Output) {
     let node = leaf(9);
     let c = ready();
     let good = with_cached(c, 1, node);
@@ -105,15 +106,19 @@ fn cached() {
     let d = cache_form(wrong);
     let e = cache_form(zeros);
     let f = cache_form(higher);
-    line(b"cached_nodes_of_one_reference", a);
-    line(b"cached_nodes_with_an_absent_one_that_is_not_zeros", b);
-    line(b"cached_nodes_with_a_wrong_count", d);
-    line(b"cached_nodes_with_an_absent_one_of_zeros", e);
-    line(b"cached_nodes_with_an_absent_one_that_has_high_alone", f);
+    line(out, b"cached_nodes_of_one_reference", a);
+    line(out, b"cached_nodes_with_an_absent_one_that_is_not_zeros", b);
+    line(out, b"cached_nodes_with_a_wrong_count", d);
+    line(out, b"cached_nodes_with_an_absent_one_of_zeros", e);
+    line(
+        out,
+        b"cached_nodes_with_an_absent_one_that_has_high_alone",
+        f,
+    );
 }
 
 // Neither phase before Ready has a table, a frozen place, a node, or a node request outstanding.
-fn before_ready(name: &[u8], c: CacheState) {
+fn before_ready(out: &mut Output, name: &[u8], c: CacheState) {
     let t = two_entries();
     let none = sector::empty_table();
     let node = leaf(9);
@@ -127,22 +132,22 @@ fn before_ready(name: &[u8], c: CacheState) {
     let w = with_writes(c, q);
     let r = with_reads(c, q);
     let n = with_cached(c, 1, node);
-    state(name, b"with_nothing_more", c);
-    state(name, b"with_a_persistent_table", p);
-    state(name, b"with_an_ephemeral_table", e);
-    state(name, b"with_a_frozen_table", f);
-    state(name, b"with_a_frozen_place", g);
-    state(name, b"with_a_write", w);
-    state(name, b"with_a_read", r);
-    state(name, b"with_a_cached_node", n);
+    state(out, name, b"with_nothing_more", c);
+    state(out, name, b"with_a_persistent_table", p);
+    state(out, name, b"with_an_ephemeral_table", e);
+    state(out, name, b"with_a_frozen_table", f);
+    state(out, name, b"with_a_frozen_place", g);
+    state(out, name, b"with_a_write", w);
+    state(out, name, b"with_a_read", r);
+    state(out, name, b"with_a_cached_node", n);
 }
 
-fn state(name: &[u8], what: &[u8], c: CacheState) {
+fn state(out: &mut Output, name: &[u8], what: &[u8], c: CacheState) {
     let a = cache_form(c);
-    pair(name, what, a);
+    pair(out, name, what, a);
 }
 
-fn phases() {
+fn phases(out: &mut Output) {
     let unready = cache::empty_cache();
     let loc = at(AREA1, 4096);
     let place = with_place(unready, loc);
@@ -150,30 +155,30 @@ fn phases() {
     let awaiting = with_awaited(place, true, 5);
     let phase = Phase::Loading;
     let loading = in_phase(awaiting, phase);
-    before_ready(b"unready_cache", unready);
-    state(b"unready_cache", b"with_a_place", place);
-    state(b"unready_cache", b"with_an_awaited_read", waiting);
-    before_ready(b"loading_cache", loading);
+    before_ready(out, b"unready_cache", unready);
+    state(out, b"unready_cache", b"with_a_place", place);
+    state(out, b"unready_cache", b"with_an_awaited_read", waiting);
+    before_ready(out, b"loading_cache", loading);
 }
 
-fn stored_node(name: &[u8], x: NodeRecord) {
+fn stored_node(out: &mut Output, name: &[u8], x: NodeRecord) {
     let none = disk::empty_records();
     let r = put_node(none, 1, x);
     let s = storing(r);
     let a = disk_form(s);
-    line(name, a);
+    line(out, name, a);
 }
 
-fn stored_table(name: &[u8], x: TableRecord) {
+fn stored_table(out: &mut Output, name: &[u8], x: TableRecord) {
     let none = disk::empty_records();
     let r = put_table(none, 1, x);
     let s = storing(r);
     let a = disk_form(s);
-    line(name, a);
+    line(out, name, a);
 }
 
 // Block 1: its own place is (327680, 1 to 65536).
-fn node_records() {
+fn node_records(out: &mut Output) {
     let node = leaf(9);
     let none = sector::zero_node();
     let own = at(BLOCK1, 1);
@@ -187,16 +192,16 @@ fn node_records() {
     let placed = absent_node_record(own, none);
     let moved = node_record(other, node);
     let empty = node_record(short, node);
-    stored_node(b"stored_node_in_its_own_block", good);
-    stored_node(b"stored_node_in_another_block", moved);
-    stored_node(b"stored_node_of_length_0", empty);
-    stored_node(b"absent_node_record_with_contents", absent);
-    stored_node(b"absent_node_record_with_high_alone", higher);
-    stored_node(b"absent_node_record_with_a_place", placed);
+    stored_node(out, b"stored_node_in_its_own_block", good);
+    stored_node(out, b"stored_node_in_another_block", moved);
+    stored_node(out, b"stored_node_of_length_0", empty);
+    stored_node(out, b"absent_node_record_with_contents", absent);
+    stored_node(out, b"absent_node_record_with_high_alone", higher);
+    stored_node(out, b"absent_node_record_with_a_place", placed);
 }
 
 // Area 2: its own place is (139264, 1 to 65536).
-fn table_records() {
+fn table_records(out: &mut Output) {
     let table = two_entries();
     let none = sector::empty_table();
     let own = at(AREA2, 1);
@@ -210,35 +215,42 @@ fn table_records() {
     placed.present = false;
     let moved = table_record(other, table);
     let empty = table_record(short, table);
-    stored_table(b"stored_table_in_its_own_area", good);
-    stored_table(b"stored_table_in_the_other_area", moved);
-    stored_table(b"stored_table_of_length_0", empty);
-    stored_table(b"absent_table_record_with_a_table", absent);
-    stored_table(b"absent_table_record_with_a_place", placed);
+    stored_table(out, b"stored_table_in_its_own_area", good);
+    stored_table(out, b"stored_table_in_the_other_area", moved);
+    stored_table(out, b"stored_table_of_length_0", empty);
+    stored_table(out, b"absent_table_record_with_a_table", absent);
+    stored_table(out, b"absent_table_record_with_a_place", placed);
 }
 
 // A queue of the disk with one request.
-fn queue_place(name: &[u8], what: &[u8], kind: u64, reference: u8, loc: Location) {
+fn queue_place(
+    out: &mut Output,
+    name: &[u8],
+    what: &[u8],
+    kind: u64,
+    reference: u8,
+    loc: Location,
+) {
     let q = one(1, reference, loc);
     let s = queued(kind, q);
     let a = disk_form(s);
-    pair(name, what, a);
+    pair(out, name, what, a);
 }
 
 // A place that 16 forbids; and the disk's requests have no reference.
-fn queue_places(name: &[u8], kind: u64, addr: u64) {
+fn queue_places(out: &mut Output, name: &[u8], kind: u64, addr: u64) {
     let good = at(addr, 1);
     let short = at(addr, 0);
     let long = at(addr, 65537);
-    queue_place(name, b"with_an_allowed_place", kind, 0, good);
-    queue_place(name, b"with_a_place_of_length_0", kind, 0, short);
-    queue_place(name, b"with_a_place_of_length_65537", kind, 0, long);
-    queue_place(name, b"with_a_reference", kind, 1, good);
+    queue_place(out, name, b"with_an_allowed_place", kind, 0, good);
+    queue_place(out, name, b"with_a_place_of_length_0", kind, 0, short);
+    queue_place(out, name, b"with_a_place_of_length_65537", kind, 0, long);
+    queue_place(out, name, b"with_a_reference", kind, 1, good);
 }
 
 // A device above 2; a rule that is neither 1 nor 2, which a step on the cache names and a disk carries. The cache has the marks that its tables make on
 // that device.
-fn settings(name: &[u8], device: u64, rule: u64) {
+fn settings(out: &mut Output, name: &[u8], device: u64, rule: u64) {
     let loaded = ready();
     let c = marked_on(device, loaded);
     let q = no_op_call();
@@ -257,13 +269,13 @@ fn settings(name: &[u8], device: u64, rule: u64) {
     .step(14, q);
     let b = Disk { device, state: s }.next(call);
     let d = Disk { device, state: s }.crash(none);
-    pair(b"cache_on", name, a.answer);
-    pair(b"disk_on", name, b.answer);
-    pair(b"crash_of_the_disk_on", name, d.answer);
+    pair(out, b"cache_on", name, a.answer);
+    pair(out, b"disk_on", name, b.answer);
+    pair(out, b"crash_of_the_disk_on", name, d.answer);
 }
 
 // A step outside 1 to 20, a reference above 63. Step 19 without an answer gives 3.
-fn numbers() {
+fn numbers(out: &mut Output) {
     let c = ready();
     let q = no_op_call();
     let a = cache_answer(c, 0, q);
@@ -276,31 +288,31 @@ fn numbers() {
     let above = internal(64, dop, node);
     let e = cache_answer(c, 14, last);
     let f = cache_answer(c, 14, above);
-    line(b"cache_step_0", a);
-    line(b"cache_step_19", b);
-    line(b"cache_step_21", g);
-    line(b"cache_step_18446744073709551615", d);
-    line(b"cache_call_with_reference_63", e);
-    line(b"cache_call_with_reference_64", f);
+    line(out, b"cache_step_0", a);
+    line(out, b"cache_step_19", b);
+    line(out, b"cache_step_21", g);
+    line(out, b"cache_step_18446744073709551615", d);
+    line(out, b"cache_call_with_reference_63", e);
+    line(out, b"cache_call_with_reference_64", f);
 }
 
-pub(crate) fn run() {
-    outstanding();
-    flags();
-    cached();
-    phases();
-    node_records();
-    table_records();
-    queue_places(b"table_reads", 1, AREA1);
-    queue_places(b"node_reads", 2, BLOCK0);
-    queue_places(b"table_writes", 3, AREA1);
-    queue_places(b"node_writes", 4, BLOCK0);
-    settings(b"device_2", 2, RULE_1);
-    settings(b"device_3", 3, RULE_1);
-    numbers();
-    settings(b"rule_0", 0, 0);
-    settings(b"rule_1", 0, 1);
-    settings(b"rule_2", 0, 2);
-    settings(b"rule_3", 0, 3);
-    settings(b"rule_18446744073709551615", 0, 18446744073709551615);
+pub(crate) fn run(out: &mut Output) {
+    outstanding(out);
+    flags(out);
+    cached(out);
+    phases(out);
+    node_records(out);
+    table_records(out);
+    queue_places(out, b"table_reads", 1, AREA1);
+    queue_places(out, b"node_reads", 2, BLOCK0);
+    queue_places(out, b"table_writes", 3, AREA1);
+    queue_places(out, b"node_writes", 4, BLOCK0);
+    settings(out, b"device_2", 2, RULE_1);
+    settings(out, b"device_3", 3, RULE_1);
+    numbers(out);
+    settings(out, b"rule_0", 0, 0);
+    settings(out, b"rule_1", 0, 1);
+    settings(out, b"rule_2", 0, 2);
+    settings(out, b"rule_3", 0, 3);
+    settings(out, b"rule_18446744073709551615", 0, 18446744073709551615);
 }

@@ -4,6 +4,8 @@
 
 use blockdisk::{DiskCall, DiskOp, DiskState};
 use disk::Disk;
+use output::{Output, finish, number, text};
+use std::io;
 
 fn empty() -> DiskState {
     let records = disk::empty_records();
@@ -32,17 +34,17 @@ fn turn(s: DiskState) -> u64 {
     if o.answer == 0 { 1 } else { 0 }
 }
 
-fn main() {
+fn main(rt: HostRuntime) -> io::Result<()> {
     let s = empty();
     let mut accepted: u64 = 0;
-    let mut i: u64 = 0;
-    while i < 1000000 {
+    for _ in 0..1000000u64 {
         let n = turn(s);
         if n == 1 {
             accepted += 1;
         }
-        i += 1;
     }
-    io::print_decimal(1, accepted);
-    io::write_all(1, b"\n");
+    let mut out = Output::new(rt.stdout());
+    number(&mut out, accepted);
+    text(&mut out, b"\n");
+    finish(out)
 }

@@ -1,21 +1,82 @@
 // What the programs print to standard output, in one place: text, numbers, words with a number, lists of references.
 #![tactic(auto)]
 
-use libc::STDOUT_FILENO;
-use sectortype::Succs;
+ghost use Rattle.std.specs.Prelude.{◌≡◌, ◌≤◌};
 
-pub fn text(s: &[u8]) {
-    io::write_all(STDOUT_FILENO, s);
+use sectortype::Succs;
+use std::io;
+use std::io::{Stdout, Write};
+
+// How many bytes are kept before they are written.
+const ROOM: usize = 4096;
+
+// Standard output, with what has been printed and not yet been written. Of the writes that fail the first one's error is kept,
+// and nothing is written after it. It can't be let go: `finish` writes what is left, and hands out that error.
+pub struct Output {
+    to: Stdout,
+    room: [u8; 4096],
+    used: usize,
+    outcome: io::Result<()>,
+    ghost fits: { used ≤ 4096 },
 }
 
-pub fn number(n: u64) {
-    io::print_decimal(STDOUT_FILENO, n);
+impl Output {
+    pub fn new(to: Stdout) -> Output {
+        Output {
+            to,
+            room: [0; 4096],
+            used: 0,
+            outcome: Ok(()),
+        }
+    }
+
+    // Writes what is kept, now.
+    pub fn write(&mut self)
+        ensures { self.new.used ≡ 0 }
+    {
+        if self.outcome.is_ok() {
+            let written = self.to.write_all(&self.room[..self.used]);
+            self.outcome = written;
+        }
+        self.used = 0;
+    }
+
+    fn byte(&mut self, b: u8) {
+        if self.used == ROOM {
+            self.write();
+        }
+        self.room[self.used] = b;
+        self.used += 1;
+    }
+}
+
+// Writes what is left: an error where this write or one before it failed.
+pub fn finish(mut out: Output) -> io::Result<()> {
+    out.write();
+    let Output {
+        to: _,
+        room: _,
+        used: _,
+        outcome,
+    } = out;
+    outcome
+}
+
+pub fn text(out: &mut Output, s: &[u8]) {
+    for b in s {
+        out.byte(*b);
+    }
+}
+
+pub fn number(out: &mut Output, n: u64) {
+    let mut digits = itoa::Buffer::new();
+    text(out, digits.format(n).as_bytes());
 }
 
 // A text, as a key with its `=`, and a number behind it.
-pub fn word(key: &[u8], n: u64) {
-    text(key);
-    number(n);
+pub fn word(out: &mut Output, key: &[u8], n: u64) {
+    text(out, key);
+    number(out, n);
 }
 
 fn wide(x: u8) -> u64 {
@@ -23,16 +84,14 @@ fn wide(x: u8) -> u64 {
 }
 
 // A list's references, joined by commas.
-pub fn list(l: Succs) {
+pub fn list(out: &mut Output, l: Succs) {
     let count = l.count as usize;
-    let mut i: usize = 0;
-    while i < 8 {
+    for i in 0..8 {
         if i < count {
             if i > 0 {
-                text(b",");
+                text(out, b",");
             }
-            number(wide(l.at[i]));
+            number(out, wide(l.at[i]));
         }
-        i += 1;
     }
 }

@@ -2,27 +2,30 @@
 // blocks. Each number is the layout library's.
 #![tactic(auto)]
 
-use output::{text, word};
+use output::{Output, finish, text, word};
+use std::io;
 
-fn line(device: u64) {
+fn line(out: &mut Output, device: u64) {
     let start = layout::journal_start_addr(device);
     let end = layout::journal_end_addr(device);
     let one = layout::indirection_table1_addr(device);
     let two = layout::indirection_table2_addr(device);
     let node = layout::first_node_addr(device);
     let last = layout::node_blocks_end(device);
-    word(b"device=", device);
-    word(b" journal=", start.value);
-    word(b" journal_end=", end.value);
-    word(b" table1=", one.value);
-    word(b" table2=", two.value);
-    word(b" node=", node.value);
-    word(b" end=", last.value);
-    text(b"\n");
+    word(out, b"device=", device);
+    word(out, b" journal=", start.value);
+    word(out, b" journal_end=", end.value);
+    word(out, b" table1=", one.value);
+    word(out, b" table2=", two.value);
+    word(out, b" node=", node.value);
+    word(out, b" end=", last.value);
+    text(out, b"\n");
 }
 
-fn main() {
-    line(0);
-    line(1);
-    line(2);
+fn main(rt: HostRuntime) -> io::Result<()> {
+    let mut out = Output::new(rt.stdout());
+    line(&mut out, 0);
+    line(&mut out, 1);
+    line(&mut out, 2);
+    finish(out)
 }

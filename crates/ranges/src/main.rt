@@ -4,7 +4,8 @@
 
 ghost use Rattle.std.specs.Prelude.{◌≡◌, ℕ, ◌/◌, ◌%◌, ◌<◌, length, get_or};
 
-use output::{number as print_number, text, word};
+use output::{Output, finish, number as print_number, text, word};
+use std::io;
 
 const BLOCK: usize = 4096;
 
@@ -24,10 +25,8 @@ const U64_MAX: u64 = 0xffff_ffff_ffff_ffff;
 fn fill(memory: &mut [u8])
     ensures { (k : ℕ) → k < length memory.new → get_or memory.new k 0 ≡ k / 4096 % 256 }
 {
-    let mut i: usize = 0;
-    while i < memory.len() {
+    for i in 0..memory.len() {
         memory[i] = (i / BLOCK % 256) as u8;
-        i += 1;
     }
 }
 
@@ -45,82 +44,82 @@ fn block_number(block: &[u8]) -> u64
         return MIXED;
     }
     let number = block[0];
-    let mut i: usize = 0;
-    while i < block.len() {
+    for i in 0..block.len() {
         if block[i] != number {
             return MIXED;
         }
-        i += 1;
     }
     wide(number)
 }
 
-fn print_block(first: bool, number: u64) {
+fn print_block(out: &mut Output, first: bool, number: u64) {
     if !first {
-        text(b",");
+        text(out, b",");
     }
     if number == MIXED {
-        text(b"?");
+        text(out, b"?");
     } else {
-        print_number(number);
+        print_number(out, number);
     }
 }
 
 // Bytes behind the last whole block.
-fn print_left(bytes: usize) {
+fn print_left(out: &mut Output, bytes: usize) {
     if bytes != 0 {
-        word(b"+", bytes as u64);
+        word(out, b"+", bytes as u64);
     }
 }
 
 // The numbers that a part's blocks tell.
-fn print_blocks(part: &[u8]) {
+fn print_blocks(out: &mut Output, part: &[u8]) {
     let mut rest = part;
     let mut first = true;
     while BLOCK <= rest.len() {
         let number = block_number(&rest[0..BLOCK]);
-        print_block(first, number);
+        print_block(out, first, number);
         rest = &rest[BLOCK..];
         first = false;
     }
-    print_left(rest.len());
+    print_left(out, rest.len());
 }
 
-fn line(device: u64, area: &[u8], start: u64, blocks: u64) {
-    word(b"device=", device);
-    word(b" bytes=", area.len() as u64);
-    word(b" start=", start);
-    word(b" blocks=", blocks);
+fn line(out: &mut Output, device: u64, area: &[u8], start: u64, blocks: u64) {
+    word(out, b"device=", device);
+    word(out, b" bytes=", area.len() as u64);
+    word(out, b" start=", start);
+    word(out, b" blocks=", blocks);
     word(
+        out,
         b" front_result=",
         journalarea::front_result(device, area, start, blocks),
     );
-    text(b" front=");
-    print_blocks(journalarea::front(device, area, start, blocks));
+    text(out, b" front=");
+    print_blocks(out, journalarea::front(device, area, start, blocks));
     word(
+        out,
         b" back_result=",
         journalarea::back_result(device, area, start, blocks),
     );
-    text(b" back=");
-    print_blocks(journalarea::back(device, area, start, blocks));
-    text(b"\n");
+    text(out, b" back=");
+    print_blocks(out, journalarea::back(device, area, start, blocks));
+    text(out, b"\n");
 }
 
 // Ranges of device 0's journal, accepted and refused.
-fn device0(area: &[u8]) {
-    line(0, area, 14, 5);
-    line(0, area, 14, 2);
-    line(0, area, 14, 3);
-    line(0, area, 7, 1);
-    line(0, area, 14, 0);
-    line(0, area, 0, 16);
-    line(0, area, 15, 16);
-    line(0, area, 0, 17);
-    line(0, area, 15, 17);
-    line(0, area, 15, U64_MAX);
-    line(0, area, 16, 1);
-    line(0, area, 16, 0);
-    line(0, area, U64_MAX, 1);
+fn device0(out: &mut Output, area: &[u8]) {
+    line(out, 0, area, 14, 5);
+    line(out, 0, area, 14, 2);
+    line(out, 0, area, 14, 3);
+    line(out, 0, area, 7, 1);
+    line(out, 0, area, 14, 0);
+    line(out, 0, area, 0, 16);
+    line(out, 0, area, 15, 16);
+    line(out, 0, area, 0, 17);
+    line(out, 0, area, 15, 17);
+    line(out, 0, area, 15, U64_MAX);
+    line(out, 0, area, 16, 1);
+    line(out, 0, area, 16, 0);
+    line(out, 0, area, U64_MAX, 1);
 }
 
 // The first bytes of the memory, as many as asked for or as there are.
@@ -132,24 +131,24 @@ fn prefix(memory: &[u8], bytes: usize) -> &[u8] {
 }
 
 // Areas that aren't as long as the journal; 1 comes before 23.
-fn wrong_areas(memory: &[u8]) {
-    line(0, prefix(memory, JOURNAL0 - 1), 14, 5);
-    line(0, prefix(memory, JOURNAL0 + 1), 14, 5);
-    line(0, prefix(memory, 0), 14, 5);
-    line(0, prefix(memory, JOURNAL0 - 1), 14, 0);
-    line(0, prefix(memory, JOURNAL0 - 1), 14, 17);
-    line(0, prefix(memory, JOURNAL0 - 1), 16, 5);
-    line(1, prefix(memory, JOURNAL0), 14, 5);
-    line(3, prefix(memory, JOURNAL0), 14, 5);
-    line(3, prefix(memory, 0), 14, 5);
+fn wrong_areas(out: &mut Output, memory: &[u8]) {
+    line(out, 0, prefix(memory, JOURNAL0 - 1), 14, 5);
+    line(out, 0, prefix(memory, JOURNAL0 + 1), 14, 5);
+    line(out, 0, prefix(memory, 0), 14, 5);
+    line(out, 0, prefix(memory, JOURNAL0 - 1), 14, 0);
+    line(out, 0, prefix(memory, JOURNAL0 - 1), 14, 17);
+    line(out, 0, prefix(memory, JOURNAL0 - 1), 16, 5);
+    line(out, 1, prefix(memory, JOURNAL0), 14, 5);
+    line(out, 3, prefix(memory, JOURNAL0), 14, 5);
+    line(out, 3, prefix(memory, 0), 14, 5);
 }
 
 // The other devices' journals.
-fn other_devices(memory: &[u8]) {
-    line(1, prefix(memory, JOURNAL1), 62, 5);
-    line(1, prefix(memory, JOURNAL1), 64, 1);
-    line(2, prefix(memory, JOURNAL2), 254, 5);
-    line(2, prefix(memory, JOURNAL2), 255, 257);
+fn other_devices(out: &mut Output, memory: &[u8]) {
+    line(out, 1, prefix(memory, JOURNAL1), 62, 5);
+    line(out, 1, prefix(memory, JOURNAL1), 64, 1);
+    line(out, 2, prefix(memory, JOURNAL2), 254, 5);
+    line(out, 2, prefix(memory, JOURNAL2), 255, 257);
 }
 
 // Room for the longest journal. The array stands in a function of its own: in a proof of `main` it would nest too deep for the checker.
@@ -157,11 +156,13 @@ fn zeros() -> [u8; 1_048_576] {
     [0; 1_048_576]
 }
 
-fn main() {
+fn main(rt: HostRuntime) -> io::Result<()> {
+    let mut out = Output::new(rt.stdout());
     let mut memory = zeros();
     fill(&mut memory);
     let whole = &memory[..];
-    device0(prefix(whole, JOURNAL0));
-    wrong_areas(whole);
-    other_devices(whole);
+    device0(&mut out, prefix(whole, JOURNAL0));
+    wrong_areas(&mut out, whole);
+    other_devices(&mut out, whole);
+    finish(out)
 }

@@ -6,8 +6,10 @@ mod print;
 mod session;
 mod show;
 
-use libc::STDIN_FILENO;
+use output::{Output, finish};
 use session::Session;
+use std::io;
+use std::io::{Read, Stdin};
 use words::text::{after, find, front};
 
 // One byte more than a line may have: a line that fills it is too long, and what follows up to its line feed is dropped.
@@ -24,19 +26,17 @@ struct Taken {
 // Puts a piece behind the line's first `used` bytes, as far as there is room, and answers how many bytes the line has then.
 fn gather(line: &mut [u8], used: usize, piece: &[u8]) -> usize {
     let mut n = used;
-    let mut i: usize = 0;
-    while i < piece.len() {
+    for i in 0..piece.len() {
         if n < line.len() {
             line[n] = piece[i];
             n += 1;
         }
-        i += 1;
     }
     n
 }
 
 // Takes a part of the input: each line that ends in it is run, and what is left is kept.
-fn take(before: Session, line: &mut [u8], kept: usize, part: &[u8]) -> Taken {
+fn take(out: &mut Output, before: Session, line: &mut [u8], kept: usize, part: &[u8]) -> Taken {
     let mut session = before;
     let mut used = kept;
     let mut at: usize = 0;
@@ -46,7 +46,7 @@ fn take(before: Session, line: &mut [u8], kept: usize, part: &[u8]) -> Taken {
         used = gather(line, used, front(tail, n));
         at = at + n;
         if at < part.len() {
-            session = session.run(front(line, used));
+            session = session.run(out, front(line, used));
             used = 0;
             at = at + 1;
         }
@@ -58,48 +58,62 @@ fn take(before: Session, line: &mut [u8], kept: usize, part: &[u8]) -> Taken {
     }
 }
 
-// Reads once. An input that can't be read has ended.
-fn read_some(session: Session, line: &mut [u8], used: usize) -> Taken {
-    let mut buf = io::buffer();
-    let got = libc::read(STDIN_FILENO, &mut buf);
-    let n = io::count(got, &buf);
+// Reads once, and writes what the lines in it print. An input of which no byte is read has ended.
+fn read_some(
+    out: &mut Output,
+    input: &mut Stdin,
+    session: Session,
+    line: &mut [u8],
+    used: usize,
+) -> io::Result<Taken> {
+    let mut part = [0u8; 4096];
+    let n = input.read(&mut part)?;
     if n == 0 {
-        return Taken {
+        return Ok(Taken {
             session,
             used,
             more: false,
-        };
+        });
     }
-    take(session, line, used, &buf[..n])
+    let taken = take(out, session, line, used, &part[..n]);
+    out.write();
+    Ok(taken)
 }
 
-// A proved loop has to end, and nothing says that the input does: so the turns are counted down, from a number that no run
-// uses up. What is left behind the last line feed is a line too.
-fn run_all(line: &mut [u8]) -> Session {
+// A proved loop has to end, and nothing says that the input does: so the turns are counted, to a number that no run comes to.
+// What is left behind the last line feed is a line too.
+fn run_all(out: &mut Output, input: &mut Stdin, line: &mut [u8]) -> io::Result<Session> {
     let mut taken = Taken {
         session: session::unstarted(),
         used: 0,
         more: true,
     };
-    let mut turns = u64::MAX;
-    while turns > 0 {
+    for _ in 0..u64::MAX {
         let used = taken.used;
-        taken = read_some(taken.session, line, used);
+        taken = read_some(out, input, taken.session, line, used)?;
         if !taken.more {
             break;
         }
-        turns -= 1;
     }
     let session = taken.session;
     let used = taken.used;
     if used == 0 {
-        return session;
+        return Ok(session);
     }
-    session.run(front(line, used))
+    Ok(session.run(out, front(line, used)))
 }
 
-fn main() {
+// The whole input, and the line of the counts.
+fn replay(out: &mut Output, input: &mut Stdin) -> io::Result<()> {
     let mut line = [0u8; ROOM];
-    let session = run_all(&mut line);
-    print::summary(session.tally);
+    let session = run_all(out, input, &mut line)?;
+    print::summary(out, session.tally);
+    Ok(())
+}
+
+fn main(rt: HostRuntime) -> io::Result<()> {
+    let mut out = Output::new(rt.stdout());
+    let ran = replay(&mut out, &mut rt.stdin());
+    finish(out)?;
+    ran
 }

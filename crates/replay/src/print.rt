@@ -2,7 +2,7 @@
 use blockcache::Choice;
 use blocksystem::Counts;
 use disklayout::{Kind, Location, PlaceKind};
-use output::{list, number, text, word};
+use output::{Output, list, number, text, word};
 use sectortype::{Contents, Node};
 
 // The lines passed, and how many of them were calls, accepted, refused and errors.
@@ -25,103 +25,103 @@ pub fn nothing() -> Tally {
     }
 }
 
-pub fn error(line: u64) {
-    word(b"line=", line);
-    text(b" error\n");
+pub fn error(out: &mut Output, line: u64) {
+    word(out, b"line=", line);
+    text(out, b" error\n");
 }
 
-pub fn answer(line: u64, answer: u64) {
-    word(b"line=", line);
-    word(b" answer=", answer);
-    text(b"\n");
+pub fn answer(out: &mut Output, line: u64, answer: u64) {
+    word(out, b"line=", line);
+    word(out, b" answer=", answer);
+    text(out, b"\n");
 }
 
 // What step 20 answers, and the place of the operation that failed.
-pub fn transaction(line: u64, answer: u64, place: u64) {
-    word(b"line=", line);
-    word(b" answer=", answer);
-    word(b" place=", place);
-    text(b"\n");
+pub fn transaction(out: &mut Output, line: u64, answer: u64, place: u64) {
+    word(out, b"line=", line);
+    word(out, b" answer=", answer);
+    word(out, b" place=", place);
+    text(out, b"\n");
 }
 
 // The word of a kind.
-fn kind_word(k: Kind) {
+fn kind_word(out: &mut Output, k: Kind) {
     match k {
-        Kind::Superblock1 => text(b"superblock1"),
-        Kind::Superblock2 => text(b"superblock2"),
-        Kind::Journal => text(b"journal"),
-        Kind::Table => text(b"table"),
-        Kind::Node => text(b"node"),
-        Kind::None => text(b"none"),
+        Kind::Superblock1 => text(out, b"superblock1"),
+        Kind::Superblock2 => text(out, b"superblock2"),
+        Kind::Journal => text(out, b"journal"),
+        Kind::Table => text(out, b"table"),
+        Kind::Node => text(out, b"node"),
+        Kind::None => text(out, b"none"),
     }
 }
 
 // What the chooser gives.
-pub fn choice(line: u64, c: Choice) {
-    word(b"line=", line);
-    word(b" answer=", c.answer);
-    word(b" block=", c.block);
-    word(b" addr=", c.addr);
-    word(b" free=", c.free);
-    text(b"\n");
+pub fn choice(out: &mut Output, line: u64, c: Choice) {
+    word(out, b"line=", line);
+    word(out, b" answer=", c.answer);
+    word(out, b" block=", c.block);
+    word(out, b" addr=", c.addr);
+    word(out, b" free=", c.free);
+    text(out, b"\n");
 }
 
 // What a place is.
-pub fn place(line: u64, p: PlaceKind) {
+pub fn place(out: &mut Output, line: u64, p: PlaceKind) {
     let k = p.kind;
-    word(b"line=", line);
-    word(b" answer=", p.answer);
-    text(b" kind=");
-    kind_word(k);
-    text(b"\n");
+    word(out, b"line=", line);
+    word(out, b" answer=", p.answer);
+    text(out, b" kind=");
+    kind_word(out, k);
+    text(out, b"\n");
 }
 
 // `LOW` where high is 0, else `HIGH.LOW`.
-fn contents(c: Contents) {
+fn contents(out: &mut Output, c: Contents) {
     if c.high > 0 {
-        number(c.high);
-        text(b".");
+        number(out, c.high);
+        text(out, b".");
     }
-    number(c.low);
+    number(out, c.low);
 }
 
 // Whether a node that was handed out is the working picture's.
-fn picture(same: bool) {
+fn picture(out: &mut Output, same: bool) {
     if same {
-        text(b" picture=same");
+        text(out, b" picture=same");
     } else {
-        text(b" picture=other");
+        text(out, b" picture=other");
     }
 }
 
 // What step 17 answers, and of an accepted one whether the node is the working picture's.
-pub fn read(line: u64, answer: u64, node: Node, same: bool) {
-    word(b"line=", line);
-    word(b" answer=", answer);
-    text(b" contents=");
-    contents(node.contents);
-    text(b" succs=");
-    list(node.succs);
+pub fn read(out: &mut Output, line: u64, answer: u64, node: Node, same: bool) {
+    word(out, b"line=", line);
+    word(out, b" answer=", answer);
+    text(out, b" contents=");
+    contents(out, node.contents);
+    text(out, b" succs=");
+    list(out, node.succs);
     if answer == 0 {
-        picture(same);
+        picture(out, same);
     }
-    text(b"\n");
+    text(out, b"\n");
 }
 
-pub fn counts(line: u64, place: Location, c: Counts) {
-    word(b"line=", line);
-    word(b" place=", place.addr);
-    word(b"+", place.len);
-    word(b" lost=", c.lost);
-    word(b" added=", c.added);
-    word(b" altered=", c.altered);
-    text(b"\n");
+pub fn counts(out: &mut Output, line: u64, place: Location, c: Counts) {
+    word(out, b"line=", line);
+    word(out, b" place=", place.addr);
+    word(out, b"+", place.len);
+    word(out, b" lost=", c.lost);
+    word(out, b" added=", c.added);
+    word(out, b" altered=", c.altered);
+    text(out, b"\n");
 }
 
-pub fn summary(t: Tally) {
-    word(b"calls=", t.calls);
-    word(b" accepted=", t.accepted);
-    word(b" refused=", t.refused);
-    word(b" errors=", t.errors);
-    text(b"\n");
+pub fn summary(out: &mut Output, t: Tally) {
+    word(out, b"calls=", t.calls);
+    word(out, b" accepted=", t.accepted);
+    word(out, b" refused=", t.refused);
+    word(out, b" errors=", t.errors);
+    text(out, b"\n");
 }

@@ -6,6 +6,7 @@ use blockcache::{CacheState, Call};
 use blockdisk::{DiskState, Records};
 use blocksystem::{Named, Pictures};
 use disklayout::Location;
+use output::Output;
 use sectortype::Contents;
 use system::{CRASH, READ, Store, TRANSACTION};
 use words::line::Line;
@@ -61,44 +62,44 @@ fn comes_before(a: Named, b: Named) -> bool {
     (p.addr < q.addr) | ((p.addr == q.addr) & (p.len < q.len))
 }
 
-fn audit_one(line: u64, store: Store, named: Named) {
+fn audit_one(out: &mut Output, line: u64, store: Store, named: Named) {
     if named.present {
         let c = store.audit(named);
-        print::counts(line, named.place, c);
+        print::counts(out, line, named.place, c);
     }
 }
 
 impl Sequence {
     // Each named place, by ascending address.
-    fn audit(self, line: u64) {
+    fn audit(self, out: &mut Output, line: u64) {
         let store = self.store;
         let pictures = self.pictures;
         let first = pictures.first;
         let second = pictures.second;
         if comes_before(second, first) {
-            audit_one(line, store, second);
-            audit_one(line, store, first);
+            audit_one(out, line, store, second);
+            audit_one(out, line, store, first);
         } else {
-            audit_one(line, store, first);
-            audit_one(line, store, second);
+            audit_one(out, line, store, first);
+            audit_one(out, line, store, second);
         }
     }
 
-    fn show(self, line: u64) {
+    fn show(self, out: &mut Output, line: u64) {
         let store = self.store;
         let cache = store.cache;
         let disk = store.disk;
-        show::sizes(line, cache);
-        show::blocks(line, store.device, cache, disk);
+        show::sizes(out, line, cache);
+        show::blocks(out, line, store.device, cache, disk);
     }
 }
 
 impl Session {
-    fn error(mut self) -> Session {
+    fn error(mut self, out: &mut Output) -> Session {
         let mut t = self.tally;
         t.errors = more(t.errors);
         self.tally = t;
-        print::error(t.lines);
+        print::error(out, t.lines);
         self
     }
 
@@ -115,16 +116,16 @@ impl Session {
     }
 
     // What a place is: no call on the store, so it wants no sequence and is not counted.
-    fn place(self, device: u64, loc: Location) -> Session {
-        print::place(self.tally.lines, layout::kind_of(device, loc));
+    fn place(self, out: &mut Output, device: u64, loc: Location) -> Session {
+        print::place(out, self.tally.lines, layout::kind_of(device, loc));
         self
     }
 
     // A refused `format` leaves the sequence before it as it was.
-    fn format(self, device: u64, contents: Contents, rule: u64) -> Session {
+    fn format(self, out: &mut Output, device: u64, contents: Contents, rule: u64) -> Session {
         let o = Store::format(device, contents, rule);
         let answer = o.answer;
-        print::answer(self.tally.lines, answer);
+        print::answer(out, self.tally.lines, answer);
         let mut next = self.counted(answer);
         if answer == 0 {
             let pictures = system::format_pictures(device, contents);
@@ -136,7 +137,7 @@ impl Session {
     }
 
     // Makes a call, prints what it answers, and keeps names and pictures where it is accepted.
-    fn call(self, number: u64, call: Call, offered: Records) -> Session {
+    fn call(self, out: &mut Output, number: u64, call: Call, offered: Records) -> Session {
         let sequence = self.sequence;
         let store = sequence.store;
         let o = store.step(number, call, offered);
@@ -144,9 +145,9 @@ impl Session {
         let before = sequence.pictures;
         if number == READ {
             let same = system::is_pictured(before, call.reference, o.node);
-            print::read(self.tally.lines, answer, o.node, same);
+            print::read(out, self.tally.lines, answer, o.node, same);
         } else {
-            print::answer(self.tally.lines, answer);
+            print::answer(out, self.tally.lines, answer);
         }
         let mut next = self.counted(answer);
         if answer == 0 {
@@ -158,10 +159,10 @@ impl Session {
     }
 
     // Makes step 20's call with the operations that the line has; names and pictures take them where it is accepted.
-    fn transaction(self, call: Call, rest: &[u8]) -> Session {
+    fn transaction(self, out: &mut Output, call: Call, rest: &[u8]) -> Session {
         let list = script::transaction::operation_list(rest);
         if !list.ok {
-            return self.error();
+            return self.error(out);
         }
         let at = list.at;
         let count = list.count;
@@ -169,7 +170,7 @@ impl Session {
         let store = sequence.store;
         let o = store.operations_of(call, at, count);
         let answer = o.answer;
-        print::transaction(self.tally.lines, answer, o.place);
+        print::transaction(out, self.tally.lines, answer, o.place);
         let mut next = self.counted(answer);
         if answer == 0 {
             let pictures = system::pictures_after_operations(sequence.pictures, at, count);
@@ -180,11 +181,11 @@ impl Session {
     }
 
     // Asks for a free block: a call that changes no name and no picture.
-    fn choose(self) -> Session {
+    fn choose(self, out: &mut Output) -> Session {
         let mut sequence = self.sequence;
         let mut store = sequence.store;
         let c = store.choose();
-        print::choice(self.tally.lines, c);
+        print::choice(out, self.tally.lines, c);
         let cache = c.cache;
         store.cache = cache;
         sequence.store = store;
@@ -194,10 +195,10 @@ impl Session {
     }
 
     // A step line, by what follows its first word. Only a crash is offered records other than those that are stored.
-    fn step(self, number: u64, rest: &[u8]) -> Session {
+    fn step(self, out: &mut Output, number: u64, rest: &[u8]) -> Session {
         let q = script::request::request_of(rest, script::request::step_keys(number));
         if !q.ok {
-            return self.error();
+            return self.error(out);
         }
         let sequence = self.sequence;
         let store = sequence.store;
@@ -206,59 +207,59 @@ impl Session {
         let stored = disk.records;
         let call = script::calls::call_of(q, store.device, cache, disk);
         if number == TRANSACTION {
-            return self.transaction(call, rest);
+            return self.transaction(out, call, rest);
         }
         if number != CRASH {
-            return self.call(number, call, stored);
+            return self.call(out, number, call, stored);
         }
         let offer = script::offer::offered(rest, stored);
         if !offer.ok {
-            return self.error();
+            return self.error(out);
         }
         let records = offer.records;
-        self.call(number, call, records)
+        self.call(out, number, call, records)
     }
 
     // A line that wants a sequence.
-    fn started_line(self, kind: Line, s: &[u8]) -> Session {
+    fn started_line(self, out: &mut Output, kind: Line, s: &[u8]) -> Session {
         if !self.started {
-            return self.error();
+            return self.error(out);
         }
         let sequence = self.sequence;
         let line = self.tally.lines;
         match kind {
-            Line::Step(n) => self.step(n, words::line::rest(s)),
+            Line::Step(n) => self.step(out, n, words::line::rest(s)),
             Line::Audit => {
-                sequence.audit(line);
+                sequence.audit(out, line);
                 self
             }
             Line::Show => {
-                sequence.show(line);
+                sequence.show(out, line);
                 self
             }
-            Line::Choose => self.choose(),
-            Line::Format(d, c, r) => self.format(d, c, r),
-            Line::Place(d, l) => self.place(d, l),
+            Line::Choose => self.choose(out),
+            Line::Format(d, c, r) => self.format(out, d, c, r),
+            Line::Place(d, l) => self.place(out, d, l),
             Line::Skip => self,
-            Line::Bad => self.error(),
+            Line::Bad => self.error(out),
         }
     }
 
     // Runs one line, without its line feed.
-    pub fn run(mut self, s: &[u8]) -> Session {
+    pub fn run(mut self, out: &mut Output, s: &[u8]) -> Session {
         let mut t = self.tally;
         t.lines = more(t.lines);
         self.tally = t;
         let kind = words::line::line_of(s);
         match kind {
             Line::Skip => self,
-            Line::Format(d, c, r) => self.format(d, c, r),
-            Line::Place(d, l) => self.place(d, l),
-            Line::Step(_) => self.started_line(kind, s),
-            Line::Audit => self.started_line(kind, s),
-            Line::Show => self.started_line(kind, s),
-            Line::Choose => self.started_line(kind, s),
-            Line::Bad => self.error(),
+            Line::Format(d, c, r) => self.format(out, d, c, r),
+            Line::Place(d, l) => self.place(out, d, l),
+            Line::Step(_) => self.started_line(out, kind, s),
+            Line::Audit => self.started_line(out, kind, s),
+            Line::Show => self.started_line(out, kind, s),
+            Line::Choose => self.started_line(out, kind, s),
+            Line::Bad => self.error(out),
         }
     }
 }

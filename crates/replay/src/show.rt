@@ -2,16 +2,16 @@
 use blockcache::{CacheState, Phase};
 use blockdisk::DiskState;
 use cache::is_ready;
-use output::{text, word};
+use output::{Output, text, word};
 use queue::Requests;
 use sectortype::Table;
 use words::digits::wide;
 
-fn phase_name(phase: Phase) {
+fn phase_name(out: &mut Output, phase: Phase) {
     match phase {
-        Phase::Unready => text(b"Unready"),
-        Phase::Loading => text(b"Loading"),
-        Phase::Ready => text(b"Ready"),
+        Phase::Unready => text(out, b"Unready"),
+        Phase::Loading => text(out, b"Loading"),
+        Phase::Ready => text(out, b"Ready"),
     }
 }
 
@@ -23,29 +23,39 @@ fn counted(ready: bool, n: u8) -> u64 {
     0
 }
 
-pub fn sizes(line: u64, cache: CacheState) {
+pub fn sizes(out: &mut Output, line: u64, cache: CacheState) {
     let phase = cache.phase;
     let ready = is_ready(phase);
-    word(b"line=", line);
-    text(b" phase=");
-    phase_name(phase);
-    word(b" allocated=", counted(ready, cache.tables.ephemeral.count));
-    word(b" cached=", counted(ready, cache.nodes.count));
-    word(b" writes=", counted(ready, cache.outstanding.writes.count));
-    word(b" reads=", counted(ready, cache.outstanding.reads.count));
-    text(b"\n");
+    word(out, b"line=", line);
+    text(out, b" phase=");
+    phase_name(out, phase);
+    word(
+        out,
+        b" allocated=",
+        counted(ready, cache.tables.ephemeral.count),
+    );
+    word(out, b" cached=", counted(ready, cache.nodes.count));
+    word(
+        out,
+        b" writes=",
+        counted(ready, cache.outstanding.writes.count),
+    );
+    word(
+        out,
+        b" reads=",
+        counted(ready, cache.outstanding.reads.count),
+    );
+    text(out, b"\n");
 }
 
 // The address of each reference's location; 0, at which no node block of a device that is made begins, where the reference has none.
 fn located(t: Table) -> [u64; 64] {
     let mut addrs: [u64; 64] = [0; 64];
-    let mut i: usize = 0;
-    while i < 64 {
+    for i in 0..64 {
         let e = t.entries[i];
         if e.located {
             addrs[i] = e.loc.addr;
         }
-        i += 1;
     }
     addrs
 }
@@ -54,13 +64,11 @@ fn located(t: Table) -> [u64; 64] {
 fn requested(q: Requests) -> [u64; 16] {
     let count = q.count as usize;
     let mut addrs: [u64; 16] = [0; 16];
-    let mut i: usize = 0;
-    while i < 16 {
+    for i in 0..16 {
         let r = q.at[i];
         if i < count {
             addrs[i] = r.loc.addr;
         }
-        i += 1;
     }
     addrs
 }
@@ -68,10 +76,8 @@ fn requested(q: Requests) -> [u64; 16] {
 // Whether one of the addresses is `at`.
 fn has(addrs: &[u64], at: u64) -> bool {
     let mut hit = false;
-    let mut i: usize = 0;
-    while i < addrs.len() {
+    for i in 0..addrs.len() {
         hit = hit | (addrs[i] == at);
-        i += 1;
     }
     hit
 }
@@ -115,8 +121,7 @@ fn letters(device: u64, cache: CacheState, disk: DiskState) -> [u8; 128] {
     let size = layout::node_block_size(device);
     let mut at = first.value;
     let mut row = [b'.'; 128];
-    let mut k: usize = 0;
-    while k < 128 {
+    for k in 0..128 {
         let r = records.nodes[k];
         row[k] = letter(
             ready & has(&w, at),
@@ -126,15 +131,14 @@ fn letters(device: u64, cache: CacheState, disk: DiskState) -> [u8; 128] {
             r.present,
         );
         at += size.value;
-        k += 1;
     }
     row
 }
 
-pub fn blocks(line: u64, device: u64, cache: CacheState, disk: DiskState) {
+pub fn blocks(out: &mut Output, line: u64, device: u64, cache: CacheState, disk: DiskState) {
     let row = letters(device, cache, disk);
-    word(b"line=", line);
-    text(b" blocks=");
-    text(&row);
-    text(b"\n");
+    word(out, b"line=", line);
+    text(out, b" blocks=");
+    text(out, &row);
+    text(out, b"\n");
 }

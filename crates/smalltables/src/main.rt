@@ -8,52 +8,49 @@ use blockcache::{CacheState, Call, Settings, VersionOp};
 use blockdisk::{Brought, DiskOp};
 use cache::Cache;
 use disklayout::Location;
-use output::{list, number, text, word};
+use output::{Output, finish, list, number, text, word};
 use sectortype::{Entry, Table};
+use std::io;
 
 // The id under which the table's read is awaited.
 const ID: u64 = 1;
 
 // `REF@ADDR+LEN:LIST`, behind the entries before it.
-fn print_entry(first: bool, r: usize, e: Entry) {
+fn print_entry(out: &mut Output, first: bool, r: usize, e: Entry) {
     let loc = e.loc;
     if !first {
-        text(b";");
+        text(out, b";");
     }
-    number(r as u64);
-    word(b"@", loc.addr);
-    word(b"+", loc.len);
-    text(b":");
-    list(e.succs);
+    number(out, r as u64);
+    word(out, b"@", loc.addr);
+    word(out, b"+", loc.len);
+    text(out, b":");
+    list(out, e.succs);
 }
 
 // A table in a script's form. Each of its references has a location.
-fn print_table(t: Table) {
+fn print_table(out: &mut Output, t: Table) {
     let mut first = true;
-    let mut r: usize = 0;
-    while r < 64 {
+    for r in 0..64 {
         let e = t.entries[r];
         if e.allocated {
-            print_entry(first, r, e);
+            print_entry(out, first, r, e);
             first = false;
         }
-        r += 1;
     }
 }
 
-fn print_number(k: u64) {
+fn print_number(out: &mut Output, k: u64) {
     let small = numbering::small_table(0, k);
-    word(b"number=", k);
-    text(b" table=");
-    print_table(small.table);
-    text(b"\n");
+    word(out, b"number=", k);
+    text(out, b" table=");
+    print_table(out, small.table);
+    text(out, b"\n");
 }
 
-fn print_numbers() {
-    let mut k: u64 = 0;
-    while k < numbering::small_tables() {
-        print_number(k);
-        k += 1;
+fn print_numbers(out: &mut Output) {
+    for k in 0..numbering::small_tables() {
+        print_number(out, k);
     }
 }
 
@@ -116,24 +113,24 @@ fn taken(device: u64, k: u64) -> u64
 
 fn accepted(device: u64) -> u64 {
     let mut n: u64 = 0;
-    let mut k: u64 = 0;
-    while k < numbering::small_tables() {
+    for k in 0..numbering::small_tables() {
         n += taken(device, k);
-        k += 1;
     }
     n
 }
 
-fn print_device(device: u64) {
-    word(b"device=", device);
-    word(b" tables=", numbering::small_tables());
-    word(b" accepted=", accepted(device));
-    text(b"\n");
+fn print_device(out: &mut Output, device: u64) {
+    word(out, b"device=", device);
+    word(out, b" tables=", numbering::small_tables());
+    word(out, b" accepted=", accepted(device));
+    text(out, b"\n");
 }
 
-fn main() {
-    print_numbers();
-    print_device(0);
-    print_device(1);
-    print_device(2);
+fn main(rt: HostRuntime) -> io::Result<()> {
+    let mut out = Output::new(rt.stdout());
+    print_numbers(&mut out);
+    print_device(&mut out, 0);
+    print_device(&mut out, 1);
+    print_device(&mut out, 2);
+    finish(out)
 }
