@@ -1,5 +1,4 @@
 -- One scan keeps both flags and the running address (`running_addr`, on the device). Assumes nothing.
-use Prim.Native.Nat.{◌-◌}
 use mathlib.Core.Path.{ap}
 use borrow.Author.Rules.{rules}
 use Rattle.base.proofs.Scan.{all_end, all_none, all_turn}
