@@ -1,5 +1,4 @@
 -- A scan that marks each location's block. Assumes nothing.
-use Prim.Native.Nat.{◌-◌}
 use mathlib.Core.Path.{◌∙◌}
 use borrow.Author.Rules.{rules}
 use Rattle.bitmap.proofs.MarksMade.{scan_end, scan_none, scan_skip, scan_turn, table_scanned}

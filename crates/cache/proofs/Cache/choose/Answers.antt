@@ -2,7 +2,7 @@
 use mathlib.Core.Bool.{true}
 use mathlib.Core.Path.{◌∙◌, ◌≡◌, sym}
 use borrow.Author.Tests.{lt-ltb}
-use Rattle.base.proofs.Tests.{and_left, not_iff, not_true_iff}
+use Rattle.base.proofs.Tests.{and_left}
 use Rattle.bitmap.proofs.Chosen.{block_below, none_free, one_free}
 use Rattle.blockcache.proofs.Chooser.{choice_unformed, choice_unnamed, choice_unready}
 use Rattle.blockdisk.specs.Form.{is_rule}

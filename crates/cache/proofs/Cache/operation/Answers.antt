@@ -1,10 +1,10 @@
 -- Outside the limits: 1. Else by what Alloc's and Dirty's methods ensure of the operation's call. Assumes nothing.
-use mathlib.Core.Bool.{Bool, ◌&&◌, false, not, true}
+use mathlib.Core.Bool.{Bool, ◌&&◌, false, true}
 use mathlib.Core.Path.{◌∙◌, ◌≡◌, ap, subst}
 use native.Mathlib.Omega.{arith}
 use borrow.Author.Tests.{leb-true}
 use lib.Dec.{leb}
-use Rattle.base.proofs.Tests.{and_left, not_iff, not_true_iff}
+use Rattle.base.proofs.Tests.{and_left}
 use Rattle.base.specs.Refusals.{answer}
 use Rattle.blockcache.specs.Operations.{operation_answer, operation_call, operation_form, operation_next}
 use Rattle.blockcache.specs.Step.{answered, outcome, past_gate}

@@ -1,9 +1,7 @@
 -- An operation more by what `advanced` ensures; after the last, by `walk_is`. Assumes nothing.
-use Prim.Native.Nat.{◌≤◌}
-use mathlib.Core.Path.{◌≡◌, sym}
+use mathlib.Core.Path.{◌≡◌}
 use lib.ListN.{length}
 use native.Mathlib.Nat.{le_antisymm}
-use native.Mathlib.Omega.{arith}
 use borrow.Author.Rules.{rules}
 use Rattle.blockcache.proofs.Walk.{walk_is, walked_more, walked_none}
 use Rattle.blockcache.specs.Walk.{limit}

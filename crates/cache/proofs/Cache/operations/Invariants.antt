@@ -1,7 +1,7 @@
 -- After i operations the walk is `walked` at i.
 use Prim.Native.Nat.{◌-◌, ◌≤◌}
 use mathlib.Core.Path.{◌≡◌}
-use Rattle.blockcache.specs.Walk.{begun, limit, walked}
+use Rattle.blockcache.specs.Walk.{walked}
 use Rattle.cache.proofs.Cache.operations.Given as goal
 
 abbrev pub invariant-loop-i : goal.invariant-loop-i

@@ -1,6 +1,6 @@
 -- Not in its written form: 1. Else what V, D and phase refuse; past them, what the step does, with the marks of what it leaves. Assumes nothing.
 use mathlib.Core.Path.{◌∙◌, sym}
-use Rattle.base.proofs.Tests.{and_left, not_iff, not_true_iff}
+use Rattle.base.proofs.Tests.{and_left}
 use Rattle.blockcache.proofs.Bounds.{read_reference}
 use Rattle.blockcache.proofs.Forms.{well_formed_iff}
 use Rattle.blockcache.proofs.Arms.{arm_moved, arm_shut, arm_stays, arm_unformed, arm_unnamed, formed}

@@ -1,6 +1,5 @@
 -- Refused: the cache as it was. Accepted: by what the callees ensure. Assumes nothing.
 use mathlib.Core.Path.{◌∙◌, sym}
-use borrow.Author.Rules.{rules}
 use borrow.Author.Tests.{eq-eqb, ne_eqb}
 use Rattle.blockcache.specs.Step.{past_gate}
 use Rattle.cache.proofs.Cache.write_back_indirection_table_req.Goals as goal

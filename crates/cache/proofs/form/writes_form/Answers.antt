@@ -1,5 +1,4 @@
 -- A scan with a flag, after the queue's own form. Assumes nothing.
-use Prim.Native.Nat.{◌-◌}
 use mathlib.Core.Path.{refl}
 use borrow.Author.Rules.{rules}
 use Rattle.base.proofs.Scan.{all_end, all_none, all_turn}

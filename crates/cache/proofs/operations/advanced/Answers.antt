@@ -1,8 +1,6 @@
 -- After a refusal the walk as it is; else by what `operation` ensures. Assumes nothing.
 use mathlib.Core.Path.{◌∙◌, ap, sym}
 use borrow.Author.Tests.{eq-eqb, ne_eqb}
-use lib.Dec.{eqb}
-use Rattle.base.proofs.Tests.{not_iff, not_true_iff}
 use Rattle.blockcache.specs.Operations.{operation_answer}
 use Rattle.blockcache.specs.Walk.{advanced}
 use Rattle.cache.proofs.operations.advanced.Goals as goal

@@ -1,5 +1,4 @@
 -- A scan with a flag. Assumes nothing.
-use Prim.Native.Nat.{◌-◌}
 use borrow.Author.Rules.{rules}
 use Rattle.base.proofs.Scan.{some_end, some_none, some_turn}
 use Rattle.blockcache.specs.Scan.{writes_to}

@@ -1,5 +1,4 @@
 -- Three counts of the references passed. Assumes nothing.
-use Prim.Native.Nat.{◌-◌}
 use native.Mathlib.Omega.{arith}
 use borrow.Author.Rules.{rules}
 use Rattle.base.proofs.Scan.{count_none, count_turn}

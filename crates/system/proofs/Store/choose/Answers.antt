@@ -1,6 +1,5 @@
 -- A disk out of its written form: 1. Else what the cache gives. Each by its law. Assumes nothing.
 use mathlib.Core.Path.{◌∙◌, sym}
-use Rattle.base.proofs.Tests.{not_iff, not_true_iff}
 use Rattle.blocksystem.proofs.Choosing.{choice_formed, choice_misformed}
 use Rattle.system.proofs.Store.choose.Goals as goal
 

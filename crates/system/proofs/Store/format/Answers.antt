@@ -1,7 +1,6 @@
 -- A device that is not made or a rule that is none, and the rest. Assumes nothing.
 use mathlib.Core.Bool.{◌&&◌, false, true}
 use mathlib.Core.Path.{◌≡◌}
-use Rattle.base.proofs.Tests.{not_iff, not_true_iff}
 use Rattle.blockdisk.specs.Form.{is_rule}
 use Rattle.disklayout.specs.Device.{made}
 use Rattle.blocksystem.specs.Format.{formatted}
