@@ -8,13 +8,13 @@ use Rattle.disklayout.specs.Layout.{overlap}
 use Rattle.kiosk.specs.Places.{at}
 use Rattle.kiosk.proofs.layout_overlap.Goals as goal
 
-cast-is-bit : (b : Bool) → bool_byte b ≡ bit b
-cast-is-bit true = refl
-cast-is-bit false = refl
+cast_is_bit : (b : Bool) → bool_byte b ≡ bit b
+cast_is_bit true = refl
+cast_is_bit false = refl
 
 pub returns : goal.returns
 returns c =
     let args = c.args in
     let told : c.overlap.result.yes ≡ (flag args.device (overlap (at args.addr1 args.len1) (at args.addr2 args.len2))).yes =
     rw (c.overlap.ensures, c.place-2.ensures, c.place.ensures) in
-    cast-is-bit c.overlap.result.yes ∙ ap bit told
+    cast_is_bit c.overlap.result.yes ∙ ap bit told

@@ -36,21 +36,21 @@ module _ (g : Settings) (c : CacheState) (q : Call) (n : ℕ) where
       sym (ap (λ k. ended k 0 c) e)
 
   -- the same of what the step's outcome x answers
-  begun-long : (x : CacheOutcome) → x ≡ cache_step g c 20 q → (eqb x.answer 0 && ltb 32 n) ≡ true → ended 24 0 c ≡ begun g c q n
-  begun-long x e t = too_long (subst (λ (k : ℕ). (eqb k 0 && ltb 32 n) ≡ true) (ap (λ o. o.answer) e ∙ step_answer g c 20 q) t)
+  begun_long : (x : CacheOutcome) → x ≡ cache_step g c 20 q → (eqb x.answer 0 && ltb 32 n) ≡ true → ended 24 0 c ≡ begun g c q n
+  begun_long x e t = too_long (subst (λ (k : ℕ). (eqb k 0 && ltb 32 n) ≡ true) (ap (λ o. o.answer) e ∙ step_answer g c 20 q) t)
 
-  begun-within : (x : CacheOutcome) → x ≡ cache_step g c 20 q → (eqb x.answer 0 && ltb 32 n) ≡ false →
+  begun_within : (x : CacheOutcome) → x ≡ cache_step g c 20 q → (eqb x.answer 0 && ltb 32 n) ≡ false →
       ended x.answer 0 c ≡ begun g c q n
-  begun-within x e t =
+  begun_within x e t =
       let a : x.answer ≡ twenty = ap (λ o. o.answer) e ∙ step_answer g c 20 q in
       ap (λ k. ended k 0 c) a ∙ within (subst (λ (k : ℕ). (eqb k 0 && ltb 32 n) ≡ false) a t)
 
 pub returns-then-long : goal.returns-then-long
 returns-then-long c =
     let a = c.args in
-    begun-long a.self.settings a.self.state a.q a.length _ c.step-x.ensures c.if-long.true
+    begun_long a.self.settings a.self.state a.q a.length _ c.step-x.ensures c.if-long.true
 
 pub returns-else-long : goal.returns-else-long
 returns-else-long c =
     let a = c.args in
-    begun-within a.self.settings a.self.state a.q a.length _ c.step-x.ensures c.if-long.false
+    begun_within a.self.settings a.self.state a.q a.length _ c.step-x.ensures c.if-long.false

@@ -1,5 +1,6 @@
 -- Arm by arm, by what the step's method ensures; the rest is no step's number. Assumes nothing.
 use Rattle.base.specs.Refusals.{answer}
+use borrow.Author.Rules.{rules}
 use Rattle.blockcache.proofs.Numbers.{no_step}
 use Rattle.blockcache.specs.Step.{past_gate}
 use Rattle.blockcache.specs.Steps.{step_of, steps}
@@ -87,4 +88,4 @@ returns-in-20 c = simp c.in-20.is c.answered.ensures
 
 pub returns-in_default : goal.returns-in_default
 unfolding steps
-returns-in_default c = simp (no_step _ c.in_default.in_default-own.rest) c.answered-in_default.ensures
+returns-in_default c = simp (no_step c.args.number (search rules)) c.answered-in_default.ensures

@@ -6,8 +6,8 @@ use Rattle.cache.proofs.Cache.page_in_indirection_table_resp.Goals as goal
 pub returns-then-not-awaits : goal.returns-then-not-awaits
 unfolding past_gate answer
 returns-then-not-awaits c =
-    let not-awaited = rw (c.awaits_table-awaits.ensures, c.dop_id-id.ensures) at c.if-not-awaits.true in
-    simp (not-awaited, c.answered.ensures)
+    let not_awaited = rw (c.awaits_table-awaits.ensures, c.dop_id-id.ensures) at c.if-not-awaits.true in
+    simp (not_awaited, c.answered.ensures)
 
 pub returns-in_default : goal.returns-in_default
 unfolding past_gate answer

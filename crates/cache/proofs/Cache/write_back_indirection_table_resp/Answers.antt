@@ -6,8 +6,8 @@ use Rattle.cache.proofs.Cache.write_back_indirection_table_resp.Goals as goal
 pub returns-then-not-awaits : goal.returns-then-not-awaits
 unfolding past_gate answer
 returns-then-not-awaits c =
-    let not-awaited = rw (c.awaits_table-awaits.ensures, c.dop_id-id.ensures) at c.if-not-awaits.true in
-    simp (not-awaited, c.answered.ensures, c.same_loc-same.ensures, c.vop_loc-vloc.ensures, c.dop_id-id.ensures)
+    let not_awaited = rw (c.awaits_table-awaits.ensures, c.dop_id-id.ensures) at c.if-not-awaits.true in
+    simp (not_awaited, c.answered.ensures, c.same_loc-same.ensures, c.vop_loc-vloc.ensures, c.dop_id-id.ensures)
 
 pub returns-then-not-there : goal.returns-then-not-there
 unfolding past_gate answer

@@ -1,4 +1,5 @@
 -- Arm by arm: what the step takes, by what its kinds and the phase's tests ensure; the rest is no step's number. Assumes nothing.
+use borrow.Author.Rules.{rules}
 use Rattle.blockcache.proofs.Numbers.{no_step}
 use Rattle.blockcache.specs.Step.{gated}
 use Rattle.blockcache.specs.Steps.{step_of, steps}
@@ -201,4 +202,4 @@ returns-in-20 c = simp (
 
 pub returns-in_default : goal.returns-in_default
 unfolding gated steps
-returns-in_default c = simp (no_step _ c.in_default.in_default-own.rest)
+returns-in_default c = simp (no_step c.args.number (search rules))

@@ -1,6 +1,7 @@
 -- Arm by arm, by what the function called there ensures. Assumes nothing.
 use mathlib.Core.Path.{sym}
 use Rattle.blockcache.specs.Steps.{step_of, steps}
+use borrow.Author.Rules.{rules}
 use Rattle.blocksystem.proofs.EveryStep.{pictures_same}
 use Rattle.blocksystem.specs.Names.{pictures_after}
 use Rattle.system.proofs.pictures.pictures_after.Goals as goal
@@ -35,6 +36,4 @@ returns-in-16 c = simp c.in-16.is c.set_node-in-16.ensures
 
 pub returns-in_default : goal.returns-in_default
 returns-in_default c =
-    let r = c.in_default.in_default-own.rest in
-    let r12 = r.0.0.0 in
-    sym (pictures_same _ _ _ r12.0.0.0.1 r12.0.0.1 r12.0.1 r12.1 r.0.0.1 r.0.1 r.1)
+    sym (pictures_same c.args.number c.args.q c.args.t (search rules) (search rules) (search rules) (search rules) (search rules) (search rules) (search rules))
