@@ -7,10 +7,10 @@
 set -eu
 rounds=${1:-2000}
 cd "$(dirname "$0")/.."
-rt check bench >/dev/null
+(cd crates/bench && rt run -- 1) >/dev/null 2>&1
 RUSTFLAGS="${RUSTFLAGS:-} -C llvm-args=-align-all-nofallthru-blocks=6" \
     cargo build --release --offline --quiet --manifest-path bench/Cargo.toml
-programs=(target/bin/bench bench/target/release/baseline bench/target/release/byvalue)
+programs=(crates/bench/out/bench bench/target/release/baseline bench/target/release/byvalue)
 
 # The processor time of one run in milliseconds; what it writes goes to the file named.
 timed() { # PROGRAM FILE
