@@ -22,6 +22,7 @@ KEEP = {"Loan", "Kept", "Ref", "Asks", "R", "T", "E", "S", "Tokens"}
 
 # names that would fall together with another: said by hand
 BY_HAND = {
+    "is-ready": "machine_ready", "tables-kept": "havoc_tables", "nodes-kept": "havoc_nodes", "cache-next": "next_cache",
     "bit-or": "bit_or_one",
     "FrozenLoc": "frozen_loc_of", "PersistentLoc": "persistent_loc_of", "Graph": "node_graph", "inOrder": "sets_in_order",
     "isFree": "is_free_block", "noTable": "no_table_read", "noWrites": "has_no_writes", "notWritten": "not_written_bytes",

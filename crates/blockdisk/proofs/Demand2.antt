@@ -214,8 +214,8 @@ crash_accepted d s o = (
           no_node_reads = places_none;
           no_table_writes = places_none;
           no_node_writes = places_none;
-          tables_kept_lem = (tables_havoc_iff d s o c.disk c.form).0 k.0;
-          nodes_kept_lem = (nodes_havoc_iff d s o c.disk c.form).0 k.1;
+          havoc_tables = (tables_havoc_iff d s o c.disk c.form).0 k.0;
+          havoc_nodes = (nodes_havoc_iff d s o c.disk c.form).0 k.1;
         },
       )),
   (λ (h, u). let g = (crash_wide_iff d s o).0 h in
@@ -226,7 +226,7 @@ crash_accepted d s o = (
         disk = f;
         form = r;
         placed = g.1;
-        kept = (records_kept_iff s.queues s.records o).1 ((tables_havoc_iff d s o f r).1 u.tables_kept_lem, (nodes_havoc_iff d s o f r).1 u.nodes_kept_lem);
+        kept = (records_kept_iff s.queues s.records o).1 ((tables_havoc_iff d s o f r).1 u.havoc_tables, (nodes_havoc_iff d s o f r).1 u.havoc_nodes);
       })),
 )
 

@@ -193,8 +193,8 @@ pub record Crash (s s' : Variables) : Type 0 where
   pub no_node_reads : s'.req_read_nodes ≡ empty
   pub no_table_writes : s'.req_write_indirection_tables ≡ empty
   pub no_node_writes : s'.req_write_nodes ≡ empty
-  pub tables_kept_lem : HavocMap s.indirection_tables s'.indirection_tables s.req_write_indirection_tables
-  pub nodes_kept_lem : HavocMap s.nodes s'.nodes s.req_write_nodes
+  pub havoc_tables : HavocMap s.indirection_tables s'.indirection_tables s.req_write_indirection_tables
+  pub havoc_nodes : HavocMap s.nodes s'.nodes s.req_write_nodes
 
 -- WHAT A DISK STANDS FOR
 

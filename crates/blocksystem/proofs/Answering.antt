@@ -113,7 +113,7 @@ module _ (d : ℕ) (s : State) (n : ℕ) (q : Call) (o : Records) where
         cache_unchanged = λ ne. (refused_unmoved d n q o s.cache s.disk ne).cache;
         disk_unchanged = λ ne. (refused_unmoved d n q o s.cache s.disk ne).disk;
         no_node = λ ne. (refused_unmoved d n q o s.cache s.disk ne).node;
-        cache_next_lem = λ e. rw (eq-eqb a 0 e);
+        next_cache = λ e. rw (eq-eqb a 0 e);
         disk_next = λ e. rw (eq-eqb a 0 e);
         node_read = λ e. rw (eq-eqb a 0 e);
       }

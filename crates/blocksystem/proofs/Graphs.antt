@@ -177,7 +177,7 @@ module _ (d : ℕ) (s : State) (v : Invariant d s) where
     ephemeral_working =
         record {
           x = x;
-          is_ready_lem = is;
+          machine_ready = is;
           wf = graph_wf disk x.ephemeral_indirection_table x.cache shown ok.working.pictured unlocated_cached;
           is = ephemeral_is;
         }
@@ -191,7 +191,7 @@ module _ (d : ℕ) (s : State) (v : Invariant d s) where
       frozen_frozen =
           record {
             x = x;
-            is_ready_lem = is;
+            machine_ready = is;
             table = f;
             is_frozen = e;
             wf = graph_wf disk f x.cache frozen_shown (ok.frozen f e).pictured (ok.frozen f e).cached;
@@ -221,7 +221,7 @@ module _ (d : ℕ) (s : State) (v : Invariant d s) where
   -- WHERE THEY ARE DEFINED, and upstream's options of them
 
   pub wf_ephemeral_iff : WFEphemeralGraph vars ↔ ((x : Ready) × (cache_vars s.cache ≡ ready x))
-  wf_ephemeral_iff = ((λ (g, k). (k.x, k.is_ready_lem)), (λ (x, e). (shown, ephemeral_working x e)))
+  wf_ephemeral_iff = ((λ (g, k). (k.x, k.machine_ready)), (λ (x, e). (shown, ephemeral_working x e)))
 
   pub wf_loading_iff : WFLoadingGraph d vars
       ↔ ((l : Location) × (read : Option ℕ) × (cache_vars s.cache ≡ loading_indirection_table l read))
@@ -229,19 +229,19 @@ module _ (d : ℕ) (s : State) (v : Invariant d s) where
 
   pub wf_frozen_iff : WFFrozenGraph vars ↔ UseFrozenGraph (cache_vars s.cache)
   wf_frozen_iff = (
-    (λ (g, k). (k.x, k.is_ready_lem, ap is_some k.is_frozen)),
+    (λ (g, k). (k.x, k.machine_ready, ap is_some k.is_frozen)),
     (λ (x, e, t). let f = (some_iff x.frozen_indirection_table).0 t in (frozen_shown, frozen_frozen x e f.0 f.1)),
   )
 
   -- and there is no other
   same_ephemeral : (g : Map Node) → EphemeralGraph vars g → g ≡ shown
-  same_ephemeral g k = k.is ∙ sym (ephemeral_is k.x k.is_ready_lem)
+  same_ephemeral g k = k.is ∙ sym (ephemeral_is k.x k.machine_ready)
 
   same_loading : (g : Map Node) → LoadingGraph d vars g → g ≡ shown
   same_loading g k = k.is ∙ sym (being_loaded k.loc k.read k.is_loading).is
 
   same_frozen : (g : Map Node) → FrozenGraph vars g → g ≡ frozen_shown
-  same_frozen g k = k.is ∙ sym (frozen_picture_is k.x k.is_ready_lem k.table k.is_frozen)
+  same_frozen g k = k.is ∙ sym (frozen_picture_is k.x k.machine_ready k.table k.is_frozen)
 
   only_shown : (o : Option (Map Node)) → o ≡ some shown → (g : Map Node) → (EphemeralGraph vars g ⊎ LoadingGraph d vars g) → o ≡ some g
   only_shown o i g k = i ∙ ap some (sym (⊎_elim (same_ephemeral g) (same_loading g) k))
@@ -259,7 +259,7 @@ module _ (d : ℕ) (s : State) (v : Invariant d s) where
   )
   ephemeral_in unready e o =
       let neither : ((g : Map Node) → (EphemeralGraph vars g ⊎ LoadingGraph d vars g) → ⊥) =
-      λ g. ⊎_elim (λ k. let r = k.is_ready_lem in absurd (let z : ◌≡◌ {A = ℕ} 0 1 = cc in omega arith))
+      λ g. ⊎_elim (λ k. let r = k.machine_ready in absurd (let z : ◌≡◌ {A = ℕ} 0 1 = cc in omega arith))
       (λ k. let r = k.is_loading in absurd (let z : ◌≡◌ {A = ℕ} 0 1 = cc in omega arith)) in
       ((λ h. h.not_given neither), (λ i. record { given = λ g k. absurd (neither g k); not_given = λ none_is. i }))
 

@@ -92,7 +92,7 @@ module _ (d : ℕ) where
     pub disk_unchanged : ((asked s n q o).answer ≡ 0 → ⊥) → (asked s n q o).disk ≡ s.disk
     pub no_node : ((asked s n q o).answer ≡ 0 → ⊥) → (asked s n q o).node ≡ zero_node
     -- an accepted one the next cache and disk, and the node of a read
-    pub cache_next_lem : (asked s n q o).answer ≡ 0 → (asked s n q o).cache ≡ (cache_step (settings_of d s.disk) s.cache n q).cache
+    pub next_cache : (asked s n q o).answer ≡ 0 → (asked s n q o).cache ≡ (cache_step (settings_of d s.disk) s.cache n q).cache
     pub disk_next : (asked s n q o).answer ≡ 0 → (asked s n q o).disk ≡ (disk_asked d n q o s.disk).disk
     pub node_read : (asked s n q o).answer ≡ 0 → (asked s n q o).node ≡ (cache_step (settings_of d s.disk) s.cache n q).node
 

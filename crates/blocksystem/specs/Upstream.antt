@@ -137,7 +137,7 @@ pub record DiskChangesPreservesPersistentAndFrozen (d : ℕ) (s s' : Variables) 
 -- WFFrozenGraph, and FrozenGraph
 pub record FrozenGraph (s : Variables) (g : Map Node) : Type 0 where
   pub x : Ready
-  pub is_ready_lem : s.machine ≡ ready x
+  pub machine_ready : s.machine ≡ ready x
   pub table : IndirectionTable
   pub is_frozen : x.frozen_indirection_table ≡ some table
   pub wf : WFDiskCacheGraph table s.disk x.cache
@@ -171,7 +171,7 @@ WFLoadingGraph d s = (g : Map Node) × LoadingGraph d s g
 -- WFEphemeralGraph, and EphemeralGraph
 pub record EphemeralGraph (s : Variables) (g : Map Node) : Type 0 where
   pub x : Ready
-  pub is_ready_lem : s.machine ≡ ready x
+  pub machine_ready : s.machine ≡ ready x
   pub wf : WFDiskCacheGraph x.ephemeral_indirection_table s.disk x.cache
   pub is : g ≡ disk_cache_graph x.ephemeral_indirection_table s.disk x.cache
 
