@@ -1,4 +1,4 @@
--- Upstream's DiskLayout, over any row of four numbers, under upstream's names: addresses and the kinds of place.
+-- Upstream's DiskLayout, over any row of four numbers, under upstream's names in snake case: addresses and the kinds of place.
 -- Upstream's Bounds, which the source lacks, are the row's numbers. Sums are sums of unbounded numbers.
 use Rattle.std.specs.Prelude.{Bool, ◌&&◌, ◌||◌, cond, ℕ, ◌+◌, ◌-◌, ◌*◌, ◌/◌, ◌%◌, ◌^◌, eqb, leb, ltb}
 use Rattle.disklayout.specs.declared.Device.{Device}

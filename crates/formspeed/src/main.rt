@@ -1,4 +1,4 @@
-// A million calls of the disk that do nothing but judge its written form, to be timed: `time target/bin/formspeed`.
+// A million calls of the disk that do nothing but judge its written form, to be timed: `time crates/formspeed/out/formspeed`.
 // Prints how many were accepted.
 #![tactic(auto)]
 
