@@ -1,5 +1,5 @@
--- The steps: a constructor for each of document 01's, under upstream's names in snake case, and of document 02's, and the one function from a number to its
--- step. The reference and the node that upstream's constructors carry are those of the call.
+-- The steps: a constructor for each of document 01's, under upstream's names in snake case, and of document 02's, and the one function
+-- from a number to its step. The reference and the node that upstream's constructors carry are those of the call.
 use Rattle.std.specs.Prelude.{suc, zero, ℕ, Bool, ◌||◌, List, [], ◌∷◌, eqb}
 use Rattle.std.proofs.Math.Option.{Option, none}
 use Rattle.base.specs.Lists.{nth}
