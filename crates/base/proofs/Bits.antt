@@ -41,7 +41,8 @@ or_is zero b = refl
 or_is (suc a) b = bit_or-bitwise (suc a) b
 
 or_block : (k a b r s : ℕ) → r < 2 ^ k → s < 2 ^ k → bit_or (a * 2 ^ k + r) (b * 2 ^ k + s) ≡ bit_or a b * 2 ^ k + bit_or r s
-or_block k a b r s u v = or_is (a * 2 ^ k + r) (b * 2 ^ k + s) ∙ bitwise_block (λ b. b) max or_hz refl k a b r s u v ∙ rw (or_is a b, or_is r s)
+or_block k a b r s u v =
+    or_is (a * 2 ^ k + r) (b * 2 ^ k + s) ∙ bitwise_block (λ b. b) max or_hz refl k a b r s u v ∙ rw (or_is a b, or_is r s)
 
 or_bits : (a b : Bool) → bit_or (bit a) (bit b) ≡ bit (a || b)
 or_bits true true = refl
@@ -113,7 +114,8 @@ word_shift g j m = rw (word_cut g j m) (high (word_of (λ k. g (j + k)) m) j (wo
 
 word_odd : (g : ℕ → Bool) (m : ℕ) → word_of g (1 + m) % 2 ≡ bit (g 0)
 unfolding word_of
-word_odd g m = rw (word_cut g 1 m) (low (word_of (λ k. g (1 + k)) m) 1 (word_lt g 1) ∙ (let z : bit (g 0) * 1 + 0 ≡ bit (g 0) = omega arith in z))
+word_odd g m =
+    rw (word_cut g 1 m) (low (word_of (λ k. g (1 + k)) m) 1 (word_lt g 1) ∙ (let z : bit (g 0) * 1 + 0 ≡ bit (g 0) = omega arith in z))
 
 pub word_digit : (g : ℕ → Bool) (n k : ℕ) → k < n → word_of g n / 2 ^ k % 2 ≡ bit (g k)
 word_digit g n k h =
@@ -172,7 +174,8 @@ word_zero_iff g n = (
 
 -- TRAILING ZEROS
 
-first_next : (g : ℕ → Bool) (n : ℕ) → g 0 ≡ false → some_below (λ k. g (1 + k)) n ≡ true → first_below g (1 + n) ≡ 1 + first_below (λ k. g (1 + k)) n
+first_next : (g : ℕ → Bool) (n : ℕ) → g 0 ≡ false → some_below (λ k. g (1 + k)) n ≡ true →
+    first_below g (1 + n) ≡ 1 + first_below (λ k. g (1 + k)) n
 first_next g n z e =
     let f = first_below (λ k. g (1 + k)) n in
     let l : f < n = first_found (λ k. g (1 + k)) n e in

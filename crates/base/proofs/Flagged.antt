@@ -20,7 +20,8 @@ flagged_each_iff true a P = ((λ h e. h a refl), (λ h t e. let q : a ≡ t = cc
 flagged_each_iff false a P = ((λ h e. absurd (false≢true e)), (λ h t e. never e))
 
 -- what is not flagged is the one blank z, so two flagged things that are equal as options are equal, flag and thing
-pub flagged_ext : {A : Type 0} (b c : Bool) (x y z : A) → (b ≡ false → x ≡ z) → (c ≡ false → y ≡ z) → flagged b x ≡ flagged c y → (b ≡ c) × (x ≡ y)
+pub flagged_ext : {A : Type 0} (b c : Bool) (x y z : A) → (b ≡ false → x ≡ z) → (c ≡ false → y ≡ z) → flagged b x ≡ flagged c y → (b ≡ c)
+    × (x ≡ y)
 flagged_ext true true x y z f g e = (refl, cc)
 flagged_ext true false x y z f g e = never (sym e)
 flagged_ext false true x y z f g e = never e

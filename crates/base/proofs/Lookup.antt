@@ -17,16 +17,19 @@ use Rattle.base.specs.Queue.{key_at, has_in, find_in, spot_in, insert_in, remove
 use Rattle.base.proofs.Tests.{split, never, and_left, and_right}
 use Rattle.base.proofs.Scan.{some_at, none_at, some_of_none, first_is, first_found, first_passes, below_or_last}
 use Rattle.base.proofs.Maps.{put_same, put_other, del_same, del_other, flagged_some, flagged_is_some}
-use Rattle.base.proofs.QueueForm.{form_count, form_step, insert_form, remove_form, spot_used, now_before, now_at, now_behind, left_before, left_behind}
+use Rattle.base.proofs.QueueForm.{form_count, form_step, insert_form, remove_form, spot_used, now_before, now_at, now_behind, left_before}
+use Rattle.base.proofs.QueueForm.{left_behind}
 
 module _ {A : Type 0} (key : A → ℕ) (z : A) (cap : ℕ) where
   -- an id that no entry in use has
   pub lookup_none : (n : ℕ) (l : List A) (id : ℕ) → ((k : ℕ) → k < n → key (get_or l k z) ≡ id → ⊥) → lookup_in key z cap n l id ≡ none
   lookup_none n l id h =
-      rw (some_of_none (key_at key z cap n l id) cap (λ k b. split (ltb k n) (λ t. rw (t, ne_eqb (key (get_or l k z)) id (h k (ltb-true k n t)))) (λ t. rw t)))
+      rw (some_of_none (key_at key z cap n l id) cap
+      (λ k b. split (ltb k n) (λ t. rw (t, ne_eqb (key (get_or l k z)) id (h k (ltb-true k n t)))) (λ t. rw t)))
 
   -- a lookup that succeeds names an entry in use
-  pub lookup_place : (n : ℕ) (l : List A) (id : ℕ) {w : A} → lookup_in key z cap n l id ≡ some w → (k : ℕ) × (k < n) × (get_or l k z ≡ w) × (key w ≡ id)
+  pub lookup_place : (n : ℕ) (l : List A) (id : ℕ) {w : A} → lookup_in key z cap n l id ≡ some w → (k : ℕ) × (k < n) × (get_or l k z ≡ w)
+      × (key w ≡ id)
   lookup_place n l id {w} e =
       let f = flagged_some (has_in key z cap n l id) (get_or l (find_in key z cap n l id) z) e in
       let p = first_passes (key_at key z cap n l id) cap (first_found (key_at key z cap n l id) cap f.0) in
@@ -54,14 +57,17 @@ module _ {A : Type 0} (key : A → ℕ) (z : A) (cap : ℕ) where
         let c = form_count key z cap ok blank n l form in
         let here : key_at key z cap n l id k ≡ true = rw (lt-ltb k n b, eq-eqb _ _ e) in
         let lower : (j : ℕ) → j < k → key_at key z cap n l id j ≡ false =
-        λ j a. let r = rising k j a b in rw (lt-ltb j n (omega arith), ne_eqb (key (get_or l j z)) id (λ (q : key (get_or l j z) ≡ id). omega arith)) in
+        λ j a. let r = rising k j a b in
+        rw (lt-ltb j n (omega arith), ne_eqb (key (get_or l j z)) id (λ (q : key (get_or l j z) ≡ id). omega arith)) in
         rw (some_at (key_at key z cap n l id) cap k (omega arith) here, first_is (key_at key z cap n l id) cap k (omega arith) here lower)
 
     -- a test that fails at each entry in use
-    pub none_iff_lookup : (p : A → Bool) → (some_below (λ k. ltb k n && p (get_or l k z)) cap ≡ false) ↔ ((id : ℕ) (w : A) → lookup_in key z cap n l id ≡ some w → p w ≡ false)
+    pub none_iff_lookup : (p : A → Bool) →
+        (some_below (λ k. ltb k n && p (get_or l k z)) cap ≡ false) ↔ ((id : ℕ) (w : A) → lookup_in key z cap n l id ≡ some w → p w ≡ false)
     none_iff_lookup p = (to, from)
       where
-        to : some_below (λ k. ltb k n && p (get_or l k z)) cap ≡ false → (id : ℕ) (w : A) → lookup_in key z cap n l id ≡ some w → p w ≡ false
+        to : some_below (λ k. ltb k n && p (get_or l k z)) cap ≡ false → (id : ℕ) (w : A) → lookup_in key z cap n l id ≡ some w →
+            p w ≡ false
         to e id w h =
             let c = form_count key z cap ok blank n l form in
             let f = lookup_place n l id h in
@@ -70,22 +76,26 @@ module _ {A : Type 0} (key : A → ℕ) (z : A) (cap : ℕ) where
             let g : (ltb k n && p (get_or l k z)) ≡ false = none_at (λ k. ltb k n && p (get_or l k z)) cap k e (omega arith) in
             rw (lt-ltb k n b, f.2) at g
 
-        from : ((id : ℕ) (w : A) → lookup_in key z cap n l id ≡ some w → p w ≡ false) → some_below (λ k. ltb k n && p (get_or l k z)) cap ≡ false
+        from : ((id : ℕ) (w : A) → lookup_in key z cap n l id ≡ some w → p w ≡ false) →
+            some_below (λ k. ltb k n && p (get_or l k z)) cap ≡ false
         from h =
             some_of_none (λ k. ltb k n && p (get_or l k z)) cap
-            (λ k b. split (ltb k n) (λ t. rw (t, h (key (get_or l k z)) (get_or l k z) (lookup_at k (key (get_or l k z)) (ltb-true k n t) refl))) (λ t. rw t))
+            (λ k b. split (ltb k n) (λ t. rw
+            (t, h (key (get_or l k z)) (get_or l k z) (lookup_at k (key (get_or l k z)) (ltb-true k n t) refl))) (λ t. rw t))
 
     -- nothing outstanding
     pub count_zero_iff : (n ≡ 0) ↔ ((id : ℕ) → lookup_in key z cap n l id ≡ none)
     count_zero_iff = (
       (λ e id. lookup_none n l id (λ k b q. omega arith)),
       (λ h. split (eqb n 0) (λ t. eqb-true n 0 t)
-          (λ f. let ne : (n ≡ 0 → ⊥) = eqb-false n 0 f in never (sym (h (key (get_or l 0 z))) ∙ lookup_at 0 (key (get_or l 0 z)) (omega arith) refl))),
+          (λ f. let ne : (n ≡ 0 → ⊥) = eqb-false n 0 f in
+          never (sym (h (key (get_or l 0 z))) ∙ lookup_at 0 (key (get_or l 0 z)) (omega arith) refl))),
     )
 
   -- AFTER AN ENTRY WITH A NEW KEY IS PUT IN
 
-  module _ (ok blank : A → Bool) (n : ℕ) (l : List A) (w : A) (room : n < cap) (new : has_in key z cap n l (key w) ≡ false) (good : ok w ≡ true) (form : queue_form key z cap ok blank n l ≡ true) where
+  module _ (ok blank : A → Bool) (n : ℕ) (l : List A) (w : A) (room : n < cap) (new : has_in key z cap n l (key w) ≡ false)
+      (good : ok w ≡ true) (form : queue_form key z cap ok blank n l ≡ true) where
     abbrev grown : List A
     grown = insert_in key z cap n l w
 
@@ -103,7 +113,8 @@ module _ {A : Type 0} (key : A → ℕ) (z : A) (cap : ℕ) where
         rw e at (lookup_at ok blank (n + 1) grown grown_form k (key (get_or l k z)) (omega arith) (ap key e)))
         (λ t. let a : spot ≤ k = ltb-false _ _ t in
         let q : k + 1 - 1 ≡ k = omega arith in
-        let e : get_or grown (k + 1) z ≡ get_or l k z = rw q at (now_behind key z cap ok blank n l w room new good form (k + 1) (omega arith) (omega arith)) in
+        let e : get_or grown (k + 1) z ≡ get_or l k z = rw q at
+        (now_behind key z cap ok blank n l w room new good form (k + 1) (omega arith) (omega arith)) in
         rw e at (lookup_at ok blank (n + 1) grown grown_form (k + 1) (key (get_or l k z)) (omega arith) (ap key e)))
 
     grown_new : lookup_in key z cap (n + 1) grown (key w) ≡ some w
@@ -145,11 +156,13 @@ module _ {A : Type 0} (key : A → ℕ) (z : A) (cap : ℕ) where
         at id =
             split (eqb id (key w))
             (λ t. let e : id ≡ key w = eqb-true _ _ t in rw e (grown_new ∙ sym (put_same (lookup_in key z cap n l) (key w) w)))
-            (λ t. let ne : (id ≡ key w → ⊥) = eqb-false _ _ t in kept id (lookup_in key z cap n l id) ne refl ∙ sym (put_other (lookup_in key z cap n l) (key w) w id ne))
+            (λ t. let ne : (id ≡ key w → ⊥) = eqb-false _ _ t in
+            kept id (lookup_in key z cap n l id) ne refl ∙ sym (put_other (lookup_in key z cap n l) (key w) w id ne))
 
   -- AFTER THE ENTRY OF AN ID IS TAKEN OUT
 
-  module _ (ok blank : A → Bool) (n : ℕ) (l : List A) (id : ℕ) (there : has_in key z cap n l id ≡ true) (none_blank : blank z ≡ true) (form : queue_form key z cap ok blank n l ≡ true) where
+  module _ (ok blank : A → Bool) (n : ℕ) (l : List A) (id : ℕ) (there : has_in key z cap n l id ≡ true) (none_blank : blank z ≡ true)
+      (form : queue_form key z cap ok blank n l ≡ true) where
     abbrev spot' : ℕ
     spot' = find_in key z cap n l id
 
@@ -178,7 +191,8 @@ module _ {A : Type 0} (key : A → ℕ) (z : A) (cap : ℕ) where
         rw e at (lookup_at ok blank (n - 1) shrunk shrunk_form k (key (get_or l k z)) (omega arith) (ap key e)))
         (λ t. let a : spot' ≤ k = ltb-false _ _ t in
         let q : k - 1 + 1 ≡ k = omega arith in
-        let e : get_or shrunk (k - 1) z ≡ get_or l k z = rw q at (left_behind key z cap ok blank n l spot' u none_blank form (k - 1) (omega arith)) in
+        let e : get_or shrunk (k - 1) z ≡ get_or l k z = rw q at
+        (left_behind key z cap ok blank n l spot' u none_blank form (k - 1) (omega arith)) in
         rw e at (lookup_at ok blank (n - 1) shrunk shrunk_form (k - 1) (key (get_or l k z)) (omega arith) (ap key e)))
 
     -- no entry but those that were there, and not the one taken out
@@ -204,7 +218,8 @@ module _ {A : Type 0} (key : A → ℕ) (z : A) (cap : ℕ) where
             (λ t. let lt : k < spot' = ltb-true _ _ t in
             rw (left_before key z cap ok blank n l spot' u none_blank form k lt) (old k (omega arith) (λ (q : k ≡ spot'). omega arith)))
             (λ t. let a : spot' ≤ k = ltb-false _ _ t in
-            rw (left_behind key z cap ok blank n l spot' u none_blank form k a) (old (k + 1) (omega arith) (λ (q : k + 1 ≡ spot'). omega arith)))
+            rw (left_behind key z cap ok blank n l spot' u none_blank form k a)
+            (old (k + 1) (omega arith) (λ (q : k + 1 ≡ spot'). omega arith)))
 
     pub lookup_remove : lookup_in key z cap (n - 1) (remove_in key z cap n l id) ≡ del (lookup_in key z cap n l) id
     lookup_remove = fun_ext at
@@ -221,4 +236,5 @@ module _ {A : Type 0} (key : A → ℕ) (z : A) (cap : ℕ) where
         at j =
             split (eqb j id)
             (λ t. let e : j ≡ id = eqb-true _ _ t in rw e (shrunk_none id (inl refl) ∙ sym (del_same (lookup_in key z cap n l) id)))
-            (λ t. let ne : (j ≡ id → ⊥) = eqb-false _ _ t in kept j (lookup_in key z cap n l j) ne refl ∙ sym (del_other (lookup_in key z cap n l) id j ne))
+            (λ t. let ne : (j ≡ id → ⊥) = eqb-false _ _ t in
+            kept j (lookup_in key z cap n l j) ne refl ∙ sym (del_other (lookup_in key z cap n l) id j ne))

@@ -16,7 +16,8 @@ use Rattle.base.specs.Lists.{opened, closed}
 use Rattle.base.specs.Queue.{key_at, has_in, spot_in, insert_in, spot_ok, queue_form}
 use Rattle.base.proofs.Tests.{split, clash, and_left, and_right, or_right}
 use Rattle.base.proofs.Scan.{all_at, all_of, some_at, first_before, first_passes, first_at_most}
-use Rattle.base.proofs.Lists.{length_opened, opened_before, opened_at, opened_behind, length_closed, closed_before, closed_behind, get_d_pad}
+use Rattle.base.proofs.Lists.{length_opened, opened_before, opened_at, opened_behind, length_closed, closed_before, closed_behind}
+use Rattle.base.proofs.Lists.{get_d_pad}
 
 module _ {A : Type 0} (key : A → ℕ) (z : A) (cap : ℕ) (ok blank : A → Bool) where
   -- A PLACE
@@ -32,7 +33,8 @@ module _ {A : Type 0} (key : A → ℕ) (z : A) (cap : ℕ) (ok blank : A → Bo
   of_used n k p w b e =
       let f : (ok w && (eqb k 0 || ltb (key p) (key w))) ≡ true = rw (lt-ltb k n b) at e in (
         and_left (ok w) (eqb k 0 || ltb (key p) (key w)) f,
-        split (eqb k 0) (λ t. inl (eqb-true k 0 t)) (λ t. inr (ltb-true _ _ (rw t at (and_right (ok w) (eqb k 0 || ltb (key p) (key w)) f)))),
+        split (eqb k 0) (λ t. inl (eqb-true k 0 t))
+            (λ t. inr (ltb-true _ _ (rw t at (and_right (ok w) (eqb k 0 || ltb (key p) (key w)) f)))),
       )
 
   of_free : (n k : ℕ) (p w : A) → n ≤ k → spot_ok key z cap ok blank n k p w ≡ true → blank w ≡ true
@@ -49,14 +51,16 @@ module _ {A : Type 0} (key : A → ℕ) (z : A) (cap : ℕ) (ok blank : A → Bo
     spots = all_below (λ k. spot_ok key z cap ok blank n k (get_or l (k - 1) z) (get_or l k z)) cap
 
     pub form_length : length l ≡ cap
-    form_length = eqb-true (length l) cap (and_left (eqb (length l) cap) (leb n cap) (and_left (eqb (length l) cap && leb n cap) spots form))
+    form_length =
+        eqb-true (length l) cap (and_left (eqb (length l) cap) (leb n cap) (and_left (eqb (length l) cap && leb n cap) spots form))
 
     pub form_count : n ≤ cap
     form_count = leb-true n cap (and_right (eqb (length l) cap) (leb n cap) (and_left (eqb (length l) cap && leb n cap) spots form))
 
     ok_at : (k : ℕ) → k < cap → spot_ok key z cap ok blank n k (get_or l (k - 1) z) (get_or l k z) ≡ true
     ok_at k b =
-        all_at (λ k. spot_ok key z cap ok blank n k (get_or l (k - 1) z) (get_or l k z)) cap k (and_right (eqb (length l) cap && leb n cap) spots form) b
+        all_at (λ k. spot_ok key z cap ok blank n k (get_or l (k - 1) z) (get_or l k z)) cap k
+        (and_right (eqb (length l) cap && leb n cap) spots form) b
 
     used_at : (k : ℕ) → k < n → (ok (get_or l k z) ≡ true) × ((k ≡ 0) ⊎ (key (get_or l (k - 1) z) < key (get_or l k z)))
     used_at k a = let f = form_count in of_used n k (get_or l (k - 1) z) (get_or l k z) a (ok_at k (omega arith))
@@ -78,7 +82,8 @@ module _ {A : Type 0} (key : A → ℕ) (z : A) (cap : ℕ) (ok blank : A → Bo
 
   -- AN ENTRY PUT IN
 
-  module _ (n : ℕ) (l : List A) (w : A) (room : n < cap) (new : has_in key z cap n l (key w) ≡ false) (good : ok w ≡ true) (form : queue_form key z cap ok blank n l ≡ true) where
+  module _ (n : ℕ) (l : List A) (w : A) (room : n < cap) (new : has_in key z cap n l (key w) ≡ false) (good : ok w ≡ true)
+      (form : queue_form key z cap ok blank n l ≡ true) where
     abbrev spot : ℕ
     spot = spot_in key z cap n l (key w)
 
@@ -87,11 +92,13 @@ module _ {A : Type 0} (key : A → ℕ) (z : A) (cap : ℕ) (ok blank : A → Bo
 
     below_spot : (k : ℕ) → k < spot → key (get_or l k z) < key w
     below_spot k b =
-        leb-false _ _ (or_right (leb n k) (leb (key w) (key (get_or l k z))) (first_before (λ k. leb n k || leb (key w) (key (get_or l k z))) cap k b))
+        leb-false _ _ (or_right (leb n k) (leb (key w) (key (get_or l k z)))
+        (first_before (λ k. leb n k || leb (key w) (key (get_or l k z))) cap k b))
 
     at_spot : spot < n → key w < key (get_or l spot z)
     at_spot b =
-        let e : (leb n spot || leb (key w) (key (get_or l spot z))) ≡ true = first_passes (λ k. leb n k || leb (key w) (key (get_or l k z))) cap (omega arith) in
+        let e : (leb n spot || leb (key w) (key (get_or l spot z))) ≡ true = first_passes
+        (λ k. leb n k || leb (key w) (key (get_or l k z))) cap (omega arith) in
         let f : leb n spot ≡ false = lt-leb _ _ b in
         let le : key w ≤ key (get_or l spot z) = leb-true _ _ (rw f at e) in
         let ne : (key (get_or l spot z) ≡ key w) → ⊥ =
@@ -134,7 +141,8 @@ module _ {A : Type 0} (key : A → ℕ) (z : A) (cap : ℕ) (ok blank : A → Bo
     ok_new =
         let u = spot_used in
         let first : (spot ≡ 0) ⊎ (key (now (spot - 1)) < key w) = split (eqb spot 0) (λ t. inl (eqb-true _ _ t))
-        (λ t. let nz : (spot ≡ 0) → ⊥ = eqb-false _ _ t in inr (rw (now_before (spot - 1) (omega arith)) (below_spot (spot - 1) (omega arith)))) in
+        (λ t. let nz : (spot ≡ 0) → ⊥ = eqb-false _ _ t in
+        inr (rw (now_before (spot - 1) (omega arith)) (below_spot (spot - 1) (omega arith)))) in
         rw now_at (ok_used (n + 1) spot (now (spot - 1)) w (omega arith) good first)
 
     ok_behind : (k : ℕ) → k < cap → spot < k → k ≤ n → spot_ok key z cap ok blank (n + 1) k (now (k - 1)) (now k) ≡ true
@@ -145,7 +153,8 @@ module _ {A : Type 0} (key : A → ℕ) (z : A) (cap : ℕ) (ok blank : A → Bo
     ok_rest : (k : ℕ) → k < cap → n < k → spot_ok key z cap ok blank (n + 1) k (now (k - 1)) (now k) ≡ true
     ok_rest k b c =
         let u = spot_used in
-        rw (now_behind k b (omega arith)) (ok_free (n + 1) k (now (k - 1)) (get_or l (k - 1) z) (omega arith) (form_blank n l form (k - 1) (omega arith) (omega arith)))
+        rw (now_behind k b (omega arith))
+        (ok_free (n + 1) k (now (k - 1)) (get_or l (k - 1) z) (omega arith) (form_blank n l form (k - 1) (omega arith) (omega arith)))
 
     new_ok : (k : ℕ) → k < cap → spot_ok key z cap ok blank (n + 1) k (now (k - 1)) (now k) ≡ true
     new_ok k b =
@@ -193,7 +202,8 @@ module _ {A : Type 0} (key : A → ℕ) (z : A) (cap : ℕ) (ok blank : A → Bo
     c_new k b =
         split (ltb k p)
         (λ t. let a : k < p = ltb-true _ _ t in let o = used_at n l form k (omega arith) in
-        rw (left_before k a, left_before (k - 1) (omega arith)) (ok_used (n - 1) k (get_or l (k - 1) z) (get_or l k z) (omega arith) o.0 o.1))
+        rw (left_before k a, left_before (k - 1) (omega arith))
+        (ok_used (n - 1) k (get_or l (k - 1) z) (get_or l k z) (omega arith) o.0 o.1))
         (λ t. let a : p ≤ k = ltb-false _ _ t in
         split (ltb (k + 1) n)
         (λ s. let c : k + 1 < n = ltb-true _ _ s in let o = used_at n l form (k + 1) c in

@@ -77,7 +77,8 @@ answer_lowest m ((n when b) ∷ rs) t k h =
     let up = and_right (ltb m n) (ascending_from n rs) t in
     split b
     (λ q. rw q (split (leb n k) (λ y. leb-true n k y) (λ y. let lt : k < n = leb-false n k y in clash h (below lt up))))
-    (λ q. rw q (split (eqb n k) (λ y. clash {b = holds k rs} (later h q y) (none_lower n rs up k (let e : n ≡ k = eqb-true n k y in omega arith)))
+    (λ q. rw q (split (eqb n k) (λ y. clash {b = holds k rs} (later h q y)
+    (none_lower n rs up k (let e : n ≡ k = eqb-true n k y in omega arith)))
     (λ y. answer_lowest n rs up k (rw y at h))))
   where
     below : k < n → ascending_from n rs ≡ true → ((eqb n k && b) || holds k rs) ≡ false
@@ -103,7 +104,8 @@ lowest_zero a b = (to, (λ h. rw (eq-eqb a 0 h.0) h.1))
     to e =
         split (eqb a 0) (λ t. (eqb-true a 0 t, rw t at e))
         (λ f. split (eqb b 0) (λ t. let z : a ≡ 0 = rw (f, t) at e in clash (eq-eqb a 0 z) f)
-        (λ g. split (leb a b) (λ t. let z : a ≡ 0 = rw (f, g, t) at e in clash (eq-eqb a 0 z) f) (λ t. let z : b ≡ 0 = rw (f, g, t) at e in clash (eq-eqb b 0 z) g)))
+        (λ g. split (leb a b) (λ t. let z : a ≡ 0 = rw (f, g, t) at e in clash (eq-eqb a 0 z) f) (λ t. let z : b ≡ 0 = rw (f, g, t) at e in
+        clash (eq-eqb b 0 z) g)))
 
 -- of an answer and 0 it is that answer
 pub lowest_right : (a : ℕ) → lowest a 0 ≡ a

@@ -107,7 +107,8 @@ some_used g n (suc cap) b =
     split (leb n cap)
     (λ t. let a : n ≤ cap = leb-true _ _ t in rw (some_used g n cap a, le-ltb cap n a) (or-false (some_below g n)))
     (λ t. let a : cap < n = leb-false _ _ t in let e : n ≡ suc cap = omega arith in
-    subst (λ m. some_below (λ k. ltb k m && g k) (suc cap) ≡ some_below g m) (sym e) (some_same (λ k. ltb k (suc cap) && g k) g (suc cap) (λ k c. rw (lt-ltb k (suc cap) c))))
+    subst (λ m. some_below (λ k. ltb k m && g k) (suc cap) ≡ some_below g m) (sym e)
+    (some_same (λ k. ltb k (suc cap) && g k) g (suc cap) (λ k c. rw (lt-ltb k (suc cap) c))))
 
 -- FIRST
 
@@ -241,12 +242,14 @@ unfolding count_below
 count_single g zero one = omega arith
 count_single g (suc n) one =
     split (g n)
-    (λ t. let z : count_below g n ≡ 0 = count_zero g n (λ k b. split (g k) (λ u. absurd (let e : k ≡ n = one k n u t in omega arith)) (λ u. u)) in
+    (λ t. let z : count_below g n ≡ 0 = count_zero g n
+    (λ k b. split (g k) (λ u. absurd (let e : k ≡ n = one k n u t in omega arith)) (λ u. u)) in
     omega (arith, bit_le (g n)))
     (λ t. let b : bit (g n) ≡ 0 = (bit_zero_iff (g n)).1 t in omega (arith, count_single g n one))
 
 -- each of m tests passes at one number at the most: so m numbers at the most pass some of them
-pub count_some : (hit : ℕ → ℕ → Bool) (m n : ℕ) → ((r j k : ℕ) → hit r j ≡ true → hit r k ≡ true → j ≡ k) → count_below (λ k. some_below (λ r. hit r k) m) n ≤ m
+pub count_some : (hit : ℕ → ℕ → Bool) (m n : ℕ) → ((r j k : ℕ) → hit r j ≡ true → hit r k ≡ true → j ≡ k) →
+    count_below (λ k. some_below (λ r. hit r k) m) n ≤ m
 unfolding some_below
 count_some hit zero n one = omega (arith, count_zero (λ k. false) n (λ k b. refl))
 count_some hit (suc m) n one =
@@ -270,7 +273,8 @@ pub count_zero_iff : (g : ℕ → Bool) (n : ℕ) → (count_below g n ≡ 0) �
 count_zero_iff g n = ((λ e k b. count_zero_at g n k e b), count_zero g n)
 
 -- two tests that differ at one place at the most
-pub count_change : (g h : ℕ → Bool) (n i : ℕ) → i < n → ((k : ℕ) → k < n → (k ≡ i → ⊥) → g k ≡ h k) → count_below h n + bit (g i) ≡ count_below g n + bit (h i)
+pub count_change : (g h : ℕ → Bool) (n i : ℕ) → i < n → ((k : ℕ) → k < n → (k ≡ i → ⊥) → g k ≡ h k) →
+    count_below h n + bit (g i) ≡ count_below g n + bit (h i)
 unfolding count_below
 count_change g h zero i b e = absurd (not-suc-le-zero b)
 count_change g h (suc n) i b e =
@@ -285,5 +289,6 @@ pub count_set : {A : Type 0} (p : A → Bool) (d : A) (l : List A) (n i : ℕ) (
     count_below (λ k. p (get_or (set l i v) k d)) n + bit (p (get_or l i d)) ≡ count_below (λ k. p (get_or l k d)) n + bit (p v)
 count_set p d l n i v b m =
     let s : get_or (set l i v) i d ≡ v = get_or-set_same l i v d (omega arith) in
-    let e = count_change (λ k. p (get_or l k d)) (λ k. p (get_or (set l i v) k d)) n i b (λ k c ne. ap p (sym (get_or-set_other l i k v d ne))) in
+    let e = count_change (λ k. p (get_or l k d)) (λ k. p (get_or (set l i v) k d)) n i b
+    (λ k c ne. ap p (sym (get_or-set_other l i k v d ne))) in
     rw s at e

@@ -113,4 +113,19 @@ module _ {A : Type 0} where
   none_iff none = ((λ e. refl), (λ e. refl))
   none_iff (some a) = ((λ e. absurd (true≢false e)), (λ e. never (sym e)))
 
-pub ruleset tests = (not_iff, not_true_iff, and_iff, and_false_iff, or_iff, or_true_iff, eqb_iff, eqb_false_iff, ltb_iff, ltb_false_iff, leb_iff, leb_false_iff, some_iff, none_iff)
+pub ruleset tests = (
+  not_iff,
+  not_true_iff,
+  and_iff,
+  and_false_iff,
+  or_iff,
+  or_true_iff,
+  eqb_iff,
+  eqb_false_iff,
+  ltb_iff,
+  ltb_false_iff,
+  leb_iff,
+  leb_false_iff,
+  some_iff,
+  none_iff,
+)

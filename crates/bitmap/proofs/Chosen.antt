@@ -39,7 +39,8 @@ module _ (g : Settings) (c : CacheState) (s : settings_form g ≡ true) (f : cac
   -- none is free: 21
   pub none_free : count ≡ 0 → refused_choice 21 c ≡ chooser g c
   none_free z =
-      sym (choice_full g c s f r (all_of (marked g c) 128 (λ b h. (not_iff (marked g c b)).0 (sym (free_read b h) ∙ count_zero_at (is_free_in m) 128 b z h))))
+      sym (choice_full g c s f r (all_of (marked g c) 128
+      (λ b h. (not_iff (marked g c b)).0 (sym (free_read b h) ∙ count_zero_at (is_free_in m) 128 b z h))))
 
   abbrev block : ℕ
   block = next_free m last
@@ -54,10 +55,12 @@ module _ (g : Settings) (c : CacheState) (s : settings_form g ≡ true) (f : cac
   next_is : (count ≡ 0 → ⊥) → block ≡ chosen_block g c
   unfolding next_free
   next_is ne =
-      let some : some_below (is_free_in m) 128 ≡ true = some_same (is_free_in m) (is_free_block g c) 128 free_read ∙ (choice_accepted g c (given ne)).free in
+      let some : some_below (is_free_in m) 128 ≡ true = some_same (is_free_in m) (is_free_block g c) 128 free_read
+      ∙ (choice_accepted g c (given ne)).free in
       let small = le-leb last 127 ((cache_form_iff g.device c).0 f).1.last.small in
       let turn : first_below (λ k. is_free_in m (block_after last k)) 128 ≡ first_below (λ k. is_free_block g c (block_after last k)) 128 =
-      first_same (λ k. is_free_in m (block_after last k)) (λ k. is_free_block g c (block_after last k)) 128 (λ k h. free_read (block_after last k) (after_small last k)) in
+      first_same (λ k. is_free_in m (block_after last k)) (λ k. is_free_block g c (block_after last k)) 128
+      (λ k h. free_read (block_after last k) (after_small last k)) in
       rw (small, some) (ap (block_after last) turn)
 
   pub block_below : (count ≡ 0 → ⊥) → block < 128
@@ -65,6 +68,13 @@ module _ (g : Settings) (c : CacheState) (s : settings_form g ≡ true) (f : cac
 
   -- else the next free block in turn
   pub one_free : (count ≡ 0 → ⊥) →
-      ◌≡◌ {A = Choice} (record { answer = 0; block = block; addr = node_block_addr (device_of g.device) block; free = count; cache = with_last c block }) (chooser g c)
+      ◌≡◌ {A = Choice} (record {
+        answer = 0;
+        block = block;
+        addr = node_block_addr
+            (device_of g.device) block;
+        free = count;
+        cache = with_last c block;
+      }) (chooser g c)
   unfolding chooser choice_by
   one_free ne = rw (given ne) (rw (next_is ne, count_same (is_free_in m) (is_free_block g c) 128 free_read) refl)

@@ -47,7 +47,8 @@ other : (g : ℕ → Bool) (b k : ℕ) → (b ≡ k → ⊥) → g b ≡ (g b ||
 other g b k n = rw (ne_eqb b k n) (sym (or-false (g b)))
 
 set_low : (g : ℕ → Bool) (k : ℕ) → k < 64 →
-    ◌≡◌ {A = Marks} (record { low = bit_or (word_of g 64) (2 ^ k); high = word_of (λ j. g (64 + j)) 64 }) (marks_where (λ b. g b || eqb b k))
+    ◌≡◌ {A = Marks} (record { low = bit_or (word_of g 64) (2 ^ k); high = word_of (λ j. g (64 + j)) 64 })
+    (marks_where (λ b. g b || eqb b k))
 set_low g k l =
     same_words (record { low = bit_or (word_of g 64) (2 ^ k); high = word_of (λ j. g (64 + j)) 64 }) (marks_where (λ b. g b || eqb b k))
     (word_set g 64 k l)
@@ -60,9 +61,14 @@ eqb_past j k l =
     (λ t. let e : 64 + j ≡ k = eqb-true _ _ t in eq-eqb j (k - 64) (omega arith))
 
 set_high : (g : ℕ → Bool) (k : ℕ) → 64 ≤ k → k < 128 →
-    ◌≡◌ {A = Marks} (record { low = word_of g 64; high = bit_or (word_of (λ j. g (64 + j)) 64) (2 ^ (k - 64)) }) (marks_where (λ b. g b || eqb b k))
+    ◌≡◌ {A = Marks} (record { low = word_of g 64; high = bit_or (word_of (λ j. g (64 + j)) 64) (2 ^ (k - 64)) })
+    (marks_where (λ b. g b || eqb b k))
 set_high g k l h =
-    same_words (record { low = word_of g 64; high = bit_or (word_of (λ j. g (64 + j)) 64) (2 ^ (k - 64)) }) (marks_where (λ b. g b || eqb b k))
+    same_words (record {
+      low =
+          word_of g 64;
+      high = bit_or (word_of (λ j. g (64 + j)) 64) (2 ^ (k - 64));
+    }) (marks_where (λ b. g b || eqb b k))
     (word_same g (λ b. g b || eqb b k) 64 (λ j b. other g j k (λ (x : j ≡ k). omega arith)))
     (word_set (λ j. g (64 + j)) 64 (k - 64) (omega arith)
     ∙ word_same (λ j. g (64 + j) || eqb j (k - 64)) (λ j. g (64 + j) || eqb (64 + j) k) 64 (λ j b. rw (eqb_past j k l)))
@@ -81,10 +87,12 @@ module _ (d : ℕ) where
   abbrev pub at_block : ℕ → ℕ → Bool
   at_block a b = eqb a (node_block_addr (device_of d) b)
 
-  found : (g : ℕ → Bool) (a : ℕ) (o : Option ℕ) → node_block_of (device_of d) a ≡ o → with_found (marks_where g) o ≡ marks_where (λ b. g b || at_block a b)
+  found : (g : ℕ → Bool) (a : ℕ) (o : Option ℕ) → node_block_of (device_of d) a ≡ o →
+      with_found (marks_where g) o ≡ marks_where (λ b. g b || at_block a b)
   found g a none e =
       marks_same g (λ b. g b || at_block a b)
-      (λ b l. rw (ne_eqb a (node_block_addr (device_of d) b) (λ x. never (sym e ∙ (node_block_iff (device_of d) (device_good d) a b).1 (l, x)))) (sym (or-false (g b))))
+      (λ b l. rw (ne_eqb a (node_block_addr (device_of d) b)
+      (λ x. never (sym e ∙ (node_block_iff (device_of d) (device_good d) a b).1 (l, x)))) (sym (or-false (g b))))
   found g a (some k) e =
       let p = (node_block_iff (device_of d) (device_good d) a k).0 e in
       mark_set g k p.0
@@ -94,7 +102,8 @@ module _ (d : ℕ) where
       same : (b k : ℕ) → a ≡ node_block_addr (device_of d) k → eqb b k ≡ at_block a b
       same b k q =
           bool_ext (eqb b k) (at_block a b)
-          (λ t. let x : b ≡ k = eqb-true _ _ t in eq-eqb a (node_block_addr (device_of d) b) (q ∙ ap (node_block_addr (device_of d)) (sym x)))
+          (λ t. let x : b ≡ k = eqb-true _ _ t in
+          eq-eqb a (node_block_addr (device_of d) b) (q ∙ ap (node_block_addr (device_of d)) (sym x)))
           (λ t. let x : a ≡ node_block_addr (device_of d) b = eqb-true _ _ t in
           eq-eqb b k (block_addr_injective (device_of d) (device_good d) b k (sym x ∙ q)))
 
@@ -108,7 +117,8 @@ module _ (d : ℕ) where
     unfolding with_addr
     addr_found t = ap (λ x. with_mark m x.value) e ∙ by (made d) (node_block_of (device_of d) a) (ap (λ x. x.exists) (sym e) ∙ t)
       where
-        by : (b : Bool) (o : Option ℕ) → (number_option_when b o).exists ≡ true → with_mark m (number_option_when b o).value ≡ cond b (with_found m o) m
+        by : (b : Bool) (o : Option ℕ) → (number_option_when b o).exists ≡ true →
+            with_mark m (number_option_when b o).value ≡ cond b (with_found m o) m
         by true none t = absurd (false≢true t)
         by true (some k) t = refl
         by false o t = absurd (false≢true t)
@@ -124,7 +134,8 @@ module _ (d : ℕ) where
 
   -- MARKS JOINED
 
-  pub union_marks_lem : (g h : ℕ → Bool) → union_marks (on_device d (marks_where g)) (on_device d (marks_where h)) ≡ on_device d (marks_where (λ b. g b || h b))
+  pub union_marks_lem : (g h : ℕ → Bool) →
+      union_marks (on_device d (marks_where g)) (on_device d (marks_where h)) ≡ on_device d (marks_where (λ b. g b || h b))
   union_marks_lem g h =
       split (made d)
       (λ t. rw t (same_words (union_marks (marks_where g) (marks_where h)) (marks_where (λ b. g b || h b))
@@ -142,16 +153,21 @@ module _ (d : ℕ) where
 
     pub scan_none : no_marks ≡ scanned 0
     unfolding scanned
-    scan_none = split (made d) (λ t. rw t (same_words no_marks (marks_where (passed 0)) (sym (none (λ b. b))) (sym (none (λ b. 64 + b))))) (λ f. rw f)
+    scan_none =
+        split (made d) (λ t. rw t (same_words no_marks (marks_where (passed 0)) (sym (none (λ b. b))) (sym (none (λ b. 64 + b)))))
+        (λ f. rw f)
       where
         none : (at : ℕ → ℕ) → word_of (λ b. passed 0 (at b)) 64 ≡ 0
-        none at = (word_zero_iff (λ b. passed 0 (at b)) 64).1 (some_of_none (λ b. passed 0 (at b)) 64 (λ k l. sym (some_none (λ r. used r && at_block (addr r) (at k)))))
+        none at =
+            (word_zero_iff (λ b. passed 0 (at b)) 64).1
+            (some_of_none (λ b. passed 0 (at b)) 64 (λ k l. sym (some_none (λ r. used r && at_block (addr r) (at k)))))
 
     more : (i : ℕ) (t : Bool) → used i ≡ t → scanned (i + 1) ≡ on_device d (marks_where (λ b. passed i b || (t && at_block (addr i) b)))
     unfolding scanned
     more i t e =
         ap (on_device d)
-        (marks_same (passed (i + 1)) (λ b. passed i b || (t && at_block (addr i) b)) (λ b l. some_more (λ r. used r && at_block (addr r) b) i ∙ rw e))
+        (marks_same (passed (i + 1)) (λ b. passed i b || (t && at_block (addr i) b))
+        (λ b l. some_more (λ r. used r && at_block (addr r) b) i ∙ rw e))
 
     -- a place in use, and one that is not
     pub scan_turn : (i : ℕ) {m : Marks} → m ≡ scanned i → used i ≡ true → with_addr d m (addr i) ≡ scanned (i + 1)
@@ -160,7 +176,8 @@ module _ (d : ℕ) where
 
     pub scan_skip : (i : ℕ) {m : Marks} → m ≡ scanned i → used i ≡ false → m ≡ scanned (i + 1)
     unfolding scanned
-    scan_skip i e u = e ∙ ap (on_device d) (marks_same (passed i) (λ b. passed i b || false) (λ b l. sym (or-false (passed i b)))) ∙ sym (more i false u)
+    scan_skip i e u =
+        e ∙ ap (on_device d) (marks_same (passed i) (λ b. passed i b || false) (λ b l. sym (or-false (passed i b)))) ∙ sym (more i false u)
 
     pub scan_end : {i n : ℕ} {m : Marks} → m ≡ scanned i → i ≤ n → n ≤ i → m ≡ scanned n
     scan_end e u v = at_end scanned e u v
@@ -196,7 +213,9 @@ module _ (d : ℕ) (ts : Tables) (q : Requests) where
 
   pub unfrozen_marks : ts.isfrozen ≡ false → unfrozen ≡ marks_on d ts q
   unfolding marks_of is_marked held_in
-  unfrozen_marks e = three ∙ ap (on_device d) (marks_same in_three (is_marked d ts q) (λ b l. rw (e, or-false (in_table ts.persistent b || in_table ts.ephemeral b))))
+  unfrozen_marks e =
+      three ∙ ap (on_device d) (marks_same in_three (is_marked d ts q)
+      (λ b l. rw (e, or-false (in_table ts.persistent b || in_table ts.ephemeral b))))
 
   pub frozen_marks : ts.isfrozen ≡ true → union_marks unfrozen (table_marks d ts.frozen) ≡ marks_on d ts q
   unfolding marks_of is_marked held_in

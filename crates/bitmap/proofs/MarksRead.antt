@@ -8,7 +8,8 @@ use borrow.Author.Tests.{le-leb, le-ltb, lt-leb, lt-ltb, ltb-false, ltb-true}
 use lib.Count.{ones, count_trailing_zeros}
 use lib.Dec.{ltb}
 use Rattle.base.proofs.Bits.{word_not, word_of_digits, word_ones, word_shift, word_trailing, word_zero_iff}
-use Rattle.base.proofs.Scan.{count_cut, count_not, count_same, first_before, first_is, first_le, first_miss, first_passes, some_at, some_of_none}
+use Rattle.base.proofs.Scan.{count_cut, count_not, count_same, first_before, first_is, first_le, first_miss, first_passes, some_at}
+use Rattle.base.proofs.Scan.{some_of_none}
 use Rattle.base.proofs.Tests.{clash, split}
 use Rattle.base.specs.Bits.{digit_at, word_of}
 use Rattle.base.specs.Scan.{count_below, first_below, first_from, some_below}
@@ -42,7 +43,8 @@ module _ (test : ℕ → Bool) (a n : ℕ) where
       omega arith)
       (λ u. let i : n ≤ f = ltb-false f n u in
       let e : n - a ≡ first_below (λ k. test (a + k)) (n - a) =
-      first_miss (λ k. test (a + k)) (n - a) (sym (some_of_none (λ k. test (a + k)) (n - a) (λ j c. b (a + j) (omega arith) (omega arith)))) in
+      first_miss (λ k. test (a + k)) (n - a)
+      (sym (some_of_none (λ k. test (a + k)) (n - a) (λ j c. b (a + j) (omega arith) (omega arith)))) in
       omega arith)
 
 -- OF A WORD
@@ -59,7 +61,8 @@ module _ (w f : ℕ) (small : w < 2 ^ 64) (within : f ≤ 64) where
   -- its digits are the tests of the word's digits from place f on
   rest_word : rest_of w f ≡ word_of (λ k. clear_at w (f + k)) (64 - f)
   rest_word =
-      let e : (2 ^ 64 - 1) - w ≡ word_of (clear_at w) 64 = ap (λ x. (2 ^ 64 - 1) - x) (sym (word_of_digits w 64 small)) ∙ word_not (digit_at w) 64 in
+      let e : (2 ^ 64 - 1) - w ≡ word_of (clear_at w) 64 = ap (λ x. (2 ^ 64 - 1) - x) (sym (word_of_digits w 64 small))
+      ∙ word_not (digit_at w) 64 in
       let q : 64 ≡ f + (64 - f) = omega arith in
       ap (λ x. x / 2 ^ f) (e ∙ ap (word_of (clear_at w)) q) ∙ word_shift (clear_at w) f (64 - f)
 
@@ -107,7 +110,8 @@ module _ (m : Marks) where
       let q : j ≡ 64 + (j - 64) = omega arith in
       rw q (free_high (j - 64) ∙ from_before (clear_at m.high) c 64 (j - 64) (omega arith) (omega arith))))
 
-  pub first_past_low : (a : ℕ) → a ≤ 64 → 64 ≤ first_from (clear_at m.low) a 64 → 64 + first_from (clear_at m.high) 0 64 ≡ first_from (is_free_in m) a 128
+  pub first_past_low : (a : ℕ) → a ≤ 64 → 64 ≤ first_from (clear_at m.low) a 64 →
+      64 + first_from (clear_at m.high) 0 64 ≡ first_from (is_free_in m) a 128
   first_past_low a h l = past a 0 h (omega arith) (λ j c b. free_low j b ∙ from_before (clear_at m.low) a 64 j c (omega arith))
 
   pub first_in_high : (a : ℕ) → 64 ≤ a → a ≤ 128 → 64 + first_from (clear_at m.high) (a - 64) 64 ≡ first_from (is_free_in m) a 128
@@ -121,10 +125,12 @@ module _ (m : Marks) where
 
   module _ (last : ℕ) (h : last ≤ 127) where
     -- block f is free, k places on, and none before it is
-    round : (f k : ℕ) → k < 128 → f < 128 → block_after last k ≡ f → is_free_in m f ≡ true → ((j : ℕ) → j < k → is_free_in m (block_after last j) ≡ false) → f ≡ next_free m last
+    round : (f k : ℕ) → k < 128 → f < 128 → block_after last k ≡ f → is_free_in m f ≡ true →
+        ((j : ℕ) → j < k → is_free_in m (block_after last j) ≡ false) → f ≡ next_free m last
     unfolding next_free
     round f k l b e t n =
-        let q : first_below (λ k. is_free_in m (block_after last k)) 128 ≡ k = first_is (λ k. is_free_in m (block_after last k)) 128 k l (ap (is_free_in m) e ∙ t) n in
+        let q : first_below (λ k. is_free_in m (block_after last k)) 128 ≡ k = first_is (λ k. is_free_in m (block_after last k)) 128 k l
+        (ap (is_free_in m) e ∙ t) n in
         rw (le-leb last 127 h, some_at (is_free_in m) 128 f b t) (sym (ap (block_after last) q ∙ e))
 
     pub next_after : first_from (is_free_in m) (last + 1) 128 < 128 → first_from (is_free_in m) (last + 1) 128 ≡ next_free m last
@@ -139,7 +145,8 @@ module _ (m : Marks) where
     unfolding next_free
     missed l =
         let u : first_from (is_free_in m) 0 128 ≤ 128 = from_le (is_free_in m) 0 128 (omega arith) in
-        let n : some_below (is_free_in m) 128 ≡ false = some_of_none (is_free_in m) 128 (λ j c. from_before (is_free_in m) 0 128 j (omega arith) (omega arith)) in
+        let n : some_below (is_free_in m) 128 ≡ false = some_of_none (is_free_in m) 128
+        (λ j c. from_before (is_free_in m) 0 128 j (omega arith) (omega arith)) in
         rw (le-leb last 127 h, n) (omega arith)
 
     pub next_round : 128 ≤ first_from (is_free_in m) (last + 1) 128 → first_from (is_free_in m) 0 128 ≡ next_free m last
@@ -151,7 +158,8 @@ module _ (m : Marks) where
         behind : (j : ℕ) → last < j → j < 128 → is_free_in m j ≡ false
         behind j l u = from_before (is_free_in m) (last + 1) 128 j (omega arith) (omega arith)
 
-        passed : (j : ℕ) → j < 127 - last + first_from (is_free_in m) 0 128 → first_from (is_free_in m) 0 128 ≤ last → is_free_in m (block_after last j) ≡ false
+        passed : (j : ℕ) → j < 127 - last + first_from (is_free_in m) 0 128 → first_from (is_free_in m) 0 128 ≤ last →
+            is_free_in m (block_after last j) ≡ false
         passed j l u =
             split (ltb (last + 1 + j) 128)
             (λ t. let v : last + 1 + j < 128 = ltb-true (last + 1 + j) 128 t in

@@ -21,7 +21,8 @@ use Rattle.blockcache.proofs.Numbers.{step_of_number}
 use Rattle.blockcache.specs.Form.{cache_form, call_form, settings_form}
 use Rattle.blockcache.specs.Next.{marks_renewed, step_next}
 use Rattle.blockcache.specs.Rows.{own_rows, step_rows, takes}
-use Rattle.blockcache.specs.Step.{answered, cache_step, dispatched, gated, next_of, node_of, outcome, past_gate, renewed_outcome, rows_of, renewed_if, well_formed}
+use Rattle.blockcache.specs.Step.{answered, cache_step, dispatched, gated, next_of, node_of, outcome, past_gate, renewed_outcome, rows_of}
+use Rattle.blockcache.specs.Step.{renewed_if, well_formed}
 use Rattle.blockcache.specs.Steps.{Step, number_of, relocates, step_of}
 use Rattle.blockcache.specs.declared.CacheOutcome.{CacheOutcome}
 use Rattle.blockcache.specs.declared.CacheState.{CacheState}
@@ -39,22 +40,26 @@ renews d n node next c moved stay =
 
 module _ (g : Settings) (c : CacheState) (n : ℕ) (q : Call) (w : well_formed g c q ≡ true) where
   -- a step that moves nothing, accepted
-  stays : (step : Step) → answer (step_rows g c q step) ≡ 0 → relocates (number_of step) ≡ false → marks_renewed g.device (step_next c q step) ≡ step_next c q step
+  stays : (step : Step) → answer (step_rows g c q step) ≡ 0 → relocates (number_of step) ≡ false →
+      marks_renewed g.device (step_next c q step) ≡ step_next c q step
   unfolding answer
   stays step e m =
       let clear = ((accepted_iff ((1 when false) ∷ step_rows g c q step) (rows_ascend g c q false step)).0 e).1 in
       marks_stay g c q ((well_formed_iff g c q).0 w) step m ((gate_iff (takes c.phase q.vop q.dop step) (own_rows g c q step)).0 clear).1
 
   of_number : (o : Option Step) → step_of n ≡ o → gated c.phase q.vop q.dop o ≡ 0 →
-      outcome (answer ((1 when not (is_some o)) ∷ rows_of g c q o)) (node_of c n q) (next_of g.device c q o) c ≡ renewed_if g.device (relocates n) (dispatched g c q o)
+      outcome (answer ((1 when not (is_some o)) ∷ rows_of g c q o)) (node_of c n q) (next_of g.device c q o) c ≡ renewed_if g.device
+      (relocates n) (dispatched g c q o)
   unfolding gated answer past_gate
   of_number none e z = absurd (omega arith)
   of_number (some step) e z =
       let a : answer (step_rows g c q step) ≡ answer (own_rows g c q step) = rows_open g c q step z in
       rw (a, step_of_number n step e)
-      (renews g.device (answer (own_rows g c q step)) (node_of c (number_of step) q) (step_next c q step) c (relocates (number_of step)) (λ m k. stays step (a ∙ k) m))
+      (renews g.device (answer (own_rows g c q step)) (node_of c (number_of step) q) (step_next c q step) c (relocates (number_of step))
+      (λ m k. stays step (a ∙ k) m))
 
-  pub step_open : gated c.phase q.vop q.dop (step_of n) ≡ 0 → cache_step g c n q ≡ renewed_if g.device (relocates n) (dispatched g c q (step_of n))
+  pub step_open : gated c.phase q.vop q.dop (step_of n) ≡ 0 →
+      cache_step g c n q ≡ renewed_if g.device (relocates n) (dispatched g c q (step_of n))
   step_open z = step_is g c n q ∙ rw w (of_number (step_of n) refl z)
 
 -- THE CODE'S ARMS, one law for each place where it returns
@@ -71,7 +76,8 @@ module _ (g : Settings) (c : CacheState) (n : ℕ) (q : Call) where
       pub formed : well_formed g c q ≡ true
       formed = rw s f
 
-      pub arm_shut : (gated c.phase q.vop q.dop (step_of n) ≡ 0 → ⊥) → answered (gated c.phase q.vop q.dop (step_of n)) c ≡ cache_step g c n q
+      pub arm_shut : (gated c.phase q.vop q.dop (step_of n) ≡ 0 → ⊥) →
+          answered (gated c.phase q.vop q.dop (step_of n)) c ≡ cache_step g c n q
       arm_shut ne = sym (step_shut g c n q formed ne)
 
       module _ (z : gated c.phase q.vop q.dop (step_of n) ≡ 0) where

@@ -26,9 +26,11 @@ entry_reference q id form =
     (λ t. let b : find_of q id < 16 = ltb-true _ _ t in
     let u = found_used q id b in
     let ok : (not (ltb (find_of q id) q.count) || read_ok (request_at q (find_of q id))) ≡ true =
-    all_at (λ k. not (ltb k q.count) || read_ok (request_at q k)) 16 (find_of q id) (and_right (requests_form q) (each_request read_ok q) form) b in
+    all_at (λ k. not (ltb k q.count) || read_ok (request_at q k)) 16 (find_of q id)
+    (and_right (requests_form q) (each_request read_ok q) form) b in
     let small : read_ok (request_at q (find_of q id)) ≡ true = rw (lt-ltb _ _ u) at ok in
-    let s : (request_at q (find_of q id)).reference ≤ 63 = leb-true _ _ (and_left (leb (request_at q (find_of q id)).reference 63) (loc_zero (request_at q (find_of q id)).loc) small) in
+    let s : (request_at q (find_of q id)).reference ≤ 63 = leb-true _ _
+    (and_left (leb (request_at q (find_of q id)).reference 63) (loc_zero (request_at q (find_of q id)).loc) small) in
     omega arith)
     (λ t. let l = form_length q (and_left (requests_form q) (each_request read_ok q) form) in
     let b : 16 ≤ find_of q id = ltb-false _ _ t in

@@ -15,8 +15,8 @@ use Rattle.blockcache.specs.Abstract.{awaited_id, writes_map}
 use Rattle.blockcache.specs.Next.{assigned}
 use Rattle.blockcache.specs.Rows.{awaits_table}
 use Rattle.blockcache.specs.Scan.{has_predecessor, held_in, list_names, names_at, needs_cached, node_rejected, table_rejected}
-use Rattle.blockcache.specs.Upstream.{AllLocationsForDifferentRefsDontOverlap, FrozenLocated, In, LocsValid, NoAddr, NoPredecessors, OutstandingWrite, SameSuccs, WFCompleteIndirectionTable}
-use Rattle.blockcache.specs.Upstream.{WFIndirectionTable, assign_ref_to_location}
+use Rattle.blockcache.specs.Upstream.{AllLocationsForDifferentRefsDontOverlap, FrozenLocated, In, LocsValid, NoAddr, NoPredecessors}
+use Rattle.blockcache.specs.Upstream.{OutstandingWrite, SameSuccs, WFCompleteIndirectionTable, WFIndirectionTable, assign_ref_to_location}
 use Rattle.blockcache.specs.declared.Awaited.{Awaited}
 use Rattle.blockcache.specs.declared.Tables.{Tables}
 use Rattle.blockdisk.specs.Ops.{something_in}
@@ -28,11 +28,12 @@ use Rattle.queue.specs.Queue.{requests_form}
 use Rattle.queue.specs.declared.Requests.{Requests}
 use Rattle.sectortype.proofs.Forms.{entry_at_form, entry_succs, located_allocated, with_entry_form}
 use Rattle.sectortype.proofs.Graphs.{closed_iff, distinct_iff, holds_addr_iff, same_set_iff}
-use Rattle.sectortype.proofs.Maps.{graph_at, graph_bounded, graph_same, graph_some, in_graph, in_locs, locs_at, locs_bounded, locs_put, locs_some}
+use Rattle.sectortype.proofs.Maps.{graph_at, graph_bounded, graph_same, graph_some, in_graph, in_locs, locs_at, locs_bounded, locs_put}
+use Rattle.sectortype.proofs.Maps.{locs_some}
 use Rattle.sectortype.specs.Abstract.{graph_of, indirection_table, locs_of}
 use Rattle.sectortype.specs.Form.{entry_at, succ_at, table_form}
-use Rattle.sectortype.specs.Graph.{locs_complete, locs_in_graph, locs_valid as valid_test, wf_complete_indirection_table as complete_test, wf_indirection_table as table_test, allocated_in, has_succ, loc_ok}
-use Rattle.sectortype.specs.Graph.{located_in, same_set}
+use Rattle.sectortype.specs.Graph.{locs_complete, locs_in_graph, locs_valid as valid_test, wf_complete_indirection_table as complete_test}
+use Rattle.sectortype.specs.Graph.{wf_indirection_table as table_test, allocated_in, has_succ, loc_ok, located_in, same_set}
 use Rattle.sectortype.specs.declared.Entry.{Entry}
 use Rattle.sectortype.specs.declared.Node.{Node}
 use Rattle.sectortype.specs.declared.Table.{Table}
@@ -46,8 +47,10 @@ awaits_iff a id =
 -- ADDRESSES
 
 -- 7: ValidAllocation
-pub held_iff : (ts : Tables) (q : Requests) → table_form ts.persistent ≡ true → table_form ts.ephemeral ≡ true → table_form ts.frozen ≡ true → requests_form q ≡ true → (a : ℕ) →
-    (held_in ts q a ≡ false) ↔ (NoAddr (locs_of ts.persistent) a × NoAddr (locs_of ts.ephemeral) a × (ts.isfrozen ≡ true → NoAddr (locs_of ts.frozen) a)
+pub held_iff : (ts : Tables) (q : Requests) → table_form ts.persistent ≡ true → table_form ts.ephemeral ≡ true →
+    table_form ts.frozen ≡ true → requests_form q ≡ true → (a : ℕ) →
+    (held_in ts q a ≡ false) ↔ (NoAddr (locs_of ts.persistent) a × NoAddr (locs_of ts.ephemeral) a
+    × (ts.isfrozen ≡ true → NoAddr (locs_of ts.frozen) a)
     × ((id : ℕ) (w : OutstandingWrite) → writes_map q id ≡ some w → w.loc.addr ≡ a → ⊥))
 unfolding held_in
 held_iff ts q p e f g a = (
@@ -57,8 +60,10 @@ held_iff ts q p e f g a = (
     (λ y. (holds_addr_iff ts.frozen f a).0 (k.0.1 y)),
     (write_holds_iff q g a).0 k.1,
   )),
-  (λ (u, v, w, x). simp (or_iff, and_false_iff)
-      ((((holds_addr_iff ts.persistent p a).1 u, (holds_addr_iff ts.ephemeral e a).1 v), (λ y. (holds_addr_iff ts.frozen f a).1 (w y))), (write_holds_iff q g a).1 x)),
+  (λ (u, v, w, x). simp (or_iff, and_false_iff) (
+    (((holds_addr_iff ts.persistent p a).1 u, (holds_addr_iff ts.ephemeral e a).1 v), (λ y. (holds_addr_iff ts.frozen f a).1 (w y))),
+    (write_holds_iff q g a).1 x,
+  )),
 )
 
 -- THE GRAPH
@@ -68,7 +73,8 @@ list_names_lem : (e : Entry) (r : ℕ) → list_names e r ≡ (e.allocated && ha
 unfolding has_succ
 list_names_lem e r = go e.allocated
   where
-    go : (b : Bool) → some_below (λ j. b && names_at e.succs.count j (succ_at e.succs j) r) 8 ≡ (b && some_below (λ k. ltb k e.succs.count && eqb (succ_at e.succs k) r) 8)
+    go : (b : Bool) → some_below (λ j. b && names_at e.succs.count j (succ_at e.succs j) r) 8 ≡
+        (b && some_below (λ k. ltb k e.succs.count && eqb (succ_at e.succs k) r) 8)
     go true = refl
     go false = some_of_none (λ j. false) 8 (λ k b. refl)
 
@@ -77,16 +83,19 @@ pub has_predecessor_iff : (t : Table) → table_form t ≡ true → (r : ℕ) �
 unfolding has_predecessor
 has_predecessor_iff t f r = (
   (λ e j l g. let d = graph_some t j g in
-      rw (d.0, d.1) at (sym (list_names_lem (entry_at t j) r) ∙ none_at (λ i. list_names (entry_at t i) r) 64 j e (graph_bounded t f j l g))),
+      rw (d.0, d.1) at (sym (list_names_lem (entry_at t j) r)
+      ∙ none_at (λ i. list_names (entry_at t i) r) 64 j e (graph_bounded t f j l g))),
   (λ h. some_of_none (λ i. list_names (entry_at t i) r) 64
-      (λ i b. list_names_lem (entry_at t i) r ∙ (and_false_iff (entry_at t i).allocated (has_succ (entry_at t i).succs r)).1 (λ a. h i (entry_at t i).succs (graph_at t i a)))),
+      (λ i b. list_names_lem (entry_at t i) r
+      ∙ (and_false_iff (entry_at t i).allocated (has_succ (entry_at t i).succs r)).1 (λ a. h i (entry_at t i).succs (graph_at t i a)))),
 )
 
 -- 11 of a table write, and a part of the complete table: graph.Keys <= locs.Keys
 pub locs_complete_iff : (t : Table) → table_form t ≡ true → (locs_complete t ≡ true) ↔ ((r : ℕ) → In r (graph_of t) → In r (locs_of t))
 unfolding locs_complete
 locs_complete_iff t f = (
-  (λ e r g. let a = sym (in_graph t r) ∙ g in in_locs t r ∙ rw a at (all_at complete 64 r e (graph_bounded t f r (entry_at t r).succs (graph_at t r a)))),
+  (λ e r g. let a = sym (in_graph t r) ∙ g in
+      in_locs t r ∙ rw a at (all_at complete 64 r e (graph_bounded t f r (entry_at t r).succs (graph_at t r a)))),
   (λ h. all_of complete 64 (λ r b. split (allocated_in t r) (λ y. rw y (sym (in_locs t r) ∙ h r (in_graph t r ∙ y))) (λ y. rw y))),
 )
   where
@@ -94,7 +103,8 @@ locs_complete_iff t f = (
     complete r = not (allocated_in t r) || located_in t r
 
 -- 11, FZ
-pub needs_cached_iff : (ts : Tables) (r : ℕ) → (needs_cached ts r ≡ false) ↔ FrozenLocated (flagged ts.isfrozen (indirection_table ts.frozen)) r
+pub needs_cached_iff : (ts : Tables) (r : ℕ) →
+    (needs_cached ts r ≡ false) ↔ FrozenLocated (flagged ts.isfrozen (indirection_table ts.frozen)) r
 needs_cached_iff ts r = (
   (λ e. let h = simp (and_false_iff, and_iff, not_iff) at e in
       (flagged_each_iff ts.isfrozen (indirection_table ts.frozen) (λ t. In r t.graph → In r t.locs)).1
@@ -110,7 +120,8 @@ module _ (d : ℕ) (on : made d ≡ true) (t : Table) (f : table_form t ≡ true
   unfolding valid_test
   valid_iff = (
     (λ e r l g. let h = locs_some t r g in rw (h.0, on, h.1) at (all_at (λ r. loc_ok d (entry_at t r)) 64 r e (locs_bounded t f r l g))),
-    (λ h. all_of (λ r. loc_ok d (entry_at t r)) 64 (λ r b. split (located_in t r) (λ y. rw (y, on) (h r (entry_at t r).loc (locs_at t r y))) (λ y. rw y))),
+    (λ h. all_of (λ r. loc_ok d (entry_at t r)) 64
+        (λ r b. split (located_in t r) (λ y. rw (y, on) (h r (entry_at t r).loc (locs_at t r y))) (λ y. rw y))),
   )
 
   pub table_test_iff : (table_test d t ≡ true) ↔ WFIndirectionTable d (indirection_table t)
@@ -123,7 +134,8 @@ module _ (d : ℕ) (on : made d ≡ true) (t : Table) (f : table_form t ≡ true
           root = in_graph t 0 ∙ h.0.1;
           graph_closed = (closed_iff t f).0 h.1;
         }),
-    (λ w. let keys = all_of (λ r. not (located_in t r) || allocated_in t r) 64 (λ r b. split (located_in t r) (λ y. rw (y, located_allocated t f r y)) (λ y. rw y)) in
+    (λ w. let keys = all_of (λ r. not (located_in t r) || allocated_in t r) 64
+        (λ r b. split (located_in t r) (λ y. rw (y, located_allocated t f r y)) (λ y. rw y)) in
         simp and_iff (((valid_iff.1 w.valid, keys), sym (in_graph t 0) ∙ w.root), (closed_iff t f).1 w.graph_closed)),
   )
 
@@ -144,7 +156,9 @@ module _ (d : ℕ) (on : made d ≡ true) (t : Table) (f : table_form t ≡ true
 
 -- 9 of a table's page-in
 pub table_rejected_iff : (d : ℕ) (on : made d ≡ true) (b : Brought) (t : Table) → table_form t ≡ true →
-    (table_rejected b d t ≡ false) ↔ ((something_in b ≡ true) × (WFCompleteIndirectionTable d (indirection_table t) × AllLocationsForDifferentRefsDontOverlap (indirection_table t)))
+    (table_rejected b d t ≡ false) ↔
+    ((something_in b ≡ true) × (WFCompleteIndirectionTable d (indirection_table t)
+    × AllLocationsForDifferentRefsDontOverlap (indirection_table t)))
 table_rejected_iff d on Something t f = (
   (λ e. let h = simp (or_iff, not_iff) at e in (refl, ((complete_test_iff d on t f).0 h.0, λ r q l k. (distinct_iff t f).0 h.1 r q l k))),
   (λ (s, h). simp (or_iff, not_iff) ((complete_test_iff d on t f).1 h.0, (distinct_iff t f).1 (λ r q l k. h.1 r q l k))),
@@ -152,7 +166,8 @@ table_rejected_iff d on Something t f = (
 table_rejected_iff d on Nothing t f = ((λ e. absurd (true≢false e)), (λ (s, h). absurd (false≢true s)))
 
 -- 9 of a node's page-in, for a reference that is allocated
-pub node_rejected_iff : (b : Brought) (e : Entry) (n : Node) → e.allocated ≡ true → (node_rejected b true e n ≡ false) ↔ ((something_in b ≡ true) × SameSuccs e.succs n)
+pub node_rejected_iff : (b : Brought) (e : Entry) (n : Node) → e.allocated ≡ true →
+    (node_rejected b true e n ≡ false) ↔ ((something_in b ≡ true) × SameSuccs e.succs n)
 node_rejected_iff Something e n a = (
   (λ h. (refl, (same_set_iff e.succs n.succs).0 ((not_iff _).0 (rw a at h)))),
   (λ (s, h). rw a ((not_iff (same_set e.succs n.succs)).1 ((same_set_iff e.succs n.succs).1 h))),
@@ -166,10 +181,12 @@ pub assigned_form : (t : Table) (r : ℕ) (l : Location) → table_form t ≡ tr
 unfolding assigned
 assigned_form t r l f b =
     split ((entry_at t r).allocated && not (entry_at t r).located)
-    (λ y. rw y (with_entry_form t r (record { allocated = true; located = true; loc = l; succs = (entry_at t r).succs }) f b (rw (entry_succs (entry_at t r) (entry_at_form t f r b)))))
+    (λ y. rw y (with_entry_form t r (record { allocated = true; located = true; loc = l; succs = (entry_at t r).succs }) f b
+    (rw (entry_succs (entry_at t r) (entry_at_form t f r b)))))
     (λ y. rw y f)
 
-pub assigned_is : (t : Table) (r : ℕ) (l : Location) → table_form t ≡ true → r < 64 → indirection_table (assigned t r l) ≡ assign_ref_to_location (indirection_table t) r l
+pub assigned_is : (t : Table) (r : ℕ) (l : Location) → table_form t ≡ true → r < 64 →
+    indirection_table (assigned t r l) ≡ assign_ref_to_location (indirection_table t) r l
 unfolding assigned assign_ref_to_location
 assigned_is t r l f b =
     split ((entry_at t r).allocated && not (entry_at t r).located)

@@ -140,11 +140,13 @@ module _ (g : Settings) (c : CacheState) where
   unfolding chooser choice_by answer
   choice_unready s f r = rw (s, f, r)
 
-  pub choice_full : settings_form g ≡ true → cache_form g.device c ≡ true → is_ready c ≡ true → all_below (marked g c) 128 ≡ true → chooser g c ≡ refused_choice 21 c
+  pub choice_full : settings_form g ≡ true → cache_form g.device c ≡ true → is_ready c ≡ true → all_below (marked g c) 128 ≡ true →
+      chooser g c ≡ refused_choice 21 c
   unfolding chooser choice_by answer
   choice_full s f r a = rw (s, f, r, a)
 
-  pub choice_given : settings_form g ≡ true → cache_form g.device c ≡ true → is_ready c ≡ true → all_below (marked g c) 128 ≡ false → answer rows ≡ 0
+  pub choice_given : settings_form g ≡ true → cache_form g.device c ≡ true → is_ready c ≡ true → all_below (marked g c) 128 ≡ false →
+      answer rows ≡ 0
   unfolding answer
   choice_given s f r a = rw (s, f, r, a)
 
@@ -158,7 +160,13 @@ module _ (g : Settings) (c : CacheState) where
     (λ e. split (settings_form g && cache_form g.device c)
         (λ f. let h = (and_iff (settings_form g) (cache_form g.device c)).0 f in
         split (is_ready c)
-        (λ r. (h.0, h.1, r, split (all_below (marked g c) 128) (λ a b l. all_at (marked g c) 128 b a l) (λ a. absurd (let z : ◌≡◌ {A = ℕ} 0 21 = rw (f, r, a) at e in omega arith))))
+        (λ r. (
+          h.0,
+          h.1,
+          r,
+          split (all_below (marked g c) 128) (λ a b l. all_at (marked g c) 128 b a l)
+              (λ a. absurd (let z : ◌≡◌ {A = ℕ} 0 21 = rw (f, r, a) at e in omega arith)),
+        ))
         (λ r. absurd (let z : ◌≡◌ {A = ℕ} 4 21 = rw (f, r) at e in omega arith)))
         (λ f. absurd (let z : ◌≡◌ {A = ℕ} 1 21 = rw f at e in omega arith))),
     (λ (s, f, r, a). rw (s, f, r, all_of (marked g c) 128 a)),
@@ -196,9 +204,11 @@ given_usable g c q id len e o some most =
     let w = device_of g.device in
     let l : Location = record { addr = node_block_addr w b; len = len } in
     let m = ((and_iff (made g.device) (is_rule g.rule)).0 (choice_accepted g c e).settings).0 in
-    let v : valid_node_location w l ≡ true = (node_iff w l).1 (record { there = (node_addr_iff w (node_block_addr w b)).0 (block_valid w (device_good g.device) b); short = most }) in
+    let v : valid_node_location w l ≡ true = (node_iff w l).1
+    (record { there = (node_addr_iff w (node_block_addr w b)).0 (block_valid w (device_good g.device) b); short = most }) in
     rw (gives_cache g c e)
-    (place_rows g (with_last c b) q id l (o ∙ ap (λ a. ReqWriteNodeOp id (record { addr = a; len = len })) (gives_addr g c e)) m v (λ (z : len ≡ 0). omega arith)
+    (place_rows g (with_last c b) q id l (o ∙ ap (λ a. ReqWriteNodeOp id (record { addr = a; len = len })) (gives_addr g c e)) m v
+    (λ (z : len ≡ 0). omega arith)
     (sym (marked_held g.device c.tables c.outstanding.writes b) ∙ (not_true_iff (marked g c b)).0 (block_free g c e)))
 
 -- THE BLOCK GIVEN LAST, AFTER A STEP
@@ -209,7 +219,8 @@ unfolding step_of steps
 loaded_last d c q = refl
 
 -- after another accepted step that ends in Ready, which then began there too, it is as before
-pub last_stays : (g : Settings) (c : CacheState) (n : ℕ) (q : Call) → answer (cache_rows g c n q) ≡ 0 → is_load n ≡ false → is_ready (cache_next g.device c n q) ≡ true →
+pub last_stays : (g : Settings) (c : CacheState) (n : ℕ) (q : Call) → answer (cache_rows g c n q) ≡ 0 → is_load n ≡ false →
+    is_ready (cache_next g.device c n q) ≡ true →
     (is_ready c ≡ true) × ((cache_next g.device c n q).blocks.last ≡ c.blocks.last)
 last_stays g c n q e l t =
     let x = (call_accepted_iff g c n q).0 e in

@@ -10,7 +10,8 @@ use lib.Dec.{eqb, leb}
 use Rattle.base.proofs.Flagged.{flagged_ext, flagged_none_iff}
 use Rattle.base.proofs.Tests.{and_iff, and_right, not_true_iff, or_true_iff}
 use Rattle.base.specs.Maps.{empty}
-use Rattle.blockcache.proofs.Forms.{BlocksForm, Idle, PartsForm, cache_form_iff, frozen_empty, idle_iff, no_nodes_map, reads_form_iff, reads_requests, writes_form_iff, writes_requests}
+use Rattle.blockcache.proofs.Forms.{BlocksForm, Idle, PartsForm, cache_form_iff, frozen_empty, idle_iff, no_nodes_map, reads_form_iff}
+use Rattle.blockcache.proofs.Forms.{reads_requests, writes_form_iff, writes_requests}
 use Rattle.blockcache.proofs.InvLaws.{ready_ext}
 use Rattle.blockcache.proofs.Waiting.{reads_empty_iff, writes_empty_iff}
 use Rattle.blockcache.specs.Abstract.{awaited_id, cache_vars, reads_map, ready_vars, vars_in, write_of, writes_map}
@@ -34,14 +35,16 @@ use Rattle.sectortype.specs.Form.{empty_table, loc_zero}
 writes_decided : (q p : Requests) → writes_form q ≡ true → writes_form p ≡ true → writes_map q ≡ writes_map p → q ≡ p
 unfolding writes_map
 writes_decided q p f g =
-    mapped_decided write_of write_ok (λ v w a b i e. request_ext i (ap (λ (x : OutstandingWrite). x.ref) e) (ap (λ (x : OutstandingWrite). x.loc) e)) q p
+    mapped_decided write_of write_ok
+    (λ v w a b i e. request_ext i (ap (λ (x : OutstandingWrite). x.ref) e) (ap (λ (x : OutstandingWrite). x.loc) e)) q p
     ((writes_form_iff q).0 f) ((writes_form_iff p).0 g)
 
 -- a read keeps its place zero
 reads_decided : (q p : Requests) → reads_form q ≡ true → reads_form p ≡ true → reads_map q ≡ reads_map p → q ≡ p
 unfolding reads_map
 reads_decided q p f g =
-    mapped_decided (λ w. w.reference) read_ok (λ v w a b i e. request_ext i e (nowhere v a ∙ sym (nowhere w b))) q p ((reads_form_iff q).0 f) ((reads_form_iff p).0 g)
+    mapped_decided (λ w. w.reference) read_ok (λ v w a b i e. request_ext i e (nowhere v a ∙ sym (nowhere w b))) q p
+    ((reads_form_iff q).0 f) ((reads_form_iff p).0 g)
   where
     nowhere : (w : Request) → read_ok w ≡ true → w.loc ≡ zero_loc
     nowhere w h = loc_zero_is w.loc (and_right (leb w.reference 63) (loc_zero w.loc) h)
@@ -51,7 +54,8 @@ reads_decided q p f g =
 module _ (c e : CacheState) (f : PartsForm c) (g : PartsForm e) (phase : c.phase ≡ e.phase) (same : ready_vars c ≡ ready_vars e)
     (d : ℕ) (fb : BlocksForm d c) (gb : BlocksForm d e) (last : c.blocks.last ≡ e.blocks.last) where
   -- a frozen table, a frozen place and an awaited id that are absent are zeros
-  no_table : (s : CacheState) (h : PartsForm s) → s.tables.isfrozen ≡ false → indirection_table s.tables.frozen ≡ indirection_table empty_table
+  no_table : (s : CacheState) (h : PartsForm s) → s.tables.isfrozen ≡ false →
+      indirection_table s.tables.frozen ≡ indirection_table empty_table
   no_table s h t = ap indirection_table (table_zero_is s.tables.frozen h.tables.frozen (frozen_empty s h t))
 
   no_place : (s : CacheState) (h : PartsForm s) → s.places.isfrozen ≡ false → s.places.frozen ≡ zero_loc
@@ -62,15 +66,20 @@ module _ (c e : CacheState) (f : PartsForm c) (g : PartsForm e) (phase : c.phase
 
   parts_decided : c ≡ e
   parts_decided =
-      let p = (table_abstract c.tables.persistent e.tables.persistent f.tables.persistent g.tables.persistent).0 (ap (λ x. x.persistent_indirection_table) same) in
-      let t = (table_abstract c.tables.ephemeral e.tables.ephemeral f.tables.ephemeral g.tables.ephemeral).0 (ap (λ x. x.ephemeral_indirection_table) same) in
-      let z = flagged_ext _ _ _ _ (indirection_table empty_table) (no_table c f) (no_table e g) (ap (λ x. x.frozen_indirection_table) same) in
+      let p = (table_abstract c.tables.persistent e.tables.persistent f.tables.persistent g.tables.persistent).0
+      (ap (λ x. x.persistent_indirection_table) same) in
+      let t = (table_abstract c.tables.ephemeral e.tables.ephemeral f.tables.ephemeral g.tables.ephemeral).0
+      (ap (λ x. x.ephemeral_indirection_table) same) in
+      let z = flagged_ext _ _ _ _ (indirection_table empty_table) (no_table c f) (no_table e g)
+      (ap (λ x. x.frozen_indirection_table) same) in
       let zt = (table_abstract c.tables.frozen e.tables.frozen f.tables.frozen g.tables.frozen).0 z.1 in
       let l = ap (λ x. x.persistent_indirection_table_loc) same in
       let y = flagged_ext _ _ _ _ zero_loc (no_place c f) (no_place e g) (ap (λ x. x.frozen_indirection_table_loc) same) in
       let a = flagged_ext _ _ _ _ 0 (no_id c f) (no_id e g) (ap (λ x. x.outstanding_indirection_table_write) same) in
-      let w = writes_decided c.outstanding.writes e.outstanding.writes f.outstanding.writes g.outstanding.writes (ap (λ x. x.outstanding_block_writes) same) in
-      let r = reads_decided c.outstanding.reads e.outstanding.reads f.outstanding.reading g.outstanding.reading (ap (λ x. x.outstanding_block_reads) same) in
+      let w = writes_decided c.outstanding.writes e.outstanding.writes f.outstanding.writes g.outstanding.writes
+      (ap (λ x. x.outstanding_block_writes) same) in
+      let r = reads_decided c.outstanding.reads e.outstanding.reads f.outstanding.reading g.outstanding.reading
+      (ap (λ x. x.outstanding_block_reads) same) in
       let n = nodes_ext c.nodes e.nodes f.nodes g.nodes (ap (λ x. x.cache) same) in
       let marks : c.blocks.marks ≡ e.blocks.marks =
       fb.marks ∙ (λ i. marks_of d (record { persistent = p i; ephemeral = t i; isfrozen = z.0 i; frozen = zt i }) (w i)) ∙ sym gb.marks in
@@ -107,7 +116,8 @@ idle_vars_lem c f i =
     ((flagged_none_iff c.tables.isfrozen (indirection_table c.tables.frozen)).0 i.no_frozen)
     (ap indirection_table (table_zero_is c.tables.ephemeral f.tables.ephemeral i.no_ephemeral)) refl
     ((flagged_none_iff c.places.isfrozen c.places.frozen).0 i.no_place) refl
-    ((writes_empty_iff c.outstanding.writes (writes_requests c f)).0 i.no_writes) ((reads_empty_iff c.outstanding.reads (reads_requests c f)).0 i.no_reads)
+    ((writes_empty_iff c.outstanding.writes (writes_requests c f)).0 i.no_writes)
+    ((reads_empty_iff c.outstanding.reads (reads_requests c f)).0 i.no_reads)
     (no_nodes_map c.nodes f.nodes i.no_nodes)
 
 -- Unready: no place, nothing awaited
@@ -134,7 +144,8 @@ module _ (c e : CacheState) (f : PartsForm c) (g : PartsForm e) where
   by_phase PhaseReady PhaseUnready u v s = absurd (let z : ◌≡◌ {A = ℕ} 0 1 = cc in omega arith)
   by_phase PhaseReady PhaseLoading u v s = absurd (let z : ◌≡◌ {A = ℕ} 0 1 = cc in omega arith)
 
-pub cache_decided : (d : ℕ) (c e : CacheState) → cache_form d c ≡ true → cache_form d e ≡ true → cache_vars c ≡ cache_vars e → c.blocks.last ≡ e.blocks.last → c ≡ e
+pub cache_decided : (d : ℕ) (c e : CacheState) → cache_form d c ≡ true → cache_form d e ≡ true → cache_vars c ≡ cache_vars e →
+    c.blocks.last ≡ e.blocks.last → c ≡ e
 unfolding phase_form
 cache_decided d c e f g s last =
     let (x, a) = (cache_form_iff d c).0 f in

@@ -33,7 +33,8 @@ use Rattle.blockcache.specs.declared.Settings.{Settings}
 
 module _ (g : Settings) (c : CacheState) (q : Call) (w : WellFormed g c q) where
   -- the rows of a step are clear exactly where its predicate allows it and no narrowing of it applies
-  step_accepted : (step : Step) → Clear (step_rows g c q step) ↔ ((step_narrowed g c q step ≡ false) × ((s' : Variables) × Next g c q step s'))
+  step_accepted : (step : Step) →
+      Clear (step_rows g c q step) ↔ ((step_narrowed g c q step ≡ false) × ((s' : Variables) × Next g c q step s'))
   step_accepted step =
       let x = exact g c q w step in
       let gates = gate_iff (takes c.phase q.vop q.dop step) (own_rows g c q step) in
@@ -55,7 +56,8 @@ abbrev pub StoreAllows : ℕ → CacheState → ℕ → Call → Type 0
 StoreAllows d c n q =
     (step : Step) × (step_of n ≡ some step) × ((s' : Variables) × StoreStep d (cache_vars c) s' (call_op q) q.vop q.reference q.node step)
 
-pub store_accepted : (g : Settings) (c : CacheState) (n : ℕ) (q : Call) → (answer (cache_rows g c n q) ≡ 0) ↔ ((narrowed g c n q ≡ false) × StoreAllows g.device c n q)
+pub store_accepted : (g : Settings) (c : CacheState) (n : ℕ) (q : Call) →
+    (answer (cache_rows g c n q) ≡ 0) ↔ ((narrowed g c n q ≡ false) × StoreAllows g.device c n q)
 unfolding narrowed
 store_accepted g c n q = (
   (λ e. let x = (call_accepted_iff g c n q).0 e in
@@ -69,9 +71,11 @@ store_accepted g c n q = (
 )
 
 pub store_allowed : (g : Settings) (c : CacheState) (n : ℕ) (q : Call) → answer (cache_rows g c n q) ≡ 0 →
-    (step : Step) × (step_of n ≡ some step) × StoreStep g.device (cache_vars c) (cache_vars (cache_next g.device c n q)) (call_op q) q.vop q.reference q.node step
+    (step : Step) × (step_of n ≡ some step)
+    × StoreStep g.device (cache_vars c) (cache_vars (cache_next g.device c n q)) (call_op q) q.vop q.reference q.node step
 store_allowed g c n q e =
-    let x = (call_accepted_iff g c n q).0 e in (x.step, x.is, rw x.is (rw (marks_forgotten g.device (step_next c q x.step)) (step_allowed g c q x.form x.step x.clear)))
+    let x = (call_accepted_iff g c n q).0 e in
+    (x.step, x.is, rw x.is (rw (marks_forgotten g.device (step_next c q x.step)) (step_allowed g c q x.form x.step x.clear)))
 
 -- THE THEOREMS: upstream's steps
 
@@ -92,7 +96,8 @@ module _ (g : Settings) (c : CacheState) (n : ℕ) (q : Call) (old : is_new n �
       )
 
   pub cache_allowed : answer (cache_rows g c n q) ≡ 0 →
-      (step : Step) × (step_of n ≡ some step) × NextStep g.device (cache_vars c) (cache_vars (cache_next g.device c n q)) (call_op q) q.vop q.reference q.node step
+      (step : Step) × (step_of n ≡ some step)
+      × NextStep g.device (cache_vars c) (cache_vars (cache_next g.device c n q)) (call_op q) q.vop q.reference q.node step
   cache_allowed e = let x = store_allowed g c n q e in (x.0, x.1, rw (upstreams n x.0 old x.1) at x.2)
 
 -- an accepted read leaves the cache as it is, and ReadStep names the cached node
@@ -101,7 +106,8 @@ pub cache_read : (g : Settings) (c : CacheState) (q : Call) → answer (cache_ro
 unfolding step_of steps
 cache_read g c q e =
     let x = (call_accepted_iff g c 17 q).0 e in
-    let k : Clear (step_rows g c q read_step) = subst (λ s. Clear (step_rows g c q s)) (number_decides 17 x.step read_step x.is refl) x.clear in
+    let k : Clear (step_rows g c q read_step) = subst (λ s. Clear (step_rows g c q s))
+    (number_decides 17 x.step read_step x.is refl) x.clear in
     let h = (gate_iff (takes c.phase q.vop q.dop read_step) (own_rows g c q read_step)).0 k in
     (h.0.2, right_marks g.device c x.form.blocks.marks, read_cached g c q x.form h.1)
 

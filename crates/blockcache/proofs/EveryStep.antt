@@ -12,10 +12,11 @@ use Rattle.base.proofs.Refusals.{Clear}
 use Rattle.base.proofs.Tests.{not_iff, split}
 use Rattle.base.specs.Refusals.{◌when◌, ascending}
 use Rattle.blockcache.proofs.Bridge.{assigned_form}
-use Rattle.blockcache.proofs.FormLaws.{assigned_absent, cached_slot_form, empty_cache_form, loading_form, received_form, unlocated_form, with_awaited_form, with_ephemeral_form}
-use Rattle.blockcache.proofs.FormLaws.{with_nodes_form, with_places_form, with_reads_form, with_tables_form, with_writes_form}
-use Rattle.blockcache.proofs.Forms.{PartsForm, frozen_empty, Idle, idle_iff, loading_idle, read_ref_bounded, reads_insert_form, reads_remove_form, ready_form, WellFormed}
-use Rattle.blockcache.proofs.Forms.{writes_insert_form, writes_remove_form}
+use Rattle.blockcache.proofs.FormLaws.{assigned_absent, cached_slot_form, empty_cache_form, loading_form, received_form, unlocated_form}
+use Rattle.blockcache.proofs.FormLaws.{with_awaited_form, with_ephemeral_form, with_nodes_form, with_places_form, with_reads_form}
+use Rattle.blockcache.proofs.FormLaws.{with_tables_form, with_writes_form}
+use Rattle.blockcache.proofs.Forms.{PartsForm, frozen_empty, Idle, idle_iff, loading_idle, read_ref_bounded, reads_insert_form}
+use Rattle.blockcache.proofs.Forms.{reads_remove_form, ready_form, WellFormed, writes_insert_form, writes_remove_form}
 use Rattle.blockcache.proofs.Frames.{Exact, Open}
 use Rattle.blockcache.proofs.GraphSteps.{alloc_exact, dirty_exact, evict_exact, read_exact, unalloc_exact}
 use Rattle.blockcache.proofs.InvGraph.{alloc_fixed, dirty_fixed, evict_kept, set_kept, unalloc_fixed, unalloc_kept}
@@ -24,21 +25,25 @@ use Rattle.blockcache.proofs.InvWrites.{table_write_kept, table_written_kept, wr
 use Rattle.blockcache.proofs.LetGoStep.{let_go_exact}
 use Rattle.blockcache.proofs.OtherSteps.{clean_up_exact, crash_exact, freeze_exact, no_op_exact, transaction_exact}
 use Rattle.blockcache.proofs.ReadAnswers.{awaits_read_is, table_not_node}
-use Rattle.blockcache.proofs.ReadSteps.{page_in_node_req_exact, page_in_node_resp_exact, page_in_table_req_exact, page_in_table_resp_exact, receive_loc_exact}
-use Rattle.blockcache.proofs.WriteSteps.{write_back_node_req_exact, write_back_node_resp_exact, write_back_table_req_exact, write_back_table_resp_exact}
+use Rattle.blockcache.proofs.ReadSteps.{page_in_node_req_exact, page_in_node_resp_exact, page_in_table_req_exact, page_in_table_resp_exact}
+use Rattle.blockcache.proofs.ReadSteps.{receive_loc_exact}
+use Rattle.blockcache.proofs.WriteSteps.{write_back_node_req_exact, write_back_node_resp_exact, write_back_table_req_exact}
+use Rattle.blockcache.proofs.WriteSteps.{write_back_table_resp_exact}
 use Rattle.blockcache.specs.Form.{awaited_form, is_ready, loading_phase, not_waiting}
 use Rattle.blockcache.specs.Freezing.{with_rule}
 use Rattle.blockcache.specs.LetGo.{LetNodeGo, StoreStep}
-use Rattle.blockcache.specs.Next.{assigned, cached_slot, node_set, step_next, unlocated, waiting_for, with_awaited, with_ephemeral, with_nodes, with_places, with_tables, with_writes}
+use Rattle.blockcache.specs.Next.{assigned, cached_slot, node_set, step_next, unlocated, waiting_for, with_awaited, with_ephemeral}
+use Rattle.blockcache.specs.Next.{with_nodes, with_places, with_tables, with_writes}
 use Rattle.blockcache.specs.NextStep.{OnBoth}
 use Rattle.blockcache.specs.Ops.{dop_id, dop_loc, vop_loc}
 use Rattle.blockcache.specs.Rows.{awaits_read, own_rows, step_rows}
-use Rattle.blockcache.specs.Steps.{alloc_step, clean_up_step, crash_step, dirty_step, evict_step, freeze_step, let_go_step, no_op_step, number_of, page_in_indirection_table_req_step}
-use Rattle.blockcache.specs.Steps.{page_in_indirection_table_resp_step, page_in_node_req_step, page_in_node_resp_step, read_step, receive_loc_step}
-use Rattle.blockcache.specs.Steps.{Step, step_of, steps, transaction_step, unalloc_step}
-use Rattle.blockcache.specs.Steps.{write_back_indirection_table_req_step, write_back_indirection_table_resp_step, write_back_node_req_step, write_back_node_resp_step}
-use Rattle.blockcache.specs.Upstream.{Alloc, CleanUp, Dirty, Evict, Freeze, PageInNodeReq, PageInNodeResp, Ready, Unalloc, Variables, WriteBackIndirectionTableReq}
-use Rattle.blockcache.specs.Upstream.{WriteBackIndirectionTableResp, WriteBackNodeReq, WriteBackNodeResp}
+use Rattle.blockcache.specs.Steps.{alloc_step, clean_up_step, crash_step, dirty_step, evict_step, freeze_step, let_go_step, no_op_step}
+use Rattle.blockcache.specs.Steps.{number_of, page_in_indirection_table_req_step, page_in_indirection_table_resp_step}
+use Rattle.blockcache.specs.Steps.{page_in_node_req_step, page_in_node_resp_step, read_step, receive_loc_step, Step, step_of, steps}
+use Rattle.blockcache.specs.Steps.{transaction_step, unalloc_step, write_back_indirection_table_req_step}
+use Rattle.blockcache.specs.Steps.{write_back_indirection_table_resp_step, write_back_node_req_step, write_back_node_resp_step}
+use Rattle.blockcache.specs.Upstream.{Alloc, CleanUp, Dirty, Evict, Freeze, PageInNodeReq, PageInNodeResp, Ready, Unalloc, Variables}
+use Rattle.blockcache.specs.Upstream.{WriteBackIndirectionTableReq, WriteBackIndirectionTableResp, WriteBackNodeReq, WriteBackNodeResp}
 use Rattle.blockcache.specs.UpstreamInv.{Inv, InvReady}
 use Rattle.blockcache.specs.declared.Awaited.{Awaited}
 use Rattle.blockcache.specs.declared.CacheState.{CacheState}
@@ -223,7 +228,8 @@ module _ (g : Settings) (c : CacheState) (q : Call) (w : WellFormed g c q) where
   set_node_form : is_ready c ≡ true → PartsForm (node_set c q)
   set_node_form ok =
       let t = with_entry table r (unlocated q.node.succs) in
-      let e = with_ephemeral_form c f ok t (with_entry_form table r (unlocated q.node.succs) f.tables.ephemeral w.call.reference (unlocated_form q.node w.call.node)) in
+      let e = with_ephemeral_form c f ok t
+      (with_entry_form table r (unlocated q.node.succs) f.tables.ephemeral w.call.reference (unlocated_form q.node w.call.node)) in
       with_nodes_form (with_ephemeral c t) e ok (with_slot c.nodes r (cached_slot q.node))
       (with_slot_form c.nodes r (cached_slot q.node) f.nodes w.call.reference (cached_slot_form q.node w.call.node))
 
@@ -241,7 +247,8 @@ module _ (g : Settings) (c : CacheState) (q : Call) (w : WellFormed g c q) where
         frozen_absent = frozen_kept;
       })
   next_form write_back_node_resp_step taken k =
-      with_writes_form c f taken.2 (remove_of writing id) (writes_remove_form writing id f.outstanding.writes ((not_iff (has_of writing id)).0 k.0))
+      with_writes_form c f taken.2 (remove_of writing id)
+      (writes_remove_form writing id f.outstanding.writes ((not_iff (has_of writing id)).0 k.0))
   next_form write_back_indirection_table_req_step taken k =
       let ps : Places = record { persistent = c.places.persistent; isfrozen = true; frozen = loc } in
       with_awaited_form (with_places c ps) (with_places_form c f taken.2 ps refl) taken.2 (waiting_for id) refl
@@ -249,7 +256,8 @@ module _ (g : Settings) (c : CacheState) (q : Call) (w : WellFormed g c q) where
   next_form unalloc_step taken k =
       let t = with_entry table r zero_entry in
       let e = with_ephemeral_form c f taken.2 t (with_entry_form table r zero_entry f.tables.ephemeral w.call.reference zero_entry_form) in
-      with_nodes_form (with_ephemeral c t) e taken.2 (with_slot c.nodes r zero_slot) (with_slot_form c.nodes r zero_slot f.nodes w.call.reference zero_slot_form)
+      with_nodes_form (with_ephemeral c t) e taken.2 (with_slot c.nodes r zero_slot)
+      (with_slot_form c.nodes r zero_slot f.nodes w.call.reference zero_slot_form)
   next_form page_in_node_req_step taken k =
       let new : Request = record { id = id; reference = r; loc = zero_loc } in
       with_reads_form c f taken.2 (insert_of reads new)
@@ -259,7 +267,8 @@ module _ (g : Settings) (c : CacheState) (q : Call) (w : WellFormed g c q) where
       let ref = (entry_of reads id).reference in
       let m = with_slot c.nodes ref (cached_slot q.node) in
       let n = with_nodes_form c f taken.2 m
-      (with_slot_form c.nodes ref (cached_slot q.node) f.nodes (read_ref_bounded reads id f.outstanding.reading there) (cached_slot_form q.node w.call.node)) in
+      (with_slot_form c.nodes ref (cached_slot q.node) f.nodes (read_ref_bounded reads id f.outstanding.reading there)
+      (cached_slot_form q.node w.call.node)) in
       with_reads_form (with_nodes c m) n taken.2 (remove_of reads id) (reads_remove_form reads id f.outstanding.reading there)
   next_form page_in_indirection_table_req_step taken k = loading_awaited_form (waiting_for id) refl taken.2
   next_form page_in_indirection_table_resp_step taken k =
@@ -273,7 +282,8 @@ module _ (g : Settings) (c : CacheState) (q : Call) (w : WellFormed g c q) where
       }
   next_form receive_loc_step taken k = received_form (vop_loc q.vop)
   next_form evict_step taken k =
-      with_nodes_form c f taken.2 (with_slot c.nodes r zero_slot) (with_slot_form c.nodes r zero_slot f.nodes w.call.reference zero_slot_form)
+      with_nodes_form c f taken.2 (with_slot c.nodes r zero_slot)
+      (with_slot_form c.nodes r zero_slot f.nodes w.call.reference zero_slot_form)
   next_form freeze_step taken k =
       let ts : Tables = record { persistent = c.tables.persistent; ephemeral = table; isfrozen = true; frozen = table } in
       let h = with_tables_form c f taken.2 ts
@@ -299,7 +309,8 @@ module _ (g : Settings) (c : CacheState) (q : Call) (w : WellFormed g c q) where
 -- UPSTREAM'S INV IS KEPT. No narrowing is needed for it: a used id, which upstream would overwrite, keeps it too.
 
 -- from Ready to Ready
-both_kept : (d : ℕ) (s s' : Variables) (P : Ready → Ready → Type 0) → ((x y : Ready) → InvReady d x → P x y → InvReady d y) → OnBoth s s' P → Inv d s → Inv d s'
+both_kept : (d : ℕ) (s s' : Variables) (P : Ready → Ready → Type 0) → ((x y : Ready) → InvReady d x → P x y → InvReady d y) →
+    OnBoth s s' P → Inv d s → Inv d s'
 both_kept d s s' P keep (x, e, (y, e', p)) i = subst (Inv d) (sym e') (keep x y (subst (Inv d) e i) p)
 
 -- a next state that is fixed
@@ -309,11 +320,13 @@ fixed_kept d e i = subst (InvReady d) (sym e) i
 module _ (d : ℕ) (s s' : Variables) (dop : Dop) (vop : VersionOp) (r : ℕ) (n : Node) where
   pub next_inv : (step : Step) → StoreStep d s s' dop vop r n step → Inv d s → Inv d s'
   next_inv write_back_node_req_step (v, (id, loc, m, e, p)) =
-      both_kept d s s' (λ x y. WriteBackNodeReq d x y id loc m r) (λ x y i u. fixed_kept d (write_fixed d x y id loc m r u) (write_kept d x y id loc m r i u)) p
+      both_kept d s s' (λ x y. WriteBackNodeReq d x y id loc m r)
+      (λ x y i u. fixed_kept d (write_fixed d x y id loc m r u) (write_kept d x y id loc m r i u)) p
   next_inv write_back_node_resp_step (v, (id, e, p)) =
       both_kept d s s' (λ x y. WriteBackNodeResp x y id) (λ x y i u. fixed_kept d u.next (written_kept d x id i)) p
   next_inv write_back_indirection_table_req_step (v, (id, loc, t, e, p)) =
-      both_kept d s s' (λ x y. WriteBackIndirectionTableReq d x y id loc t) (λ x y i u. fixed_kept d u.next (table_write_kept d x y id loc t i u)) p
+      both_kept d s s' (λ x y. WriteBackIndirectionTableReq d x y id loc t)
+      (λ x y i u. fixed_kept d u.next (table_write_kept d x y id loc t i u)) p
   next_inv write_back_indirection_table_resp_step (l, v, (id, e, p)) =
       both_kept d s s' (λ x y. WriteBackIndirectionTableResp x y id l) (λ x y i u. fixed_kept d u.next (table_written_kept d x i)) p
   next_inv unalloc_step (v, o, p) =
@@ -327,13 +340,16 @@ module _ (d : ℕ) (s s' : Variables) (dop : Dop) (vop : VersionOp) (r : ℕ) (n
       λ i. subst (Inv d) (sym e') (fixed_kept d (loaded_fixed d at read y id t u) (loaded_inv d u.t at u.wf u.distinct (subst (Inv d) q i)))
   next_inv receive_loc_step (o, (l, v, u)) = λ i. subst (Inv d) (sym u.next) u.valid
   next_inv evict_step (v, o, p) = both_kept d s s' (λ x y. Evict x y r) (λ x y i u. fixed_kept d u.next (evict_kept d x y r i u)) p
-  next_inv freeze_step (v, o, p) = both_kept d s s' (λ x y. Freeze x y) (λ x y i u. fixed_kept d u.next (freeze_kept d x i u.no_table_write)) p
+  next_inv freeze_step (v, o, p) =
+      both_kept d s s' (λ x y. Freeze x y) (λ x y i u. fixed_kept d u.next (freeze_kept d x i u.no_table_write)) p
   next_inv clean_up_step (v, o, p) = both_kept d s s' (λ x y. CleanUp x y) (λ x y i u. fixed_kept d u.next (clean_up_kept d x y i u)) p
   next_inv no_op_step (v, u) = λ i. subst (Inv d) (sym u.next) i
   next_inv dirty_step (t, p) =
-      both_kept d s s' (λ x y. Dirty x y r n) (λ x y i u. fixed_kept d (dirty_fixed x y r n u) (set_kept d x r u.list n i u.points u.succs)) p
+      both_kept d s s' (λ x y. Dirty x y r n)
+      (λ x y i u. fixed_kept d (dirty_fixed x y r n u) (set_kept d x r u.list n i u.points u.succs)) p
   next_inv alloc_step (t, p) =
-      both_kept d s s' (λ x y. Alloc x y r n) (λ x y i u. fixed_kept d (alloc_fixed d x y r n i u) (set_kept d x r u.list n i u.points u.succs)) p
+      both_kept d s s' (λ x y. Alloc x y r n)
+      (λ x y i u. fixed_kept d (alloc_fixed d x y r n i u) (set_kept d x r u.list n i u.points u.succs)) p
   next_inv read_step (e, p) = λ i. subst (Inv d) (sym e) i
   next_inv crash_step (v, e) = λ i. subst (Inv d) (sym e) tt
   next_inv let_go_step g =

@@ -4,8 +4,10 @@ use mathlib.Core.Bool.{false, false≢true, true}
 use mathlib.Core.Path.{◌∙◌, ◌≡◌, refl, sym}
 use Rattle.base.proofs.Scan.{count_zero_at}
 use Rattle.blockcache.proofs.Forms.{PartsForm, empty_reads_form, empty_writes_form, OutstandingForm, ready_form, TablesForm}
-use Rattle.blockcache.specs.Form.{awaited_form, empty_cache, form_in, idle, is_ready, loading_at, loading_phase, phase_form, places_form, reads_form, writes_form}
-use Rattle.blockcache.specs.Next.{assigned, cached_slot, unlocated, with_awaited, with_ephemeral, with_nodes, with_outstanding, with_places, with_reads, with_tables, with_writes}
+use Rattle.blockcache.specs.Form.{awaited_form, empty_cache, form_in, idle, is_ready, loading_at, loading_phase, phase_form, places_form}
+use Rattle.blockcache.specs.Form.{reads_form, writes_form}
+use Rattle.blockcache.specs.Next.{assigned, cached_slot, unlocated, with_awaited, with_ephemeral, with_nodes, with_outstanding, with_places}
+use Rattle.blockcache.specs.Next.{with_reads, with_tables, with_writes}
 use Rattle.blockcache.specs.declared.Awaited.{Awaited}
 use Rattle.blockcache.specs.declared.CacheState.{CacheState}
 use Rattle.blockcache.specs.declared.Outstanding.{Outstanding}
@@ -72,23 +74,63 @@ received_form l = loading_at_form PhaseLoading l refl
 module _ (c : CacheState) (f : PartsForm c) (ok : is_ready c ≡ true) where
   pub with_tables_form : (ts : Tables) → TablesForm ts → PartsForm (with_tables c ts)
   with_tables_form ts h =
-      record { tables = h; places = f.places; awaited = f.awaited; outstanding = f.outstanding; nodes = f.nodes; phase = ready_form (with_tables c ts) ok }
+      record {
+        tables = h;
+        places = f.places;
+        awaited = f.awaited;
+        outstanding = f.outstanding;
+        nodes = f.nodes;
+        phase = ready_form
+            (with_tables c ts) ok;
+      }
 
   pub with_places_form : (ps : Places) → places_form ps ≡ true → PartsForm (with_places c ps)
   with_places_form ps h =
-      record { tables = f.tables; places = h; awaited = f.awaited; outstanding = f.outstanding; nodes = f.nodes; phase = ready_form (with_places c ps) ok }
+      record {
+        tables = f.tables;
+        places = h;
+        awaited = f.awaited;
+        outstanding = f.outstanding;
+        nodes = f.nodes;
+        phase = ready_form
+            (with_places c ps) ok;
+      }
 
   pub with_awaited_form : (a : Awaited) → awaited_form a ≡ true → PartsForm (with_awaited c a)
   with_awaited_form a h =
-      record { tables = f.tables; places = f.places; awaited = h; outstanding = f.outstanding; nodes = f.nodes; phase = ready_form (with_awaited c a) ok }
+      record {
+        tables = f.tables;
+        places = f.places;
+        awaited = h;
+        outstanding = f.outstanding;
+        nodes = f.nodes;
+        phase = ready_form
+            (with_awaited c a) ok;
+      }
 
   pub with_outstanding_form : (o : Outstanding) → OutstandingForm o → PartsForm (with_outstanding c o)
   with_outstanding_form o h =
-      record { tables = f.tables; places = f.places; awaited = f.awaited; outstanding = h; nodes = f.nodes; phase = ready_form (with_outstanding c o) ok }
+      record {
+        tables = f.tables;
+        places = f.places;
+        awaited = f.awaited;
+        outstanding = h;
+        nodes = f.nodes;
+        phase = ready_form
+            (with_outstanding c o) ok;
+      }
 
   pub with_nodes_form : (m : Nodes) → nodes_form m ≡ true → PartsForm (with_nodes c m)
   with_nodes_form m h =
-      record { tables = f.tables; places = f.places; awaited = f.awaited; outstanding = f.outstanding; nodes = h; phase = ready_form (with_nodes c m) ok }
+      record {
+        tables = f.tables;
+        places = f.places;
+        awaited = f.awaited;
+        outstanding = f.outstanding;
+        nodes = h;
+        phase = ready_form
+            (with_nodes c m) ok;
+      }
 
   pub with_ephemeral_form : (t : Table) → table_form t ≡ true → PartsForm (with_ephemeral c t)
   with_ephemeral_form t h =
@@ -97,7 +139,9 @@ module _ (c : CacheState) (f : PartsForm c) (ok : is_ready c ≡ true) where
       (record { persistent = ts.persistent; ephemeral = h; frozen = ts.frozen; frozen_absent = ts.frozen_absent })
 
   pub with_writes_form : (w : Requests) → writes_form w ≡ true → PartsForm (with_writes c w)
-  with_writes_form w h = with_outstanding_form (record { writes = w; reads = c.outstanding.reads }) (record { writes = h; reading = f.outstanding.reading })
+  with_writes_form w h =
+      with_outstanding_form (record { writes = w; reads = c.outstanding.reads }) (record { writes = h; reading = f.outstanding.reading })
 
   pub with_reads_form : (r : Requests) → reads_form r ≡ true → PartsForm (with_reads c r)
-  with_reads_form r h = with_outstanding_form (record { writes = c.outstanding.writes; reads = r }) (record { writes = f.outstanding.writes; reading = h })
+  with_reads_form r h =
+      with_outstanding_form (record { writes = c.outstanding.writes; reads = r }) (record { writes = f.outstanding.writes; reading = h })

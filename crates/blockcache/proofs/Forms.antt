@@ -77,24 +77,34 @@ parts_form_iff c = (
         phase = h.1;
       }),
   (λ f. let ts = f.tables in let o = f.outstanding in
-      simp and_iff ((((((((ts.persistent, ts.ephemeral), ts.frozen), ts.frozen_absent), f.places), f.awaited), (o.writes, o.reading)), f.nodes), f.phase)),
+      simp and_iff (
+        (
+          ((((((ts.persistent, ts.ephemeral), ts.frozen), ts.frozen_absent), f.places), f.awaited), (o.writes, o.reading)),
+          f.nodes,
+        ),
+        f.phase,
+      )),
 )
 
 -- THE QUEUES
 
-pub writes_form_iff : (q : Requests) → (writes_form q ≡ true) ↔ ((requests_form q ≡ true) × ((id : ℕ) (w : Request) → requests_map q id ≡ some w → write_ok w ≡ true))
+pub writes_form_iff : (q : Requests) →
+    (writes_form q ≡ true) ↔ ((requests_form q ≡ true) × ((id : ℕ) (w : Request) → requests_map q id ≡ some w → write_ok w ≡ true))
 unfolding writes_form
 writes_form_iff q = queue_iff write_ok q
 
-pub reads_form_iff : (q : Requests) → (reads_form q ≡ true) ↔ ((requests_form q ≡ true) × ((id : ℕ) (w : Request) → requests_map q id ≡ some w → read_ok w ≡ true))
+pub reads_form_iff : (q : Requests) →
+    (reads_form q ≡ true) ↔ ((requests_form q ≡ true) × ((id : ℕ) (w : Request) → requests_map q id ≡ some w → read_ok w ≡ true))
 unfolding reads_form
 reads_form_iff q = queue_iff read_ok q
 
-pub writes_insert_form : (q : Requests) (w : Request) → writes_form q ≡ true → q.count < 16 → has_of q w.id ≡ false → write_ok w ≡ true → writes_form (insert_of q w) ≡ true
+pub writes_insert_form : (q : Requests) (w : Request) → writes_form q ≡ true → q.count < 16 → has_of q w.id ≡ false → write_ok w ≡ true →
+    writes_form (insert_of q w) ≡ true
 unfolding writes_form
 writes_insert_form q w = queue_insert write_ok q w
 
-pub reads_insert_form : (q : Requests) (w : Request) → reads_form q ≡ true → q.count < 16 → has_of q w.id ≡ false → read_ok w ≡ true → reads_form (insert_of q w) ≡ true
+pub reads_insert_form : (q : Requests) (w : Request) → reads_form q ≡ true → q.count < 16 → has_of q w.id ≡ false → read_ok w ≡ true →
+    reads_form (insert_of q w) ≡ true
 unfolding reads_form
 reads_insert_form q w = queue_insert read_ok q w
 
@@ -156,7 +166,8 @@ idle_iff c = (
         no_reads = h.0.1;
         no_nodes = h.1;
       }),
-  (λ i. simp (and_iff, not_true_iff, eqb_iff) ((((((i.no_persistent, i.no_ephemeral), i.no_frozen), i.no_place), i.no_writes), i.no_reads), i.no_nodes)),
+  (λ i. simp (and_iff, not_true_iff, eqb_iff)
+      ((((((i.no_persistent, i.no_ephemeral), i.no_frozen), i.no_place), i.no_writes), i.no_reads), i.no_nodes)),
 )
 
 pub loading_idle : (c : CacheState) → phase_form c ≡ true → loading_phase c.phase ≡ true → Idle c
@@ -216,7 +227,8 @@ unfolding marks_of
 idle_marks d c f i =
     marks_same (is_marked d c.tables c.outstanding.writes) (λ b. false)
     (λ b l. marked_held d c.tables c.outstanding.writes b ∙ nothing_held c f i (node_block_addr (device_of d) b))
-    ∙ (let none = (word_zero_iff (λ b. false) 64).1 (some_of_none (λ b. false) 64 (λ k l. refl)) in λ i. record { low = none i; high = none i })
+    ∙ (let none = (word_zero_iff (λ b. false) 64).1 (some_of_none (λ b. false) 64 (λ k l. refl)) in
+    λ i. record { low = none i; high = none i })
 
 -- the block given last is one of the 128, and 0 outside Ready
 pub record LastForm (p : Phase) (last : ℕ) : Type 0 where
@@ -243,7 +255,11 @@ blocks_form_iff d c f = go c.phase refl f.phase
         let z = idle_marks d c f ((idle_iff c).0 i) in (
           (λ e. let h = simp (and_iff, eqb_iff) at e in
               let l : c.blocks.last ≡ 0 = h.1 in
-              record { marks = (λ j. record { low = h.0.0 j; high = h.0.1 j }) ∙ sym z; last = record { small = omega arith; zero = λ r. l } }),
+              record {
+                marks = (λ j. record { low = h.0.0 j; high = h.0.1 j })
+                    ∙ sym z;
+                last = record { small = omega arith; zero = λ r. l };
+              }),
           (λ b. and_both ((same_marks_iff c.blocks.marks no_marks).1 (b.marks ∙ z)) ((eqb_iff c.blocks.last 0).1 (b.last.zero n))),
         )
 
@@ -252,17 +268,23 @@ blocks_form_iff d c f = go c.phase refl f.phase
     go PhaseLoading e u = zeros (rw e) u
     go PhaseReady e u = (
       (λ k. let h = (and_iff (same_marks c.blocks.marks (marks_of d c.tables c.outstanding.writes)) (leb c.blocks.last 127)).0 k in
-          record { marks = (same_marks_iff c.blocks.marks _).0 h.0; last = record { small = leb-true c.blocks.last 127 h.1; zero = λ n. clash (rw e) n } }),
+          record {
+            marks = (same_marks_iff c.blocks.marks _).0 h.0;
+            last = record
+                { small = leb-true c.blocks.last 127 h.1; zero = λ n. clash (rw e) n };
+          }),
       (λ b. and_both ((same_marks_iff c.blocks.marks _).1 b.marks) (le-leb c.blocks.last 127 b.last.small)),
     )
 
 -- by phase, as the code asks
-pub blocks_ready : (p : Phase) (d : ℕ) (b : Blocks) (ts : Tables) (w : Requests) → ready_phase p ≡ true → (same_marks b.marks (marks_of d ts w) && leb b.last 127) ≡ blocks_in p d b ts w
+pub blocks_ready : (p : Phase) (d : ℕ) (b : Blocks) (ts : Tables) (w : Requests) → ready_phase p ≡ true →
+    (same_marks b.marks (marks_of d ts w) && leb b.last 127) ≡ blocks_in p d b ts w
 blocks_ready PhaseUnready d b ts w e = absurd (false≢true e)
 blocks_ready PhaseLoading d b ts w e = absurd (false≢true e)
 blocks_ready PhaseReady d b ts w e = refl
 
-pub blocks_unready : (p : Phase) (d : ℕ) (b : Blocks) (ts : Tables) (w : Requests) → ready_phase p ≡ false → blocks_zero b ≡ blocks_in p d b ts w
+pub blocks_unready : (p : Phase) (d : ℕ) (b : Blocks) (ts : Tables) (w : Requests) → ready_phase p ≡ false →
+    blocks_zero b ≡ blocks_in p d b ts w
 blocks_unready PhaseUnready d b ts w e = refl
 blocks_unready PhaseLoading d b ts w e = refl
 blocks_unready PhaseReady d b ts w e = absurd (false≢true (sym e))
@@ -294,7 +316,15 @@ pub well_formed_iff : (g : Settings) (c : CacheState) (q : Call) → (well_forme
 well_formed_iff g c q = (
   (λ e. let h = simp (cache_form_iff, and_iff) at e in
       let b : q.reference ≤ 63 = leb-true q.reference 63 h.1.0.0 in
-      record { on = h.0.0.0; rule = h.0.0.1; form = h.0.1.0; blocks = h.0.1.1; call = record { reference = omega arith; node = h.1.0.1; table = h.1.1 } }),
+      record {
+        on = h.0.0.0;
+        rule = h.0.0.1;
+        form = h.0.1.0;
+        blocks = h.0.1.1;
+        call = record
+            { reference = omega arith; node = h.1.0.1; table = h.1.1 };
+      }),
   (λ w. let b : q.reference < 64 = w.call.reference in
-      simp (cache_form_iff, and_iff) (((w.on, w.rule), (w.form, w.blocks)), ((le-leb q.reference 63 (omega arith), w.call.node), w.call.table))),
+      simp (cache_form_iff, and_iff)
+      (((w.on, w.rule), (w.form, w.blocks)), ((le-leb q.reference 63 (omega arith), w.call.node), w.call.table))),
 )

@@ -12,8 +12,9 @@ use Rattle.base.proofs.Refusals.{Clear}
 use Rattle.base.proofs.Tests.{not_iff, or_inl, or_inr}
 use Rattle.base.specs.Refusals.{Row}
 use Rattle.blockcache.proofs.IdleOps.{idle_kind}
-use Rattle.blockcache.proofs.OpKinds.{crash_op_iff, idle_vop_iff, unready_iff, advance_iff, clean_up_iff, freeze_iff, internal_iff, no_disk_op_iff, no_op_iff, on_loading_iff, on_ready_iff}
-use Rattle.blockcache.proofs.OpKinds.{req_read_node_iff, req_read_table_iff, req_write_node_iff, req_write_table_iff, resp_read_node_iff, resp_read_table_iff, resp_write_node_iff}
+use Rattle.blockcache.proofs.OpKinds.{crash_op_iff, idle_vop_iff, unready_iff, advance_iff, clean_up_iff, freeze_iff, internal_iff}
+use Rattle.blockcache.proofs.OpKinds.{no_disk_op_iff, no_op_iff, on_loading_iff, on_ready_iff, req_read_node_iff, req_read_table_iff}
+use Rattle.blockcache.proofs.OpKinds.{req_write_node_iff, req_write_table_iff, resp_read_node_iff, resp_read_table_iff, resp_write_node_iff}
 use Rattle.blockcache.proofs.OpKinds.{resp_write_table_iff, send_frozen_iff, send_persistent_iff}
 use Rattle.blockcache.proofs.ReadAnswers.{answer_phase_iff}
 use Rattle.blockcache.specs.Abstract.{awaited_id, cache_vars, call_op, ready_vars}
@@ -22,14 +23,18 @@ use Rattle.blockcache.specs.LetGo.{LetNodeGo, LetTableGo, StoreStep}
 use Rattle.blockcache.specs.Narrowings.{step_narrowed}
 use Rattle.blockcache.specs.Next.{step_next}
 use Rattle.blockcache.specs.NextStep.{OnBoth, OnLoading, OnReady, OnRespWriteIndirectionTable, TransactionOp}
-use Rattle.blockcache.specs.Ops.{advance, dop_brought, dop_id, dop_kind, dop_loc, internal, is_d, no_dop, node_read_resp, table_read_resp, vop_kind, vop_loc}
+use Rattle.blockcache.specs.Ops.{advance, dop_brought, dop_id, dop_kind, dop_loc, internal, is_d, no_dop, node_read_resp, table_read_resp}
+use Rattle.blockcache.specs.Ops.{vop_kind, vop_loc}
 use Rattle.blockcache.specs.Rows.{Takes, gate, own_rows, takes}
-use Rattle.blockcache.specs.Steps.{Step, alloc_step, clean_up_step, crash_step, dirty_step, evict_step, freeze_step, let_go_step, no_op_step, page_in_indirection_table_req_step, page_in_indirection_table_resp_step}
-use Rattle.blockcache.specs.Steps.{page_in_node_req_step, page_in_node_resp_step, read_step, receive_loc_step, transaction_step, unalloc_step}
-use Rattle.blockcache.specs.Steps.{write_back_indirection_table_req_step, write_back_indirection_table_resp_step}
+use Rattle.blockcache.specs.Steps.{Step, alloc_step, clean_up_step, crash_step, dirty_step, evict_step, freeze_step, let_go_step}
+use Rattle.blockcache.specs.Steps.{no_op_step, page_in_indirection_table_req_step, page_in_indirection_table_resp_step}
+use Rattle.blockcache.specs.Steps.{page_in_node_req_step, page_in_node_resp_step, read_step, receive_loc_step, transaction_step}
+use Rattle.blockcache.specs.Steps.{unalloc_step, write_back_indirection_table_req_step, write_back_indirection_table_resp_step}
 use Rattle.blockcache.specs.Steps.{write_back_node_req_step, write_back_node_resp_step}
-use Rattle.blockcache.specs.Upstream.{Alloc, CleanUp, Dirty, Evict, Freeze, Init, NoOp, PageInIndirectionTableReq, PageInIndirectionTableResp, PageInNodeReq, PageInNodeResp, ReadStep}
-use Rattle.blockcache.specs.Upstream.{Ready, ReceiveLoc, Unalloc, Variables, WriteBackIndirectionTableReq, WriteBackIndirectionTableResp, WriteBackNodeReq, WriteBackNodeResp}
+use Rattle.blockcache.specs.Upstream.{Alloc, CleanUp, Dirty, Evict, Freeze, Init, NoOp, PageInIndirectionTableReq}
+use Rattle.blockcache.specs.Upstream.{PageInIndirectionTableResp, PageInNodeReq, PageInNodeResp, ReadStep, Ready, ReceiveLoc, Unalloc}
+use Rattle.blockcache.specs.Upstream.{Variables, WriteBackIndirectionTableReq, WriteBackIndirectionTableResp, WriteBackNodeReq}
+use Rattle.blockcache.specs.Upstream.{WriteBackNodeResp}
 use Rattle.blockcache.specs.declared.CacheState.{CacheState}
 use Rattle.blockcache.specs.declared.Call.{Call}
 use Rattle.blockcache.specs.declared.Settings.{Settings}
@@ -73,13 +78,15 @@ module _ (g : Settings) (c : CacheState) (q : Call) where
   abbrev pub Own : Step → Variables → Type 0
   Own write_back_node_req_step s' = OnReady s' (λ y. WriteBackNodeReq g.device (ready_vars c) y id loc q.node r)
   Own write_back_node_resp_step s' = OnReady s' (λ y. WriteBackNodeResp (ready_vars c) y id)
-  Own write_back_indirection_table_req_step s' = OnReady s' (λ y. WriteBackIndirectionTableReq g.device (ready_vars c) y id loc (indirection_table q.table))
+  Own write_back_indirection_table_req_step s' =
+      OnReady s' (λ y. WriteBackIndirectionTableReq g.device (ready_vars c) y id loc (indirection_table q.table))
   Own write_back_indirection_table_resp_step s' = OnReady s' (λ y. WriteBackIndirectionTableResp (ready_vars c) y id (vop_loc q.vop))
   Own unalloc_step s' = OnReady s' (λ y. Unalloc (ready_vars c) y r)
   Own page_in_node_req_step s' = OnReady s' (λ y. PageInNodeReq (ready_vars c) y id loc r)
   Own page_in_node_resp_step s' = OnReady s' (λ y. PageInNodeResp (ready_vars c) y id brought_node)
   Own page_in_indirection_table_req_step s' = PageInIndirectionTableReq c.places.persistent (awaited_id c.awaited) s' id loc
-  Own page_in_indirection_table_resp_step s' = OnReady s' (λ y. PageInIndirectionTableResp g.device c.places.persistent (awaited_id c.awaited) y id brought_table)
+  Own page_in_indirection_table_resp_step s' =
+      OnReady s' (λ y. PageInIndirectionTableResp g.device c.places.persistent (awaited_id c.awaited) y id brought_table)
   Own receive_loc_step s' = ReceiveLoc g.device (cache_vars c) s' (vop_loc q.vop)
   Own evict_step s' = OnReady s' (λ y. Evict (ready_vars c) y r)
   Own freeze_step s' = OnReady s' (λ y. Freeze (ready_vars c) y)
@@ -124,7 +131,8 @@ module _ (g : Settings) (c : CacheState) (q : Call) where
 
     -- no D, in Ready
     no_dop_frame : {A B : Type 0} (P : Ready → Ready → Type 0) → A ↔ B →
-        (B × (call_op q ≡ no_disk_op) × OnBoth (cache_vars c) s' P) ↔ ((A × (eqb (dop_kind q.dop) no_dop ≡ true) × (is_ready c ≡ true)) × OnReady s' (λ y. P (ready_vars c) y))
+        (B × (call_op q ≡ no_disk_op) × OnBoth (cache_vars c) s' P) ↔
+        ((A × (eqb (dop_kind q.dop) no_dop ≡ true) × (is_ready c ≡ true)) × OnReady s' (λ y. P (ready_vars c) y))
     no_dop_frame P v =
         let o = no_disk_op_iff q.dop q.node q.table in
         let on = on_ready_iff c (λ x. OnReady s' (λ y. P x y)) in (
@@ -134,14 +142,18 @@ module _ (g : Settings) (c : CacheState) (q : Call) where
 
     transaction_frame : (P : Ready → Ready → Type 0) →
         (TransactionOp (call_op q) q.vop × OnBoth (cache_vars c) s' P)
-        ↔ (((eqb (vop_kind q.vop) advance ≡ true) × (eqb (dop_kind q.dop) no_dop ≡ true) × (is_ready c ≡ true)) × OnReady s' (λ y. P (ready_vars c) y))
+        ↔ (((eqb (vop_kind q.vop) advance ≡ true) × (eqb (dop_kind q.dop) no_dop ≡ true) × (is_ready c ≡ true))
+        × OnReady s' (λ y. P (ready_vars c) y))
     transaction_frame P =
         let h = no_dop_frame P (advance_iff q.vop) in
         ((λ (t, p). h.0 (t.0, t.1, p)), (λ x. let y = h.1 x in ((y.0, y.1), y.2)))
 
-    table_resp_frame : Next write_back_indirection_table_resp_step s' ↔ (Open write_back_indirection_table_resp_step × Own write_back_indirection_table_resp_step s')
+    table_resp_frame : Next write_back_indirection_table_resp_step s' ↔
+        (Open write_back_indirection_table_resp_step × Own write_back_indirection_table_resp_step s')
     table_resp_frame =
-        let given : Location → Type 0 = λ l. OnRespWriteIndirectionTable (call_op q) (λ i. OnBoth (cache_vars c) s' (λ x y. WriteBackIndirectionTableResp x y i l)) in
+        let given : Location →
+        Type 0 = λ l. OnRespWriteIndirectionTable (call_op q)
+        (λ i. OnBoth (cache_vars c) s' (λ x y. WriteBackIndirectionTableResp x y i l)) in
         let asked : ℕ → Type 0 = λ i. OnBoth (cache_vars c) s' (λ x y. WriteBackIndirectionTableResp x y i (vop_loc q.vop)) in
         let resp = resp_write_table_iff q.dop q.node q.table asked in
         let on = on_ready_iff c (λ x. OnReady s' (λ y. WriteBackIndirectionTableResp x y id (vop_loc q.vop))) in (
@@ -180,13 +192,15 @@ module _ (g : Settings) (c : CacheState) (q : Call) where
 
     pub frame : (step : Step) → Next step s' ↔ (Open step × Own step s')
     frame write_back_node_req_step =
-        internal_frame (req_write_node_iff q.dop q.node q.table (λ i l n. OnBoth (cache_vars c) s' (λ x y. WriteBackNodeReq g.device x y i l n r)))
+        internal_frame (req_write_node_iff q.dop q.node q.table
+        (λ i l n. OnBoth (cache_vars c) s' (λ x y. WriteBackNodeReq g.device x y i l n r)))
         (on_ready_iff c (λ x. OnReady s' (λ y. WriteBackNodeReq g.device x y id loc q.node r)))
     frame write_back_node_resp_step =
         internal_frame (resp_write_node_iff q.dop q.node q.table (λ i. OnBoth (cache_vars c) s' (λ x y. WriteBackNodeResp x y i)))
         (on_ready_iff c (λ x. OnReady s' (λ y. WriteBackNodeResp x y id)))
     frame write_back_indirection_table_req_step =
-        internal_frame (req_write_table_iff q.dop q.node q.table (λ i l t. OnBoth (cache_vars c) s' (λ x y. WriteBackIndirectionTableReq g.device x y i l t)))
+        internal_frame (req_write_table_iff q.dop q.node q.table
+        (λ i l t. OnBoth (cache_vars c) s' (λ x y. WriteBackIndirectionTableReq g.device x y i l t)))
         (on_ready_iff c (λ x. OnReady s' (λ y. WriteBackIndirectionTableReq g.device x y id loc (indirection_table q.table))))
     frame write_back_indirection_table_resp_step = table_resp_frame
     frame unalloc_step = no_dop_frame (λ x y. Unalloc x y r) (no_op_iff q.vop)
@@ -197,10 +211,12 @@ module _ (g : Settings) (c : CacheState) (q : Call) where
         internal_frame (resp_read_node_iff q.dop q.node q.table (λ i n. OnBoth (cache_vars c) s' (λ x y. PageInNodeResp x y i n)))
         (on_ready_iff c (λ x. OnReady s' (λ y. PageInNodeResp x y id brought_node)))
     frame page_in_indirection_table_req_step =
-        internal_frame (req_read_table_iff q.dop q.node q.table (λ i l. OnLoading (cache_vars c) (λ at read. PageInIndirectionTableReq at read s' i l)))
+        internal_frame (req_read_table_iff q.dop q.node q.table
+        (λ i l. OnLoading (cache_vars c) (λ at read. PageInIndirectionTableReq at read s' i l)))
         (on_loading_iff c (λ at read. PageInIndirectionTableReq at read s' id loc))
     frame page_in_indirection_table_resp_step =
-        internal_frame (resp_read_table_iff q.dop q.node q.table (λ i t. OnLoading (cache_vars c) (λ at read. OnReady s' (λ y. PageInIndirectionTableResp g.device at read y i t))))
+        internal_frame (resp_read_table_iff q.dop q.node q.table
+        (λ i t. OnLoading (cache_vars c) (λ at read. OnReady s' (λ y. PageInIndirectionTableResp g.device at read y i t))))
         (on_loading_iff c (λ at read. OnReady s' (λ y. PageInIndirectionTableResp g.device at read y id brought_table)))
     frame receive_loc_step = receive_frame
     frame evict_step = no_dop_frame (λ x y. Evict x y r) (internal_iff q.vop)

@@ -94,12 +94,14 @@ module _ (g : Settings) (c : CacheState) (q : Call) where
   unfolding step_of steps
   holds_25 e =
       let rows = cache_rows g c 12 q in
-      let h : holds 25 rows ≡ true = subst (λ n. holds n rows ≡ true) e (answer_holds rows (λ z. let w : ◌≡◌ {A = ℕ} 0 25 = sym z ∙ e in omega arith)) in
+      let h : holds 25 rows ≡ true = subst (λ n. holds n rows ≡ true) e
+      (answer_holds rows (λ z. let w : ◌≡◌ {A = ℕ} 0 25 = sym z ∙ e in omega arith)) in
       let b = (and_iff (eqb g.rule 2) set_place).0 (simp or-false at h) in
       (eqb-true g.rule 2 b.0, b.1)
 
 -- what 25 is given for, rule 1 accepts
-first_accepts : (g : Settings) (c : CacheState) (q : Call) → answer (cache_rows (with_rule g 2) c 12 q) ≡ 25 → answer (cache_rows (with_rule g 1) c 12 q) ≡ 0
+first_accepts : (g : Settings) (c : CacheState) (q : Call) → answer (cache_rows (with_rule g 2) c 12 q) ≡ 25 →
+    answer (cache_rows (with_rule g 1) c 12 q) ≡ 0
 first_accepts g c q e =
     let a = answer (cache_rows (with_rule g 1) c 12 q) in
     let f : freeze_answer c.places.isfrozen a ≡ 25 = sym (freeze_rule_2 g c q) ∙ e in

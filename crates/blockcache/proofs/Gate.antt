@@ -17,7 +17,8 @@ use Rattle.blockcache.specs.declared.Call.{Call}
 use Rattle.blockcache.specs.declared.Settings.{Settings}
 
 -- the answer is that of the gate where it is shut, that of the rows behind it where it is open
-pub gate_answer : (t : Takes) (rest : List Row) → answer (gate t rest) ≡ cond (eqb (answer (gate t [])) 0) (answer rest) (answer (gate t []))
+pub gate_answer : (t : Takes) (rest : List Row) →
+    answer (gate t rest) ≡ cond (eqb (answer (gate t [])) 0) (answer rest) (answer (gate t []))
 unfolding answer
 gate_answer t rest =
     split t.version (λ a. split t.disk (λ b. split t.phase (λ e. rw (a, b, e)) (λ e. rw (a, b, e))) (λ b. rw (a, b))) (λ a. rw a)

@@ -25,7 +25,8 @@ use Rattle.blockcache.specs.declared.Settings.{Settings}
 use Rattle.queue.specs.declared.Requests.{Requests}
 use Rattle.sectortype.proofs.Forms.{located_allocated}
 use Rattle.sectortype.proofs.Graphs.{within_iff}
-use Rattle.sectortype.proofs.Maps.{graph_del, graph_put, in_graph, in_locs, in_nodes, locs_at, locs_del, locs_same, locs_some, nodes_at, nodes_del, nodes_put, nodes_some}
+use Rattle.sectortype.proofs.Maps.{graph_del, graph_put, in_graph, in_locs, in_nodes, locs_at, locs_del, locs_same, locs_some, nodes_at}
+use Rattle.sectortype.proofs.Maps.{nodes_del, nodes_put, nodes_some}
 use Rattle.sectortype.specs.Abstract.{graph_of, locs_of, nodes_map}
 use Rattle.sectortype.specs.Form.{entry_at, slot_at, with_entry, zero_entry, zero_slot}
 use Rattle.sectortype.specs.declared.Entry.{Entry}
@@ -88,7 +89,10 @@ module _ (g : Settings) (c : CacheState) (q : Call) (w : WellFormed g c q) where
         sym (in_graph table r) ∙ p.allocated,
         (
           (reads_iff reading (reads_requests c f) r).1 p.not_read,
-          ((needs_cached_iff c.tables r).1 p.frozen_located, ((ne_eqb r 0 p.not_root, (has_predecessor_iff table f.tables.ephemeral r).1 p.no_predecessors), tt)),
+          (
+            (needs_cached_iff c.tables r).1 p.frozen_located,
+            ((ne_eqb r 0 p.not_root, (has_predecessor_iff table f.tables.ephemeral r).1 p.no_predecessors), tt),
+          ),
         ),
       )
 
@@ -107,11 +111,13 @@ module _ (g : Settings) (c : CacheState) (q : Call) (w : WellFormed g c q) where
         ok,
         record {
           cached = in_nodes c.nodes r ∙ there.0;
-          located = λ a. in_locs table r ∙ (not_iff entry.located).0 ((and_false_iff entry.allocated (not entry.located)).0 there.1 (sym (in_graph table r) ∙ a));
+          located = λ a. in_locs table r
+              ∙ (not_iff entry.located).0 ((and_false_iff entry.allocated (not entry.located)).0 there.1 (sym (in_graph table r) ∙ a));
           not_written = λ a l e id.
               let x = locs_some table r e in
               let there = and_both (sym (in_graph table r) ∙ a) x.0 in
-              let y : writes_to writes r entry.loc ≡ false = (and_false_iff (entry.allocated && entry.located) (writes_to writes r entry.loc)).0 away there in
+              let y : writes_to writes r entry.loc ≡ false = (and_false_iff (entry.allocated && entry.located)
+              (writes_to writes r entry.loc)).0 away there in
               (writes_to_iff writes (writes_requests c f) r l).0 (rw x.1 at y) id;
           frozen_located = (needs_cached_iff c.tables r).0 h.1.1.0;
           next = ap (set_cache (ready_vars c)) (nodes_del c.nodes r zero_slot f.nodes w.call.reference refl);
@@ -123,12 +129,14 @@ module _ (g : Settings) (c : CacheState) (q : Call) (w : WellFormed g c q) where
       simp (not_iff, or_iff) (
         (
           sym (in_nodes c.nodes r) ∙ p.cached,
-          (and_false_iff entry.allocated (not entry.located)).1 (λ a. (not_iff entry.located).1 (sym (in_locs table r) ∙ p.located (in_graph table r ∙ a))),
+          (and_false_iff entry.allocated (not entry.located)).1
+              (λ a. (not_iff entry.located).1 (sym (in_locs table r) ∙ p.located (in_graph table r ∙ a))),
         ),
         (
           (and_false_iff (entry.allocated && entry.located) (writes_to writes r entry.loc)).1
               (λ y. let a = (and_iff entry.allocated entry.located).0 y in
-              (writes_to_iff writes (writes_requests c f) r entry.loc).1 (p.not_written (in_graph table r ∙ a.0) entry.loc (locs_at table r a.1))),
+              (writes_to_iff writes (writes_requests c f) r entry.loc).1
+              (p.not_written (in_graph table r ∙ a.0) entry.loc (locs_at table r a.1))),
           ((needs_cached_iff c.tables r).1 p.frozen_located, tt),
         ),
       )
@@ -187,7 +195,8 @@ module _ (g : Settings) (c : CacheState) (q : Call) (w : WellFormed g c q) where
 
   not_located : entry.allocated ≡ false → locs_of table r ≡ none
   not_located a =
-      (none_iff (locs_of table r)).0 (in_locs table r ∙ split entry.located (λ t. clash {b = entry.allocated} (located_allocated table f.tables.ephemeral r t) a) (λ t. t))
+      (none_iff (locs_of table r)).0
+      (in_locs table r ∙ split entry.located (λ t. clash {b = entry.allocated} (located_allocated table f.tables.ephemeral r t) a) (λ t. t))
 
   alloc_sound : Sound g c q alloc_step
   alloc_sound taken k =
@@ -219,7 +228,10 @@ module _ (g : Settings) (c : CacheState) (q : Call) (w : WellFormed g c q) where
   alloc_complete : Complete g c q alloc_step
   alloc_complete s' ns (y, e, p) =
       simp (not_iff, or_iff) (
-        (sym (in_nodes c.nodes r) ∙ (none_iff (nodes_map c.nodes r)).1 p.not_cached, sym (in_graph table r) ∙ (none_iff (graph_of table r)).1 p.not_allocated),
+        (
+          sym (in_nodes c.nodes r) ∙ (none_iff (nodes_map c.nodes r)).1 p.not_cached,
+          sym (in_graph table r) ∙ (none_iff (graph_of table r)).1 p.not_allocated,
+        ),
         ((within_iff table q.node.succs).1 p.points, tt),
       )
 

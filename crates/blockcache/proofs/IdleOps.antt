@@ -17,8 +17,9 @@ use Rattle.blockcache.specs.Upstream.{AwaitsNodeWrite, AwaitsTableWrite, IdleOp,
 use Rattle.blockcache.specs.declared.CacheState.{CacheState}
 use Rattle.blockdisk.specs.Upstream.{op_of}
 use Rattle.blockdisk.specs.declared.DiskOp.{DiskOp}
-use Rattle.blockdisk.specs.declared.DiskOp.TheVariants.{NoDiskOp, ReqReadIndirectionTableOp, ReqReadNodeOp, ReqWriteIndirectionTableOp, ReqWriteNodeOp, RespReadIndirectionTableOp}
-use Rattle.blockdisk.specs.declared.DiskOp.TheVariants.{RespReadNodeOp, RespWriteIndirectionTableOp, RespWriteNodeOp}
+use Rattle.blockdisk.specs.declared.DiskOp.TheVariants.{NoDiskOp, ReqReadIndirectionTableOp, ReqReadNodeOp, ReqWriteIndirectionTableOp}
+use Rattle.blockdisk.specs.declared.DiskOp.TheVariants.{ReqWriteNodeOp, RespReadIndirectionTableOp, RespReadNodeOp}
+use Rattle.blockdisk.specs.declared.DiskOp.TheVariants.{RespWriteIndirectionTableOp, RespWriteNodeOp}
 use Rattle.queue.specs.Queue.{has_of}
 use Rattle.sectortype.specs.declared.Node.{Node}
 use Rattle.sectortype.specs.declared.Table.{Table}
@@ -30,13 +31,15 @@ both_fail_iff a b h = (
   (λ k. split (a && b) (λ t. absurd (k (and_left a b t, h.0 (and_right a b t)))) (λ t. t)),
 )
 
-pub awaits_table_iff : (c : CacheState) (id : ℕ) → ((is_ready c && awaits_table c.awaited id) ≡ false) ↔ (AwaitsTableWrite (cache_vars c) id → ⊥)
+pub awaits_table_iff : (c : CacheState) (id : ℕ) →
+    ((is_ready c && awaits_table c.awaited id) ≡ false) ↔ (AwaitsTableWrite (cache_vars c) id → ⊥)
 awaits_table_iff c id =
     let on = on_ready_iff c (λ x. x.outstanding_indirection_table_write ≡ some id) in
     let k = both_fail_iff (is_ready c) (awaits_table c.awaited id) (awaits_iff c.awaited id) in
     ((λ e x. k.0 e (on.0 x)), (λ h. k.1 (λ y. h (on.1 y))))
 
-pub awaits_node_iff : (c : CacheState) (id : ℕ) → ((is_ready c && has_of c.outstanding.writes id) ≡ false) ↔ (AwaitsNodeWrite (cache_vars c) id → ⊥)
+pub awaits_node_iff : (c : CacheState) (id : ℕ) →
+    ((is_ready c && has_of c.outstanding.writes id) ≡ false) ↔ (AwaitsNodeWrite (cache_vars c) id → ⊥)
 awaits_node_iff c id =
     let on = on_ready_iff c (λ x. In id x.outstanding_block_writes) in
     let w = writes_has c.outstanding.writes id in
@@ -47,7 +50,8 @@ awaits_node_iff c id =
 module _ (c : CacheState) (n : Node) (t : Table) where
   abbrev awaited_op : DiskOp → Bool
   awaited_op op =
-      is_ready c && ((eqb (dop_kind op) table_write_resp && awaits_table c.awaited (dop_id op)) || (eqb (dop_kind op) node_write_resp && has_of c.outstanding.writes (dop_id op)))
+      is_ready c && ((eqb (dop_kind op) table_write_resp && awaits_table c.awaited (dop_id op)) ||
+      (eqb (dop_kind op) node_write_resp && has_of c.outstanding.writes (dop_id op)))
 
   pub idle_op : (op : DiskOp) → is_idle_d op ≡ true → awaited_op op ≡ false → IdleOp (cache_vars c) (op_of op n t)
   idle_op (ReqReadIndirectionTableOp id l) k e = absurd (false≢true k)

@@ -7,7 +7,8 @@ use mathlib.Core.Path.{◌∙◌, ◌≡◌, ap, refl, sym}
 use Rattle.base.proofs.Maps.{in_of, not_both, put_other, put_some, some_of}
 use Rattle.base.proofs.Tests.{and_iff, bool_ext, none_iff, not_true_iff, split}
 use Rattle.base.specs.Maps.{Map, is_some, put}
-use Rattle.blockcache.specs.Upstream.{AllLocationsForDifferentRefsDontOverlap, In, NoAddr, OutstandingWrite, Ready, WFCompleteIndirectionTable, WFIndirectionTable, assign_ref_to_location}
+use Rattle.blockcache.specs.Upstream.{AllLocationsForDifferentRefsDontOverlap, In, NoAddr, OutstandingWrite, Ready}
+use Rattle.blockcache.specs.Upstream.{WFCompleteIndirectionTable, WFIndirectionTable, assign_ref_to_location}
 use Rattle.blockcache.specs.UpstreamInv.{IndirectionTableCacheConsistent, OverlappingWritesEqForIndirectionTable}
 use Rattle.disklayout.specs.Device.{device_of}
 use Rattle.disklayout.specs.Layout.{valid_node_location}
@@ -26,13 +27,17 @@ module _ (t : IndirectionTable) (r : ℕ) (l : Location) where
   lacks = is_some (t.graph r) && not (is_some (t.locs r))
 
   lacking : lacks ≡ true → In r t.graph × (t.locs r ≡ none)
-  lacking y = let h = (and_iff (is_some (t.graph r)) (not (is_some (t.locs r)))).0 y in (h.0, (none_iff (t.locs r)).0 ((not_true_iff (is_some (t.locs r))).0 h.1))
+  lacking y =
+      let h = (and_iff (is_some (t.graph r)) (not (is_some (t.locs r)))).0 y in
+      (h.0, (none_iff (t.locs r)).0 ((not_true_iff (is_some (t.locs r))).0 h.1))
 
   -- a location of the table after it: one from before, or the one given
-  pub assign_some : (j : ℕ) (k : Location) → t'.locs j ≡ some k → (t.locs j ≡ some k) ⊎ ((j ≡ r) × (l ≡ k) × In r t.graph × (t.locs r ≡ none))
+  pub assign_some : (j : ℕ) (k : Location) → t'.locs j ≡ some k →
+      (t.locs j ≡ some k) ⊎ ((j ≡ r) × (l ≡ k) × In r t.graph × (t.locs r ≡ none))
   unfolding assign_ref_to_location
   assign_some j k e =
-      split lacks (λ y. let h = lacking y in ⊎_elim (λ x. inr (x.0, x.1, h.0, h.1)) (λ x. inl x.1) (put_some t.locs r l j (rw y at e))) (λ y. inl (rw y at e))
+      split lacks (λ y. let h = lacking y in ⊎_elim (λ x. inr (x.0, x.1, h.0, h.1)) (λ x. inl x.1) (put_some t.locs r l j (rw y at e)))
+      (λ y. inl (rw y at e))
 
   -- what had a location keeps it
   pub assign_kept : (j : ℕ) → In j t.locs → t'.locs j ≡ t.locs j
@@ -64,7 +69,8 @@ module _ (t : IndirectionTable) (r : ℕ) (l : Location) where
         graph_closed = w.graph_closed;
       }
 
-  pub assign_complete : (d : ℕ) → valid_node_location (device_of d) l ≡ true → WFCompleteIndirectionTable d t → WFCompleteIndirectionTable d t'
+  pub assign_complete : (d : ℕ) → valid_node_location (device_of d) l ≡ true → WFCompleteIndirectionTable d t →
+      WFCompleteIndirectionTable d t'
   unfolding assign_ref_to_location
   assign_complete d ok w =
       record {
@@ -88,30 +94,39 @@ module _ (t : IndirectionTable) (r : ℕ) (l : Location) where
       (assign_some r1 l1 e1)
 
   -- one write more, of this very location
-  pub assign_overlapping : (writes : Map OutstandingWrite) (id : ℕ) → NoAddr t.locs l.addr → ((i : ℕ) (w : OutstandingWrite) → writes i ≡ some w → w.loc.addr ≡ l.addr → ⊥) →
-      OverlappingWritesEqForIndirectionTable writes t → OverlappingWritesEqForIndirectionTable (put writes id (record { ref = r; loc = l })) t'
+  pub assign_overlapping : (writes : Map OutstandingWrite) (id : ℕ) → NoAddr t.locs l.addr →
+      ((i : ℕ) (w : OutstandingWrite) → writes i ≡ some w → w.loc.addr ≡ l.addr → ⊥) →
+      OverlappingWritesEqForIndirectionTable writes t →
+      OverlappingWritesEqForIndirectionTable (put writes id (record { ref = r; loc = l })) t'
   assign_overlapping writes id free apart h j k e i w m s =
       let new : OutstandingWrite = record { ref = r; loc = l } in
       ⊎_elim
-      (λ x. ⊎_elim (λ y. absurd (free j k x (s ∙ ap (λ (z : OutstandingWrite). z.loc.addr) (sym y.1)))) (λ y. h j k x i w y.1 s) (put_some writes id new i m))
-      (λ x. ⊎_elim (λ y. sym x.1 ∙ ap (λ (z : OutstandingWrite). z.loc) y.1) (λ y. absurd (apart i w y.1 (sym s ∙ ap (λ z. z.addr) (sym x.1)))) (put_some writes id new i m))
+      (λ x. ⊎_elim (λ y. absurd (free j k x (s ∙ ap (λ (z : OutstandingWrite). z.loc.addr) (sym y.1)))) (λ y. h j k x i w y.1 s)
+      (put_some writes id new i m))
+      (λ x. ⊎_elim (λ y. sym x.1 ∙ ap (λ (z : OutstandingWrite). z.loc) y.1)
+      (λ y. absurd (apart i w y.1 (sym s ∙ ap (λ z. z.addr) (sym x.1)))) (put_some writes id new i m))
       (assign_some j k e)
 
 -- a write more, of an address that the table doesn't have
 pub overlapping_put : (t : IndirectionTable) (writes : Map OutstandingWrite) (id : ℕ) (w : OutstandingWrite) → NoAddr t.locs w.loc.addr →
     OverlappingWritesEqForIndirectionTable writes t → OverlappingWritesEqForIndirectionTable (put writes id w) t
 overlapping_put t writes id w free h j k e i x m s =
-    ⊎_elim (λ y. absurd (free j k e (s ∙ ap (λ (z : OutstandingWrite). z.loc.addr) (sym y.1)))) (λ y. h j k e i x y.1 s) (put_some writes id w i m)
+    ⊎_elim (λ y. absurd (free j k e (s ∙ ap (λ (z : OutstandingWrite). z.loc.addr) (sym y.1)))) (λ y. h j k e i x y.1 s)
+    (put_some writes id w i m)
 
 -- STATES BY THEIR PARTS
 
 pub table_is : {t u : IndirectionTable} → t.locs ≡ u.locs → t.graph ≡ u.graph → t ≡ u
 table_is p g = λ i. record { locs = p i; graph = g i }
 
-pub ready_ext : {s t : Ready} → s.persistent_indirection_table ≡ t.persistent_indirection_table → s.frozen_indirection_table ≡ t.frozen_indirection_table →
-    s.ephemeral_indirection_table ≡ t.ephemeral_indirection_table → s.persistent_indirection_table_loc ≡ t.persistent_indirection_table_loc →
-    s.frozen_indirection_table_loc ≡ t.frozen_indirection_table_loc → s.outstanding_indirection_table_write ≡ t.outstanding_indirection_table_write →
-    s.outstanding_block_writes ≡ t.outstanding_block_writes → s.outstanding_block_reads ≡ t.outstanding_block_reads → s.cache ≡ t.cache → s ≡ t
+pub ready_ext : {s t : Ready} → s.persistent_indirection_table ≡ t.persistent_indirection_table →
+    s.frozen_indirection_table ≡ t.frozen_indirection_table →
+    s.ephemeral_indirection_table ≡ t.ephemeral_indirection_table →
+    s.persistent_indirection_table_loc ≡ t.persistent_indirection_table_loc →
+    s.frozen_indirection_table_loc ≡ t.frozen_indirection_table_loc →
+    s.outstanding_indirection_table_write ≡ t.outstanding_indirection_table_write →
+    s.outstanding_block_writes ≡ t.outstanding_block_writes → s.outstanding_block_reads ≡ t.outstanding_block_reads → s.cache ≡ t.cache →
+    s ≡ t
 ready_ext a b c d e f g h k =
     λ i. record {
       persistent_indirection_table = a i;

@@ -9,8 +9,9 @@ use Rattle.base.proofs.Tests.{never}
 use Rattle.base.specs.Maps.{Map, del, empty, put}
 use Rattle.blockcache.proofs.InvLaws.{ready_ext}
 use Rattle.blockcache.specs.Form.{idle}
-use Rattle.blockcache.specs.Upstream.{AllLocationsForDifferentRefsDontOverlap, CleanUp, OutstandingWrite, PageInIndirectionTableResp, PageInNodeReq, PageInNodeResp}
-use Rattle.blockcache.specs.Upstream.{Ready, WFCompleteIndirectionTable, set_cache, set_locs, set_reads, set_tables}
+use Rattle.blockcache.specs.Upstream.{AllLocationsForDifferentRefsDontOverlap, CleanUp, OutstandingWrite, PageInIndirectionTableResp}
+use Rattle.blockcache.specs.Upstream.{PageInNodeReq, PageInNodeResp, Ready, WFCompleteIndirectionTable, set_cache, set_locs, set_reads}
+use Rattle.blockcache.specs.Upstream.{set_tables}
 use Rattle.blockcache.specs.UpstreamInv.{CacheConsistentWithSuccessors, InvFrozen, InvOutstanding, InvReady, OutstandingReadRefsUnique}
 use Rattle.disklayout.specs.Device.{device_of}
 use Rattle.disklayout.specs.Layout.{valid_indirection_table_location}
@@ -21,7 +22,8 @@ use Rattle.sectortype.specs.declared.Node.{Node}
 
 -- PageInNodeReq
 
-pub page_in_kept : (d : ℕ) (s s' : Ready) (id : ℕ) (loc : Location) (ref : ℕ) → InvReady d s → PageInNodeReq s s' id loc ref → InvReady d (set_reads s (put s.outstanding_block_reads id ref))
+pub page_in_kept : (d : ℕ) (s s' : Ready) (id : ℕ) (loc : Location) (ref : ℕ) → InvReady d s → PageInNodeReq s s' id loc ref →
+    InvReady d (set_reads s (put s.outstanding_block_reads id ref))
 page_in_kept d s s' id loc ref v u =
     record {
       persistent = v.persistent;
@@ -38,12 +40,15 @@ page_in_kept d s s' id loc ref v u =
     unique : OutstandingReadRefsUnique (put s.outstanding_block_reads id ref)
     unique i j r e k =
         ⊎_elim
-        (λ x. ⊎_elim (λ y. x.0 ∙ sym y.0) (λ y. absurd (u.not_read j (y.1 ∙ ap some (sym x.1)))) (put_some s.outstanding_block_reads id ref j k))
-        (λ x. ⊎_elim (λ y. absurd (u.not_read i (x.1 ∙ ap some (sym y.1)))) (λ y. v.outstanding.reads_unique i j r x.1 y.1) (put_some s.outstanding_block_reads id ref j k))
+        (λ x. ⊎_elim (λ y. x.0 ∙ sym y.0) (λ y. absurd (u.not_read j (y.1 ∙ ap some (sym x.1))))
+        (put_some s.outstanding_block_reads id ref j k))
+        (λ x. ⊎_elim (λ y. absurd (u.not_read i (x.1 ∙ ap some (sym y.1)))) (λ y. v.outstanding.reads_unique i j r x.1 y.1)
+        (put_some s.outstanding_block_reads id ref j k))
         (put_some s.outstanding_block_reads id ref i e)
 
 -- a read less, answered or let go
-read_less : (d : ℕ) (writes : Map OutstandingWrite) (reading : Map ℕ) (id : ℕ) → InvOutstanding d writes reading → InvOutstanding d writes (del reading id)
+read_less : (d : ℕ) (writes : Map OutstandingWrite) (reading : Map ℕ) (id : ℕ) → InvOutstanding d writes reading →
+    InvOutstanding d writes (del reading id)
 read_less d writes reading id o =
     record {
       reads_unique = λ i j r e k. o.reads_unique i j r (del_some reading id i e).1 (del_some reading id j k).1;
@@ -118,12 +123,14 @@ loaded t at =
       cache = empty;
     }
 
-pub loaded_fixed : (d : ℕ) (at : Location) (read : Option ℕ) (s' : Ready) (id : ℕ) (o : Option IndirectionTable) (u : PageInIndirectionTableResp d at read s' id o) → s' ≡ loaded u.t at
+pub loaded_fixed : (d : ℕ) (at : Location) (read : Option ℕ) (s' : Ready) (id : ℕ) (o : Option IndirectionTable)
+    (u : PageInIndirectionTableResp d at read s' id o) → s' ≡ loaded u.t at
 loaded_fixed d at read s' id o u =
     ready_ext u.persistent_indirection_table' u.frozen_indirection_table' u.ephemeral_indirection_table' u.persistent_indirection_table_loc'
     u.frozen_indirection_table_loc' u.outstanding_indirection_table_write' u.outstanding_block_writes' u.outstanding_block_reads' u.cache'
 
-pub loaded_inv : (d : ℕ) (t : IndirectionTable) (at : Location) → WFCompleteIndirectionTable d t → AllLocationsForDifferentRefsDontOverlap t →
+pub loaded_inv : (d : ℕ) (t : IndirectionTable) (at : Location) → WFCompleteIndirectionTable d t →
+    AllLocationsForDifferentRefsDontOverlap t →
     valid_indirection_table_location (device_of d) at ≡ true → InvReady d (loaded t at)
 loaded_inv d t at w h ok =
     record {
@@ -156,7 +163,8 @@ loaded_inv d t at w h ok =
 -- Freeze: the frozen table is the ephemeral one
 
 pub freeze_kept : (d : ℕ) (s : Ready) → InvReady d s → s.outstanding_indirection_table_write ≡ none →
-    InvReady d (set_locs (set_tables s s.persistent_indirection_table (some s.ephemeral_indirection_table)) s.persistent_indirection_table_loc none)
+    InvReady d (set_locs (set_tables s s.persistent_indirection_table
+    (some s.ephemeral_indirection_table)) s.persistent_indirection_table_loc none)
 freeze_kept d s v idle =
     record {
       persistent = v.persistent;
@@ -174,7 +182,8 @@ freeze_kept d s v idle =
 
 -- CleanUp: the persistent table is the frozen one, which has all its locations
 
-pub clean_up_kept : (d : ℕ) (s s' : Ready) → InvReady d s → (u : CleanUp s s') → InvReady d (set_locs (set_tables s u.table none) u.loc none)
+pub clean_up_kept : (d : ℕ) (s s' : Ready) → InvReady d s → (u : CleanUp s s') →
+    InvReady d (set_locs (set_tables s u.table none) u.loc none)
 clean_up_kept d s s' v u =
     let i = v.places.frozen_loc u.loc u.frozen_loc in
     let k = v.frozen u.table u.frozen in

@@ -6,9 +6,12 @@ use mathlib.Core.Path.{◌∙◌, ◌≡◌, ap, refl, subst, sym}
 use Rattle.base.proofs.Maps.{del_some, put_some}
 use Rattle.base.proofs.Tests.{bool_ext, never}
 use Rattle.base.specs.Maps.{Map, del, is_some, put}
-use Rattle.blockcache.proofs.InvLaws.{assign_complete, assign_consistent, assign_distinct, assign_overlapping, assign_some, assign_wf, overlapping_put, ready_ext}
-use Rattle.blockcache.specs.Upstream.{OutstandingWrite, Ready, WriteBackIndirectionTableReq, WriteBackNodeReq, assign_ref_to_location, set_locs, set_table_write, set_writes}
-use Rattle.blockcache.specs.UpstreamInv.{AllOutstandingBlockWritesDontOverlap, EphemeralTableEntriesInCacheOrNotBeingWritten, InvFrozen, InvReady}
+use Rattle.blockcache.proofs.InvLaws.{assign_complete, assign_consistent, assign_distinct, assign_overlapping, assign_some, assign_wf}
+use Rattle.blockcache.proofs.InvLaws.{overlapping_put, ready_ext}
+use Rattle.blockcache.specs.Upstream.{OutstandingWrite, Ready, WriteBackIndirectionTableReq, WriteBackNodeReq, assign_ref_to_location}
+use Rattle.blockcache.specs.Upstream.{set_locs, set_table_write, set_writes}
+use Rattle.blockcache.specs.UpstreamInv.{AllOutstandingBlockWritesDontOverlap, EphemeralTableEntriesInCacheOrNotBeingWritten, InvFrozen}
+use Rattle.blockcache.specs.UpstreamInv.{InvReady}
 use Rattle.disklayout.specs.declared.Location.{Location}
 use Rattle.sectortype.specs.Abstract.{IndirectionTable}
 use Rattle.sectortype.specs.declared.Node.{Node}
@@ -16,7 +19,8 @@ use Rattle.sectortype.specs.declared.Node.{Node}
 -- WriteBackNodeReq
 
 -- the frozen table, if there is one, is given the location too
-frozen_after : (o p : Option IndirectionTable) (f : IndirectionTable → IndirectionTable) → ((t : IndirectionTable) → o ≡ some t → p ≡ some (f t)) → (o ≡ none → p ≡ none) → p ≡ map f o
+frozen_after : (o p : Option IndirectionTable) (f : IndirectionTable → IndirectionTable) →
+    ((t : IndirectionTable) → o ≡ some t → p ≡ some (f t)) → (o ≡ none → p ≡ none) → p ≡ map f o
 frozen_after none p f h k = k refl
 frozen_after (some t) p f h k = h t refl
 
@@ -34,14 +38,17 @@ after_write s ref id loc =
       cache = s.cache;
     }
 
-pub write_fixed : (d : ℕ) (s s' : Ready) (id : ℕ) (loc : Location) (n : Node) (ref : ℕ) → WriteBackNodeReq d s s' id loc n ref → s' ≡ after_write s ref id loc
+pub write_fixed : (d : ℕ) (s s' : Ready) (id : ℕ) (loc : Location) (n : Node) (ref : ℕ) → WriteBackNodeReq d s s' id loc n ref →
+    s' ≡ after_write s ref id loc
 write_fixed d s s' id loc n ref u =
     ready_ext u.persistent_indirection_table'
-    (frozen_after s.frozen_indirection_table s'.frozen_indirection_table (λ t. assign_ref_to_location t ref loc) u.frozen_some u.frozen_none)
+    (frozen_after s.frozen_indirection_table s'.frozen_indirection_table
+    (λ t. assign_ref_to_location t ref loc) u.frozen_some u.frozen_none)
     u.ephemeral_indirection_table' u.persistent_indirection_table_loc' u.frozen_indirection_table_loc' u.outstanding_indirection_table_write'
     u.outstanding_block_writes' u.outstanding_block_reads' u.cache'
 
-module _ (d : ℕ) (s s' : Ready) (id : ℕ) (loc : Location) (n : Node) (ref : ℕ) (v : InvReady d s) (u : WriteBackNodeReq d s s' id loc n ref) where
+module _ (d : ℕ) (s s' : Ready) (id : ℕ) (loc : Location) (n : Node) (ref : ℕ) (v : InvReady d s)
+    (u : WriteBackNodeReq d s s' id loc n ref) where
   abbrev new : OutstandingWrite
   new = record { ref = ref; loc = loc }
 
@@ -64,12 +71,14 @@ module _ (d : ℕ) (s s' : Ready) (id : ℕ) (loc : Location) (n : Node) (ref : 
   writes_apart_after : AllOutstandingBlockWritesDontOverlap (put writes id new)
   writes_apart_after i j w x m k a =
       ⊎_elim
-      (λ p. ⊎_elim (λ q. p.0 ∙ sym q.0) (λ q. absurd (u.free.writes j x q.1 (sym a ∙ ap (λ (z : OutstandingWrite). z.loc.addr) (sym p.1)))) (put_some writes id new j k))
+      (λ p. ⊎_elim (λ q. p.0 ∙ sym q.0)
+      (λ q. absurd (u.free.writes j x q.1 (sym a ∙ ap (λ (z : OutstandingWrite). z.loc.addr) (sym p.1)))) (put_some writes id new j k))
       (λ p. ⊎_elim (λ q. absurd (u.free.writes i w p.1 (a ∙ ap (λ (z : OutstandingWrite). z.loc.addr) (sym q.1))))
       (λ q. v.outstanding.writes_apart i j w x p.1 q.1 a) (put_some writes id new j k))
       (put_some writes id new i m)
 
-  frozen_kept : (t : IndirectionTable) → s.frozen_indirection_table ≡ some t → InvFrozen d (assign_ref_to_location t ref loc) s.cache (put writes id new)
+  frozen_kept : (t : IndirectionTable) → s.frozen_indirection_table ≡ some t →
+      InvFrozen d (assign_ref_to_location t ref loc) s.cache (put writes id new)
   frozen_kept t e =
       let i = v.frozen t e in
       record {
@@ -100,7 +109,8 @@ module _ (d : ℕ) (s s' : Ready) (id : ℕ) (loc : Location) (n : Node) (ref : 
             subst (λ z. InvFrozen d z s.cache (put writes id new)) x.2 (frozen_kept x.0 x.1);
         outstanding = record {
           reads_unique = v.outstanding.reads_unique;
-          writes_valid = λ i w m. ⊎_elim (λ x. rw (ap (λ (z : OutstandingWrite). z.loc) x.1) at u.valid) (λ x. v.outstanding.writes_valid i w x.1) (put_some writes id new i m);
+          writes_valid = λ i w m. ⊎_elim (λ x. rw (ap (λ (z : OutstandingWrite). z.loc) x.1) at u.valid)
+              (λ x. v.outstanding.writes_valid i w x.1) (put_some writes id new i m);
           writes_apart = writes_apart_after;
         };
         places = record {
@@ -119,7 +129,8 @@ module _ (d : ℕ) (s s' : Ready) (id : ℕ) (loc : Location) (n : Node) (ref : 
 
 -- WriteBackNodeResp: there are fewer writes
 
-frozen_fewer : (d : ℕ) (t : IndirectionTable) (cache : Map Node) (writes : Map OutstandingWrite) (id : ℕ) → InvFrozen d t cache writes → InvFrozen d t cache (del writes id)
+frozen_fewer : (d : ℕ) (t : IndirectionTable) (cache : Map Node) (writes : Map OutstandingWrite) (id : ℕ) → InvFrozen d t cache writes →
+    InvFrozen d t cache (del writes id)
 frozen_fewer d t cache writes id i =
     record {
       wf = i.wf;
@@ -130,7 +141,8 @@ frozen_fewer d t cache writes id i =
 
 pub written_kept : (d : ℕ) (s : Ready) (id : ℕ) → InvReady d s → InvReady d (set_writes s (del s.outstanding_block_writes id))
 written_kept d s id v =
-    let old : (j : ℕ) (w : OutstandingWrite) → del s.outstanding_block_writes id j ≡ some w → s.outstanding_block_writes j ≡ some w = λ j w m. (del_some s.outstanding_block_writes id j m).1 in
+    let old : (j : ℕ) (w : OutstandingWrite) → del s.outstanding_block_writes id j ≡ some w →
+    s.outstanding_block_writes j ≡ some w = λ j w m. (del_some s.outstanding_block_writes id j m).1 in
     record {
       persistent = record {
         wf = v.persistent.wf;
@@ -156,7 +168,8 @@ written_kept d s id v =
 
 -- WriteBackIndirectionTableReq: the frozen table has all its locations
 
-pub table_write_kept : (d : ℕ) (s s' : Ready) (id : ℕ) (loc : Location) (t : IndirectionTable) → InvReady d s → WriteBackIndirectionTableReq d s s' id loc t →
+pub table_write_kept : (d : ℕ) (s s' : Ready) (id : ℕ) (loc : Location) (t : IndirectionTable) → InvReady d s →
+    WriteBackIndirectionTableReq d s s' id loc t →
     InvReady d (set_locs (set_table_write s (some id)) s.persistent_indirection_table_loc (some loc))
 table_write_kept d s s' id loc t v u =
     let w = (v.frozen t u.frozen).wf in

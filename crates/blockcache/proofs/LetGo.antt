@@ -33,7 +33,8 @@ use Rattle.blockcache.specs.declared.VersionOp.TheVariants.{StatesInternalOp}
 
 module _ (g : Settings) (c : CacheState) (q : Call) where
   -- accepted exactly where 1 doesn't apply, V is internal, and a node read answer comes in Ready or a table read answer in Loading under an awaited id
-  pub let_go_accepted : (answer (cache_rows g c 19 q) ≡ 0) ↔ ((outside_limits g c 19 q ≡ false) × ((s' : Variables) × LetGo (cache_vars c) s' (call_op q) q.vop))
+  pub let_go_accepted : (answer (cache_rows g c 19 q) ≡ 0) ↔
+      ((outside_limits g c 19 q ≡ false) × ((s' : Variables) × LetGo (cache_vars c) s' (call_op q) q.vop))
   unfolding narrowed step_of steps
   let_go_accepted =
       let a = store_accepted g c 19 q in (
@@ -80,7 +81,8 @@ module _ (g : Settings) (c : CacheState) (q : Call) where
       clash (awaits_read_iff.1 a) n.1
 
   -- let go takes exactly the awaited answers
-  pub let_go_awaited : (answer (cache_rows g c 19 q) ≡ 0) ↔ ((outside_limits g c 19 q ≡ false) × (q.vop ≡ StatesInternalOp) × AwaitsRead (cache_vars c) (call_op q))
+  pub let_go_awaited : (answer (cache_rows g c 19 q) ≡ 0) ↔
+      ((outside_limits g c 19 q ≡ false) × (q.vop ≡ StatesInternalOp) × AwaitsRead (cache_vars c) (call_op q))
   let_go_awaited =
       let a = let_go_accepted in (
         (λ e. let h = a.0 e in let l = h.1.1 in (
@@ -96,7 +98,10 @@ module _ (g : Settings) (c : CacheState) (q : Call) where
           ⊎_elim
               (λ (i, n, op, (x, ex, u)). let y = set_reads x (del x.outstanding_block_reads i) in
               (ready y, record { op = v; answer = inl (i, n, op, (x, ex, (y, refl, record { awaited = u; next = refl }))) }))
-              (λ (i, t, op, (at, read, ex, u)). (loading_indirection_table at none, record { op = v; answer = inr (i, t, op, (at, read, ex, record { awaited = u; next = refl })) }))
+              (λ (i, t, op, (at, read, ex, u)). (
+                loading_indirection_table at none,
+                record { op = v; answer = inr (i, t, op, (at, read, ex, record { awaited = u; next = refl })) },
+              ))
               w,
         )),
       )
@@ -112,7 +117,8 @@ module _ (g : Settings) (c : CacheState) (q : Call) where
       unfolding step_of steps answer
       let_go_3 n t = rw (m, v, n, t)
 
-      pub let_go_4 : (is_d node_read_resp q.dop || is_d table_read_resp q.dop) ≡ true → answer_phase c.phase q.dop ≡ false → answer (cache_rows g c 19 q) ≡ 4
+      pub let_go_4 : (is_d node_read_resp q.dop || is_d table_read_resp q.dop) ≡ true → answer_phase c.phase q.dop ≡ false →
+          answer (cache_rows g c 19 q) ≡ 4
       unfolding step_of steps answer
       let_go_4 r p = rw (m, v, r, p)
 
@@ -120,32 +126,39 @@ module _ (g : Settings) (c : CacheState) (q : Call) where
       unfolding step_of steps answer
       let_go_5 p w =
           let r : (is_d node_read_resp q.dop || is_d table_read_resp q.dop) ≡ true =
-          ⊎_elim (λ x. or_inl (is_d table_read_resp q.dop) x.0) (λ x. or_inr (is_d node_read_resp q.dop) x.0) ((answer_phase_iff c.phase q.dop).0 p) in
+          ⊎_elim (λ x. or_inl (is_d table_read_resp q.dop) x.0) (λ x. or_inr (is_d node_read_resp q.dop) x.0)
+          ((answer_phase_iff c.phase q.dop).0 p) in
           rw (m, v, r, p, w)
 
   -- a condition of a lower number doesn't hold where the answer is 22
   lower : (k : ℕ) → k < 22 → answer (cache_rows g c 14 q) ≡ 22 → holds k (cache_rows g c 14 q) ≡ false
   lower k b e =
-      split (holds k (cache_rows g c 14 q)) (λ t. absurd (let le = answer_lowest 0 (cache_rows g c 14 q) (rows_ascending g c 14 q) k t in omega arith)) (λ t. t)
+      split (holds k (cache_rows g c 14 q))
+      (λ t. absurd (let le = answer_lowest 0 (cache_rows g c 14 q) (rows_ascending g c 14 q) k t in omega arith)) (λ t. t)
 
   given_22 : answer (cache_rows g c 14 q) ≡ 22 → (outside_limits g c 14 q ≡ false) × IdleVop q.vop × AwaitsRead (cache_vars c) (call_op q)
   unfolding step_of steps
   given_22 e =
       let h : holds 22 (cache_rows g c 14 q) ≡ true =
-      subst (λ n. holds n (cache_rows g c 14 q) ≡ true) e (answer_holds (cache_rows g c 14 q) (λ z. let w : ◌≡◌ {A = ℕ} 0 22 = sym z ∙ e in omega arith)) in (
+      subst (λ n. holds n (cache_rows g c 14 q) ≡ true) e
+      (answer_holds (cache_rows g c 14 q) (λ z. let w : ◌≡◌ {A = ℕ} 0 22 = sym z ∙ e in omega arith)) in (
         ((or_iff (outside_limits g c 14 q) false).0 (lower 1 (omega arith) e)).0,
         (idle_vop_iff q.vop).0 (simp (or-false, not_iff) at (lower 2 (omega arith) e)),
         awaits_read_iff.0 (simp or-false at h),
       )
 
-  gives_22 : outside_limits g c 14 q ≡ false → (takes c.phase q.vop q.dop no_op_step).version ≡ true → awaits_read c q.dop ≡ true → answer (cache_rows g c 14 q) ≡ 22
+  gives_22 : outside_limits g c 14 q ≡ false → (takes c.phase q.vop q.dop no_op_step).version ≡ true → awaits_read c q.dop ≡ true →
+      answer (cache_rows g c 14 q) ≡ 22
   unfolding step_of steps answer
   gives_22 m v w =
       ⊎_elim
-      (λ x. let k : dop_kind q.dop ≡ node_read_resp = eqb-true (dop_kind q.dop) node_read_resp x.0 in rw (m, v, k, and-false (is_ready c), w) refl)
-      (λ x. let k : dop_kind q.dop ≡ table_read_resp = eqb-true (dop_kind q.dop) table_read_resp x.0 in rw (m, v, k, and-false (is_ready c), w) refl)
+      (λ x. let k : dop_kind q.dop ≡ node_read_resp = eqb-true (dop_kind q.dop) node_read_resp x.0 in
+      rw (m, v, k, and-false (is_ready c), w) refl)
+      (λ x. let k : dop_kind q.dop ≡ table_read_resp = eqb-true (dop_kind q.dop) table_read_resp x.0 in
+      rw (m, v, k, and-false (is_ready c), w) refl)
       ((awaits_read_is c q.dop).0 w)
 
   -- NoOp gives 22 exactly for these, where nothing else refuses it
-  pub no_op_22_iff : (answer (cache_rows g c 14 q) ≡ 22) ↔ ((outside_limits g c 14 q ≡ false) × IdleVop q.vop × AwaitsRead (cache_vars c) (call_op q))
+  pub no_op_22_iff : (answer (cache_rows g c 14 q) ≡ 22) ↔
+      ((outside_limits g c 14 q ≡ false) × IdleVop q.vop × AwaitsRead (cache_vars c) (call_op q))
   no_op_22_iff = (given_22, (λ (m, v, w). gives_22 m ((idle_vop_iff q.vop).1 v) (awaits_read_iff.1 w)))

@@ -42,13 +42,20 @@ module _ (g : Settings) (c : CacheState) (q : Call) (w : WellFormed g c q) where
         x.0,
         x.1,
         rw x.0
-            ((on_ready_iff after (λ y. LetNodeGo (ready_vars c) y id)).1
-            (x.1, record { awaited = reads_has reading id ∙ x.2; next = ap (set_reads (ready_vars c)) (reads_remove reading (reads_requests c f) id x.2) })),
+            ((on_ready_iff after (λ y. LetNodeGo (ready_vars c) y id)).1 (
+              x.1,
+              record {
+                awaited = reads_has reading id
+                    ∙ x.2;
+                next = ap (set_reads (ready_vars c)) (reads_remove reading (reads_requests c f) id x.2);
+              },
+            )),
       ))
       (λ x. inr (
         x.0,
         x.1,
-        rw (table_not_node q.dop x.0) (record { awaited = (awaits_iff c.awaited id).0 x.2; next = loading_is (with_awaited c not_waiting) x.1 }),
+        rw (table_not_node q.dop x.0) (record
+            { awaited = (awaits_iff c.awaited id).0 x.2; next = loading_is (with_awaited c not_waiting) x.1 }),
       ))
       ((awaits_read_is c q.dop).0 ((not_iff (awaits_read c q.dop)).0 k.0))
 
@@ -56,7 +63,8 @@ module _ (g : Settings) (c : CacheState) (q : Call) (w : WellFormed g c q) where
   let_go_complete s' ns u =
       let a : awaits_read c q.dop ≡ true =
       (awaits_read_is c q.dop).1
-      (⊎_elim (λ x. inl (x.0, x.1, sym (reads_has reading id) ∙ x.2.2.awaited)) (λ x. inr (x.0, x.1, (awaits_iff c.awaited id).1 x.2.awaited)) u) in
+      (⊎_elim (λ x. inl (x.0, x.1, sym (reads_has reading id) ∙ x.2.2.awaited))
+      (λ x. inr (x.0, x.1, (awaits_iff c.awaited id).1 x.2.awaited)) u) in
       ((not_iff (awaits_read c q.dop)).1 a, tt)
 
   pub let_go_exact : Exact g c q let_go_step

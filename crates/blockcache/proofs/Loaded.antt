@@ -65,8 +65,10 @@ module _ (d r : ℕ) (c : CacheState) (q : Call) where
     unfolding step_of steps
     no_writes =
         let x = (call_accepted_iff g c 9 q).0 e in
-        let k = subst (λ step. Clear (step_rows g c q step)) (number_decides 9 x.step page_in_indirection_table_resp_step x.is refl) x.clear in
-        let h = (gate_iff (takes c.phase q.vop q.dop page_in_indirection_table_resp_step) (own_rows g c q page_in_indirection_table_resp_step)).0 k in
+        let k = subst (λ step. Clear (step_rows g c q step))
+        (number_decides 9 x.step page_in_indirection_table_resp_step x.is refl) x.clear in
+        let h = (gate_iff (takes c.phase q.vop q.dop page_in_indirection_table_resp_step)
+        (own_rows g c q page_in_indirection_table_resp_step)).0 k in
         (loading_idle c x.form.form.phase h.0.2).no_writes
 
     -- so that the table loaded holds all that is held

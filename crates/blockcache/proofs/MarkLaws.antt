@@ -74,8 +74,10 @@ pub given_form : (d b : ℕ) (c : CacheState) → cache_form d c ≡ true → is
     cache_form d (with_last c b) ≡ true
 given_form d b c f ready small =
     let (parts, blocks) = (cache_form_iff d c).0 f in
-    (cache_form_iff d (with_last c b)).1
-    (parts_unmoved c (with_last c b).blocks parts, record { marks = blocks.marks; last = record { small = omega arith; zero = λ n. clash ready n } })
+    (cache_form_iff d (with_last c b)).1 (
+      parts_unmoved c (with_last c b).blocks parts,
+      record { marks = blocks.marks; last = record { small = omega arith; zero = λ n. clash ready n } },
+    )
 
 -- made anew they are right
 pub renewed_form : (d : ℕ) (c : CacheState) → PartsForm c → LastForm c.phase c.blocks.last → cache_form d (marks_renewed d c) ≡ true
@@ -96,7 +98,8 @@ pub empty_form : (d : ℕ) → cache_form d empty_cache ≡ true
 unfolding idle
 empty_form d =
     let none = idle_marks d empty_cache empty_cache_form ((idle_iff empty_cache).0 refl) in
-    (cache_form_iff d empty_cache).1 (empty_cache_form, record { marks = sym none; last = record { small = omega arith; zero = λ n. refl } })
+    (cache_form_iff d empty_cache).1
+    (empty_cache_form, record { marks = sym none; last = record { small = omega arith; zero = λ n. refl } })
 
 -- THE MARKS READ
 
@@ -110,21 +113,24 @@ mark_read g b h =
     rw t (word_read (λ k. g (64 + k)) 64 (b - 64) (omega arith) ∙ ap g e))
 
 -- a block is marked exactly when a location of a table or an outstanding write has its address
-pub marks_read : (d : ℕ) (c : CacheState) → cache_form d c ≡ true → (b : ℕ) → b < 128 → mark_at c.blocks.marks b ≡ is_marked d c.tables c.outstanding.writes b
+pub marks_read : (d : ℕ) (c : CacheState) → cache_form d c ≡ true → (b : ℕ) → b < 128 →
+    mark_at c.blocks.marks b ≡ is_marked d c.tables c.outstanding.writes b
 unfolding marks_of
 marks_read d c f b h = rw ((cache_form_iff d c).0 f).1.marks (mark_read (is_marked d c.tables c.outstanding.writes) b h)
 
 -- WHAT DECIDES THEM
 
 -- which addresses the tables and the writes hold
-pub marks_of_held : (d : ℕ) (ts us : Tables) (w v : Requests) → ((a : ℕ) → held_in ts w a ≡ held_in us v a) → marks_of d ts w ≡ marks_of d us v
+pub marks_of_held : (d : ℕ) (ts us : Tables) (w v : Requests) → ((a : ℕ) → held_in ts w a ≡ held_in us v a) →
+    marks_of d ts w ≡ marks_of d us v
 unfolding marks_of
 marks_of_held d ts us w v e =
     marks_same (is_marked d ts w) (is_marked d us v)
     (λ b l. marked_held d ts w b ∙ e (node_block_addr (device_of d) b) ∙ sym (marked_held d us v b))
 
 -- a reference without a location holds none
-pub unlocated_holds : (t : Table) (r : ℕ) (e : Entry) (a : ℕ) → table_form t ≡ true → r < 64 → e.located ≡ false → (entry_at t r).located ≡ false →
+pub unlocated_holds : (t : Table) (r : ℕ) (e : Entry) (a : ℕ) → table_form t ≡ true → r < 64 → e.located ≡ false →
+    (entry_at t r).located ≡ false →
     holds_addr (with_entry t r e) a ≡ holds_addr t a
 unfolding holds_addr
 unlocated_holds t r e a f b new old =

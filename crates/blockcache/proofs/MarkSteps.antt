@@ -14,10 +14,11 @@ use Rattle.blockcache.specs.Next.{marks_renewed, step_next, unlocated, with_awai
 use Rattle.blockcache.specs.Ops.{dop_id, is_d, node_read_resp, vop_loc}
 use Rattle.blockcache.specs.Rows.{own_rows}
 use Rattle.blockcache.specs.Scan.{held_in}
-use Rattle.blockcache.specs.Steps.{alloc_step, clean_up_step, crash_step, dirty_step, evict_step, freeze_step, is_load, let_go_step, no_op_step, number_of, page_in_indirection_table_req_step}
-use Rattle.blockcache.specs.Steps.{page_in_indirection_table_resp_step, page_in_node_req_step, page_in_node_resp_step, read_step, receive_loc_step}
-use Rattle.blockcache.specs.Steps.{relocates, Step, transaction_step, unalloc_step}
-use Rattle.blockcache.specs.Steps.{write_back_indirection_table_req_step, write_back_indirection_table_resp_step, write_back_node_req_step, write_back_node_resp_step}
+use Rattle.blockcache.specs.Steps.{alloc_step, clean_up_step, crash_step, dirty_step, evict_step, freeze_step, is_load, let_go_step}
+use Rattle.blockcache.specs.Steps.{no_op_step, number_of, page_in_indirection_table_req_step, page_in_indirection_table_resp_step}
+use Rattle.blockcache.specs.Steps.{page_in_node_req_step, page_in_node_resp_step, read_step, receive_loc_step, relocates, Step}
+use Rattle.blockcache.specs.Steps.{transaction_step, unalloc_step, write_back_indirection_table_req_step}
+use Rattle.blockcache.specs.Steps.{write_back_indirection_table_resp_step, write_back_node_req_step, write_back_node_resp_step}
 use Rattle.blockcache.specs.declared.CacheState.{CacheState}
 use Rattle.blockcache.specs.declared.Call.{Call}
 use Rattle.blockcache.specs.declared.Settings.{Settings}
@@ -66,19 +67,24 @@ module _ (g : Settings) (c : CacheState) (q : Call) (w : WellFormed g c q) where
   -- THE MARKS: a step that moves no location and no outstanding write, or leaves none, leaves them right
 
   -- Alloc sets a reference that had no location and gets none
-  alloc_marks : Clear (own_rows g c q alloc_step) → (step_next c q alloc_step).blocks.marks ≡ marks_of g.device (step_next c q alloc_step).tables writing
+  alloc_marks : Clear (own_rows g c q alloc_step) →
+      (step_next c q alloc_step).blocks.marks ≡ marks_of g.device (step_next c q alloc_step).tables writing
   unfolding held_in
   alloc_marks k =
       let a : (entry_at table r).allocated ≡ false = ((or_iff (slot_at c.nodes r).present (entry_at table r).allocated).0 k.0).1 in
-      let l : (entry_at table r).located ≡ false = split (entry_at table r).located (λ t. clash (located_allocated table w.form.tables.ephemeral r t) a) (λ t. t) in
+      let l : (entry_at table r).located ≡ false = split (entry_at table r).located
+      (λ t. clash (located_allocated table w.form.tables.ephemeral r t) a) (λ t. t) in
       w.blocks.marks ∙ marks_of_held g.device c.tables (step_next c q alloc_step).tables writing writing
       (λ x. rw (unlocated_holds table r (unlocated q.node.succs) x w.form.tables.ephemeral w.call.reference refl l))
 
-  pub marks_stay : (step : Step) → relocates (number_of step) ≡ false → Clear (own_rows g c q step) → marks_renewed g.device (step_next c q step) ≡ step_next c q step
+  pub marks_stay : (step : Step) → relocates (number_of step) ≡ false → Clear (own_rows g c q step) →
+      marks_renewed g.device (step_next c q step) ≡ step_next c q step
   marks_stay write_back_node_req_step n k = clash refl n
   marks_stay write_back_node_resp_step n k = clash refl n
-  marks_stay write_back_indirection_table_req_step n k = right_marks g.device (step_next c q write_back_indirection_table_req_step) w.blocks.marks
-  marks_stay write_back_indirection_table_resp_step n k = right_marks g.device (step_next c q write_back_indirection_table_resp_step) w.blocks.marks
+  marks_stay write_back_indirection_table_req_step n k =
+      right_marks g.device (step_next c q write_back_indirection_table_req_step) w.blocks.marks
+  marks_stay write_back_indirection_table_resp_step n k =
+      right_marks g.device (step_next c q write_back_indirection_table_resp_step) w.blocks.marks
   marks_stay unalloc_step n k = clash refl n
   marks_stay page_in_node_req_step n k = right_marks g.device (step_next c q page_in_node_req_step) w.blocks.marks
   marks_stay page_in_node_resp_step n k = right_marks g.device (step_next c q page_in_node_resp_step) w.blocks.marks

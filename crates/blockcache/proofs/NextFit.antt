@@ -55,7 +55,8 @@ pub distance_is : (last b : ℕ) → last ≤ 127 → b < 128 → block_after la
 distance_is last b l h =
     split (ltb last b)
     (λ t. let k : last < b = ltb-true last b t in rw t (let e = after_near last (b - last - 1) (omega arith) in omega arith))
-    (λ t. let k : b ≤ last = ltb-false last b t in rw t (let e = after_round last (b + 127 - last) (omega arith) (omega arith) in omega arith))
+    (λ t. let k : b ≤ last = ltb-false last b t in
+    rw t (let e = after_round last (b + 127 - last) (omega arith) (omega arith) in omega arith))
 
 -- from k blocks on
 distance_of : (last k m : ℕ) → last ≤ 127 → k < m → m < 128 → distance (block_after last k) (block_after last m) ≡ m - k - 1
@@ -115,7 +116,8 @@ module _ (test : ℕ → Bool) (last : ℕ) (small : last ≤ 127) where
       let le : k ≤ m = first_at_most tried 128 m (ap test at ∙ e) in
       let other : (k ≡ m → ⊥) = λ x. ne (ap (block_after last) x ∙ at) in
       let lt : k < m = omega arith in
-      let d : distance (block_after last k) b ≡ m - k - 1 = ap (distance (block_after last k)) (sym at) ∙ distance_of last k m small lt (distance_small last b small h) in
+      let d : distance (block_after last k) b ≡ m - k - 1 = ap (distance (block_after last k)) (sym at)
+      ∙ distance_of last k m small lt (distance_small last b small h) in
       omega (arith, d, lt)
 
 -- right after block 127 it is the lowest that passes

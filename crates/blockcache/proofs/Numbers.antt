@@ -27,7 +27,9 @@ use Rattle.blockcache.specs.declared.Settings.{Settings}
 -- THE NUMBER
 
 ltb_suc : (k n : ℕ) → ltb (suc k) (suc n) ≡ ltb k n
-ltb_suc k n = split (ltb k n) (λ t. rw t (lt-ltb (suc k) (suc n) (omega (arith, ltb-true k n t)))) (λ t. rw t (le-ltb (suc k) (suc n) (omega (arith, ltb-false k n t))))
+ltb_suc k n =
+    split (ltb k n) (λ t. rw t (lt-ltb (suc k) (suc n) (omega (arith, ltb-true k n t))))
+    (λ t. rw t (le-ltb (suc k) (suc n) (omega (arith, ltb-false k n t))))
 
 nth_within : {A : Type 0} (l : List A) (k : ℕ) → is_some (nth l k) ≡ ltb k (length l)
 nth_within [] k = sym (le-ltb k 0 (omega arith))
@@ -41,8 +43,10 @@ step_number zero = refl
 step_number (suc k) =
     let e = nth_within steps k in
     split (ltb k (length steps))
-    (λ t. let b = ltb-true k (length steps) t in e ∙ t ∙ sym (and_both (le-leb 1 (suc k) (omega arith)) (le-leb (suc k) (length steps) (omega arith))))
-    (λ t. let b = ltb-false k (length steps) t in e ∙ t ∙ sym (rw (lt-leb (suc k) (length steps) (omega arith)) (and-false (leb 1 (suc k)))))
+    (λ t. let b = ltb-true k (length steps) t in
+    e ∙ t ∙ sym (and_both (le-leb 1 (suc k) (omega arith)) (le-leb (suc k) (length steps) (omega arith))))
+    (λ t. let b = ltb-false k (length steps) t in
+    e ∙ t ∙ sym (rw (lt-leb (suc k) (length steps) (omega arith)) (and-false (leb 1 (suc k)))))
 
 -- n is none of 1 to k: what a match with an arm for each of these leaves for the rest
 abbrev pub NoneTo : ℕ → ℕ → Type 0
@@ -106,11 +110,13 @@ pub record Accepted (g : Settings) (c : CacheState) (n : ℕ) (q : Call) : Type 
   pub clear : Clear (step_rows g c q step)
 
 -- within the limits: the forms, and a step
-pub limits_iff : (g : Settings) (c : CacheState) (n : ℕ) (q : Call) → (outside_limits g c n q ≡ false) ↔ ((well_formed g c q ≡ true) × ((step : Step) × (step_of n ≡ some step)))
+pub limits_iff : (g : Settings) (c : CacheState) (n : ℕ) (q : Call) →
+    (outside_limits g c n q ≡ false) ↔ ((well_formed g c q ≡ true) × ((step : Step) × (step_of n ≡ some step)))
 limits_iff g c n q = (
   (λ e. let h = (or_iff (not (well_formed g c q)) (not (is_some (step_of n)))).0 e in
       ((not_iff (well_formed g c q)).0 h.0, (some_iff (step_of n)).0 ((not_iff (is_some (step_of n))).0 h.1))),
-  (λ (w, (step, e)). (or_iff (not (well_formed g c q)) (not (is_some (step_of n)))).1 ((not_iff (well_formed g c q)).1 w, (not_iff (is_some (step_of n))).1 (ap is_some e))),
+  (λ (w, (step, e)). (or_iff (not (well_formed g c q)) (not (is_some (step_of n)))).1
+      ((not_iff (well_formed g c q)).1 w, (not_iff (is_some (step_of n))).1 (ap is_some e))),
 )
 
 pub call_accepted_iff : (g : Settings) (c : CacheState) (n : ℕ) (q : Call) → (answer (cache_rows g c n q) ≡ 0) ↔ Accepted g c n q

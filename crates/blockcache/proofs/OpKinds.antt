@@ -10,25 +10,29 @@ use lib.Dec.{eqb}
 use Rattle.base.specs.Maps.{flagged}
 use Rattle.blockcache.specs.Abstract.{awaited_id, cache_vars, ready_vars, vars_in}
 use Rattle.blockcache.specs.Form.{is_ready, loading_phase, ready_phase, unready_phase}
-use Rattle.blockcache.specs.NextStep.{IdleVop, OnLoading, OnReady, OnReqReadIndirectionTable, OnReqReadNode, OnReqWriteIndirectionTable, OnReqWriteNode}
-use Rattle.blockcache.specs.NextStep.{OnRespReadIndirectionTable, OnRespReadNode, OnRespWriteIndirectionTable, OnRespWriteNode}
-use Rattle.blockcache.specs.Ops.{advance, clean_up, crash, dop_brought, dop_id, dop_kind, dop_loc, freeze, internal, journal_internal, node_read_req, node_read_resp, node_write_req}
-use Rattle.blockcache.specs.Ops.{node_write_resp, no_dop, pop_sync, push_sync, send_frozen_loc, send_persistent_loc, table_read_req, table_read_resp, table_write_req, table_write_resp, vop_kind}
-use Rattle.blockcache.specs.Ops.{vop_loc, vop_no_op}
+use Rattle.blockcache.specs.NextStep.{IdleVop, OnLoading, OnReady, OnReqReadIndirectionTable, OnReqReadNode, OnReqWriteIndirectionTable}
+use Rattle.blockcache.specs.NextStep.{OnReqWriteNode, OnRespReadIndirectionTable, OnRespReadNode, OnRespWriteIndirectionTable}
+use Rattle.blockcache.specs.NextStep.{OnRespWriteNode}
+use Rattle.blockcache.specs.Ops.{advance, clean_up, crash, dop_brought, dop_id, dop_kind, dop_loc, freeze, internal, journal_internal}
+use Rattle.blockcache.specs.Ops.{node_read_req, node_read_resp, node_write_req, node_write_resp, no_dop, pop_sync, push_sync}
+use Rattle.blockcache.specs.Ops.{send_frozen_loc, send_persistent_loc, table_read_req, table_read_resp, table_write_req, table_write_resp}
+use Rattle.blockcache.specs.Ops.{vop_kind, vop_loc, vop_no_op}
 use Rattle.blockcache.specs.Upstream.{loading_indirection_table, Ready, ready, unready}
 use Rattle.blockcache.specs.declared.CacheState.{CacheState}
 use Rattle.blockcache.specs.declared.Phase.{Phase}
 use Rattle.blockcache.specs.declared.Phase.TheVariants.{Loading as PhaseLoading, Ready as PhaseReady, Unready as PhaseUnready}
 use Rattle.blockcache.specs.declared.VersionOp.{VersionOp}
-use Rattle.blockcache.specs.declared.VersionOp.TheVariants.{AdvanceOp, CleanUpOp, CrashOp, FreezeOp, JournalInternalOp, PopSyncOp, PushSyncOp, SendFrozenLocOp}
-use Rattle.blockcache.specs.declared.VersionOp.TheVariants.{SendPersistentLocOp, StatesInternalOp}
+use Rattle.blockcache.specs.declared.VersionOp.TheVariants.{AdvanceOp, CleanUpOp, CrashOp, FreezeOp, JournalInternalOp, PopSyncOp}
+use Rattle.blockcache.specs.declared.VersionOp.TheVariants.{PushSyncOp, SendFrozenLocOp, SendPersistentLocOp, StatesInternalOp}
 use Rattle.blockdisk.specs.Ops.{something_in}
-use Rattle.blockdisk.specs.Upstream.{Dop, no_disk_op, op_of, req_read_indirection_table, req_read_node, req_write_indirection_table, req_write_node, resp_read_indirection_table, resp_read_node}
-use Rattle.blockdisk.specs.Upstream.{resp_write_indirection_table, resp_write_node}
+use Rattle.blockdisk.specs.Upstream.{Dop, no_disk_op, op_of, req_read_indirection_table, req_read_node, req_write_indirection_table}
+use Rattle.blockdisk.specs.Upstream.{req_write_node, resp_read_indirection_table, resp_read_node, resp_write_indirection_table}
+use Rattle.blockdisk.specs.Upstream.{resp_write_node}
 use Rattle.blockdisk.specs.declared.Brought.{Brought}
 use Rattle.blockdisk.specs.declared.DiskOp.{DiskOp}
-use Rattle.blockdisk.specs.declared.DiskOp.TheVariants.{NoDiskOp, ReqReadIndirectionTableOp, ReqReadNodeOp, ReqWriteIndirectionTableOp, ReqWriteNodeOp, RespReadIndirectionTableOp}
-use Rattle.blockdisk.specs.declared.DiskOp.TheVariants.{RespReadNodeOp, RespWriteIndirectionTableOp, RespWriteNodeOp}
+use Rattle.blockdisk.specs.declared.DiskOp.TheVariants.{NoDiskOp, ReqReadIndirectionTableOp, ReqReadNodeOp, ReqWriteIndirectionTableOp}
+use Rattle.blockdisk.specs.declared.DiskOp.TheVariants.{ReqWriteNodeOp, RespReadIndirectionTableOp, RespReadNodeOp}
+use Rattle.blockdisk.specs.declared.DiskOp.TheVariants.{RespWriteIndirectionTableOp, RespWriteNodeOp}
 use Rattle.disklayout.specs.declared.Location.{Location}
 use Rattle.sectortype.specs.Abstract.{IndirectionTable, indirection_table}
 use Rattle.sectortype.specs.declared.Node.{Node}
@@ -80,13 +84,15 @@ module _ (v : VersionOp) where
   pub advance_iff : (eqb (vop_kind v) advance ≡ true) ↔ ((b : Bool) × (v ≡ AdvanceOp b))
   advance_iff = ((λ e. (vop_no_op v, vop_is advance e)), (λ (b, e). rw e))
 
-  pub send_persistent_iff : (P : Location → Type 0) → ((l : Location) × (v ≡ SendPersistentLocOp l) × P l) ↔ ((eqb (vop_kind v) send_persistent_loc ≡ true) × P (vop_loc v))
+  pub send_persistent_iff : (P : Location → Type 0) →
+      ((l : Location) × (v ≡ SendPersistentLocOp l) × P l) ↔ ((eqb (vop_kind v) send_persistent_loc ≡ true) × P (vop_loc v))
   send_persistent_iff P = (
     (λ (l, e, p). (rw e, let q : l ≡ vop_loc v = rw e in rw q at p)),
     (λ (k, p). (vop_loc v, vop_is send_persistent_loc k, p)),
   )
 
-  pub send_frozen_iff : (P : Location → Type 0) → ((l : Location) × (v ≡ SendFrozenLocOp l) × P l) ↔ ((eqb (vop_kind v) send_frozen_loc ≡ true) × P (vop_loc v))
+  pub send_frozen_iff : (P : Location → Type 0) →
+      ((l : Location) × (v ≡ SendFrozenLocOp l) × P l) ↔ ((eqb (vop_kind v) send_frozen_loc ≡ true) × P (vop_loc v))
   send_frozen_iff P = (
     (λ (l, e, p). (rw e, let q : l ≡ vop_loc v = rw e in rw q at p)),
     (λ (k, p). (vop_loc v, vop_is send_frozen_loc k, p)),
@@ -108,10 +114,14 @@ no_op_iff v = (to v, λ e. rw e)
     to CrashOp e = absurd (false≢true e)
 
 -- NoOp's version operations
-pub idle_vop_iff : (v : VersionOp) → ((eqb (vop_kind v) internal || eqb (vop_kind v) journal_internal || eqb (vop_kind v) push_sync || eqb (vop_kind v) pop_sync) ≡ true) ↔ IdleVop v
+pub idle_vop_iff : (v : VersionOp) →
+    ((eqb (vop_kind v) internal || eqb (vop_kind v) journal_internal || eqb (vop_kind v) push_sync || eqb
+    (vop_kind v) pop_sync) ≡ true) ↔ IdleVop v
 idle_vop_iff v = (to v, ⊎_elim (λ e. rw e) (⊎_elim (λ e. rw e) (⊎_elim (λ e. rw e) (λ e. rw e))))
   where
-    to : (v : VersionOp) → (eqb (vop_kind v) internal || eqb (vop_kind v) journal_internal || eqb (vop_kind v) push_sync || eqb (vop_kind v) pop_sync) ≡ true → IdleVop v
+    to : (v : VersionOp) →
+        (eqb (vop_kind v) internal || eqb (vop_kind v) journal_internal || eqb (vop_kind v) push_sync || eqb
+        (vop_kind v) pop_sync) ≡ true → IdleVop v
     to StatesInternalOp e = inl refl
     to JournalInternalOp e = inr (inl refl)
     to (SendPersistentLocOp l) e = absurd (false≢true e)
@@ -180,7 +190,8 @@ module _ (op : DiskOp) (n : Node) (t : Table) where
   pub no_disk_op_iff : (eqb (dop_kind op) no_dop ≡ true) ↔ (op_of op n t ≡ no_disk_op)
   no_disk_op_iff = (dop_is no_dop, λ e. kind_of_lem no_dop no_disk_op e refl)
 
-  pub req_read_table_iff : (P : ℕ → Location → Type 0) → OnReqReadIndirectionTable (op_of op n t) P ↔ ((eqb (dop_kind op) table_read_req ≡ true) × P (dop_id op) (dop_loc op))
+  pub req_read_table_iff : (P : ℕ → Location → Type 0) →
+      OnReqReadIndirectionTable (op_of op n t) P ↔ ((eqb (dop_kind op) table_read_req ≡ true) × P (dop_id op) (dop_loc op))
   req_read_table_iff P = (
     (λ (id, l, e, p). let k = kind_of_lem table_read_req (req_read_indirection_table id l) e refl in
         let f : op_of op n t ≡ req_read_indirection_table (dop_id op) (dop_loc op) = dop_is table_read_req k in
@@ -188,7 +199,8 @@ module _ (op : DiskOp) (n : Node) (t : Table) where
     (λ (k, p). (dop_id op, dop_loc op, dop_is table_read_req k, p)),
   )
 
-  pub req_read_node_iff : (P : ℕ → Location → Type 0) → OnReqReadNode (op_of op n t) P ↔ ((eqb (dop_kind op) node_read_req ≡ true) × P (dop_id op) (dop_loc op))
+  pub req_read_node_iff : (P : ℕ → Location → Type 0) →
+      OnReqReadNode (op_of op n t) P ↔ ((eqb (dop_kind op) node_read_req ≡ true) × P (dop_id op) (dop_loc op))
   req_read_node_iff P = (
     (λ (id, l, e, p). let k = kind_of_lem node_read_req (req_read_node id l) e refl in
         let f : op_of op n t ≡ req_read_node (dop_id op) (dop_loc op) = dop_is node_read_req k in
@@ -197,7 +209,8 @@ module _ (op : DiskOp) (n : Node) (t : Table) where
   )
 
   pub req_write_table_iff : (P : ℕ → Location → IndirectionTable → Type 0) →
-      OnReqWriteIndirectionTable (op_of op n t) P ↔ ((eqb (dop_kind op) table_write_req ≡ true) × P (dop_id op) (dop_loc op) (indirection_table t))
+      OnReqWriteIndirectionTable (op_of op n t) P ↔
+      ((eqb (dop_kind op) table_write_req ≡ true) × P (dop_id op) (dop_loc op) (indirection_table t))
   req_write_table_iff P = (
     (λ (id, l, u, e, p). let k = kind_of_lem table_write_req (req_write_indirection_table id l u) e refl in
         let f : op_of op n t ≡ req_write_indirection_table (dop_id op) (dop_loc op) (indirection_table t) = dop_is table_write_req k in
@@ -205,7 +218,8 @@ module _ (op : DiskOp) (n : Node) (t : Table) where
     (λ (k, p). (dop_id op, dop_loc op, indirection_table t, dop_is table_write_req k, p)),
   )
 
-  pub req_write_node_iff : (P : ℕ → Location → Node → Type 0) → OnReqWriteNode (op_of op n t) P ↔ ((eqb (dop_kind op) node_write_req ≡ true) × P (dop_id op) (dop_loc op) n)
+  pub req_write_node_iff : (P : ℕ → Location → Node → Type 0) →
+      OnReqWriteNode (op_of op n t) P ↔ ((eqb (dop_kind op) node_write_req ≡ true) × P (dop_id op) (dop_loc op) n)
   req_write_node_iff P = (
     (λ (id, l, m, e, p). let k = kind_of_lem node_write_req (req_write_node id l m) e refl in
         let f : op_of op n t ≡ req_write_node (dop_id op) (dop_loc op) n = dop_is node_write_req k in
@@ -214,16 +228,20 @@ module _ (op : DiskOp) (n : Node) (t : Table) where
   )
 
   pub resp_read_table_iff : (P : ℕ → Option IndirectionTable → Type 0) →
-      OnRespReadIndirectionTable (op_of op n t) P ↔ ((eqb (dop_kind op) table_read_resp ≡ true) × P (dop_id op) (flagged (something_in (dop_brought op)) (indirection_table t)))
+      OnRespReadIndirectionTable (op_of op n t) P ↔
+      ((eqb (dop_kind op) table_read_resp ≡ true) × P (dop_id op) (flagged (something_in (dop_brought op)) (indirection_table t)))
   resp_read_table_iff P = (
     (λ (id, u, e, p). let k = kind_of_lem table_read_resp (resp_read_indirection_table id u) e refl in
-        let f : op_of op n t ≡ resp_read_indirection_table (dop_id op) (flagged (something_in (dop_brought op)) (indirection_table t)) = dop_is table_read_resp k in
-        let a : id ≡ dop_id op = cc in let b : u ≡ flagged (something_in (dop_brought op)) (indirection_table t) = cc in (k, rw (a, b) at p)),
+        let f : op_of op n t ≡ resp_read_indirection_table (dop_id op)
+        (flagged (something_in (dop_brought op)) (indirection_table t)) = dop_is table_read_resp k in
+        let a : id ≡ dop_id op = cc in let b : u ≡ flagged (something_in (dop_brought op)) (indirection_table t) = cc in
+        (k, rw (a, b) at p)),
     (λ (k, p). (dop_id op, flagged (something_in (dop_brought op)) (indirection_table t), dop_is table_read_resp k, p)),
   )
 
   pub resp_read_node_iff : (P : ℕ → Option Node → Type 0) →
-      OnRespReadNode (op_of op n t) P ↔ ((eqb (dop_kind op) node_read_resp ≡ true) × P (dop_id op) (flagged (something_in (dop_brought op)) n))
+      OnRespReadNode (op_of op n t) P ↔
+      ((eqb (dop_kind op) node_read_resp ≡ true) × P (dop_id op) (flagged (something_in (dop_brought op)) n))
   resp_read_node_iff P = (
     (λ (id, u, e, p). let k = kind_of_lem node_read_resp (resp_read_node id u) e refl in
         let f : op_of op n t ≡ resp_read_node (dop_id op) (flagged (something_in (dop_brought op)) n) = dop_is node_read_resp k in
@@ -231,7 +249,8 @@ module _ (op : DiskOp) (n : Node) (t : Table) where
     (λ (k, p). (dop_id op, flagged (something_in (dop_brought op)) n, dop_is node_read_resp k, p)),
   )
 
-  pub resp_write_table_iff : (P : ℕ → Type 0) → OnRespWriteIndirectionTable (op_of op n t) P ↔ ((eqb (dop_kind op) table_write_resp ≡ true) × P (dop_id op))
+  pub resp_write_table_iff : (P : ℕ → Type 0) →
+      OnRespWriteIndirectionTable (op_of op n t) P ↔ ((eqb (dop_kind op) table_write_resp ≡ true) × P (dop_id op))
   resp_write_table_iff P = (
     (λ (id, e, p). let k = kind_of_lem table_write_resp (resp_write_indirection_table id) e refl in
         let f : op_of op n t ≡ resp_write_indirection_table (dop_id op) = dop_is table_write_resp k in
@@ -239,7 +258,8 @@ module _ (op : DiskOp) (n : Node) (t : Table) where
     (λ (k, p). (dop_id op, dop_is table_write_resp k, p)),
   )
 
-  pub resp_write_node_iff : (P : ℕ → Type 0) → OnRespWriteNode (op_of op n t) P ↔ ((eqb (dop_kind op) node_write_resp ≡ true) × P (dop_id op))
+  pub resp_write_node_iff : (P : ℕ → Type 0) →
+      OnRespWriteNode (op_of op n t) P ↔ ((eqb (dop_kind op) node_write_resp ≡ true) × P (dop_id op))
   resp_write_node_iff P = (
     (λ (id, e, p). let k = kind_of_lem node_write_resp (resp_write_node id) e refl in
         let f : op_of op n t ≡ resp_write_node (dop_id op) = dop_is node_write_resp k in
@@ -265,7 +285,8 @@ on_ready_iff c P = (to c.phase, λ (k, p). (ready_vars c, ready_is c k, p))
     to PhaseLoading (x, e, p) = absurd (let z : ◌≡◌ {A = ℕ} 0 1 = cc in omega arith)
     to PhaseReady (x, e, p) = let h : x ≡ ready_vars c = cc in (refl, rw h at p)
 
-pub loading_is : (c : CacheState) → loading_phase c.phase ≡ true → cache_vars c ≡ loading_indirection_table c.places.persistent (awaited_id c.awaited)
+pub loading_is : (c : CacheState) → loading_phase c.phase ≡ true →
+    cache_vars c ≡ loading_indirection_table c.places.persistent (awaited_id c.awaited)
 loading_is c = from c.phase
   where
     from : (p : Phase) → loading_phase p ≡ true → vars_in p c ≡ loading_indirection_table c.places.persistent (awaited_id c.awaited)

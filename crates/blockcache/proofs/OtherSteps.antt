@@ -47,7 +47,8 @@ module _ (g : Settings) (c : CacheState) (q : Call) (w : WellFormed g c q) where
           loc = c.places.frozen;
           frozen_loc = (flagged_is_iff c.places.isfrozen c.places.frozen c.places.frozen).1 (there.0, refl);
           table = indirection_table c.tables.frozen;
-          frozen = (flagged_is_iff c.tables.isfrozen (indirection_table c.tables.frozen) (indirection_table c.tables.frozen)).1 (there.1, refl);
+          frozen = (flagged_is_iff c.tables.isfrozen (indirection_table c.tables.frozen) (indirection_table c.tables.frozen)).1
+              (there.1, refl);
           next = refl;
         },
       )

@@ -18,15 +18,18 @@ use Rattle.queue.specs.Queue.{has_of}
 
 -- an answer is of one kind
 pub table_not_node : (o : DiskOp) → is_d table_read_resp o ≡ true → is_d node_read_resp o ≡ false
-table_not_node o e = let h : dop_kind o ≡ table_read_resp = eqb-true (dop_kind o) table_read_resp e in ne_eqb (dop_kind o) node_read_resp (omega arith)
+table_not_node o e =
+    let h : dop_kind o ≡ table_read_resp = eqb-true (dop_kind o) table_read_resp e in ne_eqb (dop_kind o) node_read_resp (omega arith)
 
 pub answer_phase_iff : (p : Phase) (o : DiskOp) →
-    (answer_phase p o ≡ true) ↔ (((is_d node_read_resp o ≡ true) × (ready_phase p ≡ true)) ⊎ ((is_d table_read_resp o ≡ true) × (loading_phase p ≡ true)))
+    (answer_phase p o ≡ true) ↔ (((is_d node_read_resp o ≡ true) × (ready_phase p ≡ true)) ⊎
+    ((is_d table_read_resp o ≡ true) × (loading_phase p ≡ true)))
 unfolding answer_phase
 answer_phase_iff p o =
     let n = is_d node_read_resp o in
     let t = is_d table_read_resp o in (
-      (λ e. ⊎_elim (λ x. inl ((and_iff n (ready_phase p)).0 x)) (λ x. inr ((and_iff t (loading_phase p)).0 x)) (or_cases (n && ready_phase p) (t && loading_phase p) e)),
+      (λ e. ⊎_elim (λ x. inl ((and_iff n (ready_phase p)).0 x)) (λ x. inr ((and_iff t (loading_phase p)).0 x))
+          (or_cases (n && ready_phase p) (t && loading_phase p) e)),
       (λ u. ⊎_elim (λ x. or_inl (t && loading_phase p) (and_both x.0 x.1)) (λ x. or_inr (n && ready_phase p) (and_both x.0 x.1)) u),
     )
 
@@ -68,7 +71,8 @@ awaits_read_is c o = (to, from)
         u
 
 -- an answer of each kind, under its id
-pub node_awaited_iff : (c : CacheState) (id : ℕ) (b : Brought) → (awaits_read c (RespReadNodeOp id b) ≡ true) ↔ ((is_ready c ≡ true) × (has_of c.outstanding.reads id ≡ true))
+pub node_awaited_iff : (c : CacheState) (id : ℕ) (b : Brought) →
+    (awaits_read c (RespReadNodeOp id b) ≡ true) ↔ ((is_ready c ≡ true) × (has_of c.outstanding.reads id ≡ true))
 node_awaited_iff c id b =
     let is = awaits_read_is c (RespReadNodeOp id b) in
     ((λ e. ⊎_elim (λ x. (x.1, x.2)) (λ x. absurd (false≢true x.0)) (is.0 e)), (λ h. is.1 (inl (refl, h.0, h.1))))

@@ -19,8 +19,10 @@ use Rattle.blockcache.specs.Next.{cached_slot, step_next}
 use Rattle.blockcache.specs.Ops.{dop_brought, dop_id, dop_loc, vop_loc}
 use Rattle.blockcache.specs.Rows.{own_rows}
 use Rattle.blockcache.specs.Scan.{node_rejected}
-use Rattle.blockcache.specs.Steps.{page_in_indirection_table_req_step, page_in_indirection_table_resp_step, page_in_node_req_step, page_in_node_resp_step, receive_loc_step}
-use Rattle.blockcache.specs.Upstream.{AllLocationsForDifferentRefsDontOverlap, PageInNodeReq, PageInNodeResp, SameSuccs, WFCompleteIndirectionTable, set_cache, set_reads}
+use Rattle.blockcache.specs.Steps.{page_in_indirection_table_req_step, page_in_indirection_table_resp_step, page_in_node_req_step}
+use Rattle.blockcache.specs.Steps.{page_in_node_resp_step, receive_loc_step}
+use Rattle.blockcache.specs.Upstream.{AllLocationsForDifferentRefsDontOverlap, PageInNodeReq, PageInNodeResp, SameSuccs}
+use Rattle.blockcache.specs.Upstream.{WFCompleteIndirectionTable, set_cache, set_reads}
 use Rattle.blockcache.specs.declared.CacheState.{CacheState}
 use Rattle.blockcache.specs.declared.Call.{Call}
 use Rattle.blockcache.specs.declared.Settings.{Settings}
@@ -85,7 +87,8 @@ module _ (g : Settings) (c : CacheState) (q : Call) (w : WellFormed g c q) where
           located = locs_at table r there.0.1 ∙ ap some ((same_loc_iff entry.loc loc).0 same);
           not_cached = (none_iff (nodes_map c.nodes r)).0 (in_nodes c.nodes r ∙ there.1);
           not_read = (not_read_iff reading (reads_requests c f) r).0 h.1.1.1.0;
-          next = ap (set_reads (ready_vars c)) (reads_insert reading (reads_requests c f) (record { id = id; reference = r; loc = zero_loc }) room h.0);
+          next = ap (set_reads (ready_vars c))
+              (reads_insert reading (reads_requests c f) (record { id = id; reference = r; loc = zero_loc }) room h.0);
         },
       )
 
@@ -96,7 +99,8 @@ module _ (g : Settings) (c : CacheState) (q : Call) (w : WellFormed g c q) where
       simp (not_iff, or_iff) (
         n.0,
         (
-          (and_false_iff entry.located (not (same_loc entry.loc loc))).1 (λ e. (not_iff (same_loc entry.loc loc)).1 ((same_loc_iff entry.loc loc).1 l.1)),
+          (and_false_iff entry.located (not (same_loc entry.loc loc))).1
+              (λ e. (not_iff (same_loc entry.loc loc)).1 ((same_loc_iff entry.loc loc).1 l.1)),
           (
             ((sym (in_graph table r) ∙ p.allocated, l.0), sym (in_nodes c.nodes r) ∙ (none_iff (nodes_map c.nodes r)).1 p.not_cached),
             ((not_read_iff reading (reads_requests c f) r).1 p.not_read, (n.1, tt)),
@@ -136,7 +140,8 @@ module _ (g : Settings) (c : CacheState) (q : Call) (w : WellFormed g c q) where
       let small = read_ref_bounded reading id f.outstanding.reading there in
       let x = nodes_put c.nodes ref (cached_slot q.node) f.nodes small refl in
       let y = reads_remove reading (reads_requests c f) id there in
-      (on_ready_iff (step_next c q page_in_node_resp_step) (λ y. PageInNodeResp (ready_vars c) y id (flagged (something_in brings) q.node))).1 (
+      (on_ready_iff (step_next c q page_in_node_resp_step)
+      (λ y. PageInNodeResp (ready_vars c) y id (flagged (something_in brings) q.node))).1 (
         ok,
         record {
           ref = ref;
@@ -159,7 +164,8 @@ module _ (g : Settings) (c : CacheState) (q : Call) (w : WellFormed g c q) where
       let alloc = graph_some table ref (rw same at p.allocated) in
       let something = (flagged_is_iff (something_in brings) q.node p.block).0 p.brought in
       let absent = sym (in_nodes c.nodes ref) ∙ (none_iff (nodes_map c.nodes ref)).1 (rw same at p.not_cached) in
-      let succs : SameSuccs wanted.succs q.node = λ j. ap (λ x. has_succ x j) alloc.1 ∙ p.succs j ∙ sym (ap (λ (x : Node). has_succ x.succs j) something.1) in
+      let succs : SameSuccs wanted.succs q.node = λ j. ap (λ x. has_succ x j) alloc.1 ∙ p.succs j
+      ∙ sym (ap (λ (x : Node). has_succ x.succs j) something.1) in
       simp not_iff (
         there,
         (
@@ -221,8 +227,10 @@ module _ (g : Settings) (c : CacheState) (q : Call) (w : WellFormed g c q) where
   page_in_table_resp_complete s' ns (y, e, p) =
       let something = (flagged_is_iff (something_in brings) (indirection_table q.table) p.t).0 p.table in
       let e : indirection_table q.table ≡ p.t = something.1 in
-      let wf : WFCompleteIndirectionTable g.device (indirection_table q.table) = subst (λ x. WFCompleteIndirectionTable g.device x) (sym e) p.wf in
-      let distinct : AllLocationsForDifferentRefsDontOverlap (indirection_table q.table) = subst (λ x. AllLocationsForDifferentRefsDontOverlap x) (sym e) p.distinct in
+      let wf : WFCompleteIndirectionTable g.device (indirection_table q.table) = subst (λ x. WFCompleteIndirectionTable g.device x)
+      (sym e) p.wf in
+      let distinct : AllLocationsForDifferentRefsDontOverlap (indirection_table q.table) = subst
+      (λ x. AllLocationsForDifferentRefsDontOverlap x) (sym e) p.distinct in
       simp not_iff (
         (awaits_iff c.awaited id).1 p.awaited,
         ((table_rejected_iff g.device w.on brings q.table w.call.table).1 (something.0, (wf, distinct)), tt),

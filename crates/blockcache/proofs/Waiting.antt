@@ -27,7 +27,8 @@ unfolding writes_map
 writes_has q id = mapped_has write_of q id
 
 module _ (q : Requests) (form : requests_form q ≡ true) where
-  pub writes_insert : (w : Request) → q.count < 16 → has_of q w.id ≡ false → writes_map (insert_of q w) ≡ put (writes_map q) w.id (write_of w)
+  pub writes_insert : (w : Request) → q.count < 16 → has_of q w.id ≡ false →
+      writes_map (insert_of q w) ≡ put (writes_map q) w.id (write_of w)
   unfolding writes_map
   writes_insert = mapped_insert write_of q form
 
@@ -47,14 +48,17 @@ module _ (q : Requests) (form : requests_form q ≡ true) where
       ((λ e id w m. eqb-false w.loc.addr a (h.0 e id w m)), (λ k. h.1 (λ id w m. ne_eqb w.loc.addr a (k id w m))))
 
   -- no write of the reference to this very location is outstanding
-  pub writes_to_iff : (r : ℕ) (l : Location) → (writes_to q r l ≡ false) ↔ ((id : ℕ) → writes_map q id ≡ some (record { ref = r; loc = l }) → ⊥)
+  pub writes_to_iff : (r : ℕ) (l : Location) →
+      (writes_to q r l ≡ false) ↔ ((id : ℕ) → writes_map q id ≡ some (record { ref = r; loc = l }) → ⊥)
   unfolding writes_map writes_to
   writes_to_iff r l =
       let p : OutstandingWrite → Bool = λ w. eqb w.ref r && same_loc w.loc l in
       let h = mapped_none_iff write_of q form p in
-      let same = some_same (λ k. ltb k q.count && eqb (request_at q k).reference r && same_loc (request_at q k).loc l) (λ k. ltb k q.count && p (write_of (request_at q k))) 16
+      let same = some_same (λ k. ltb k q.count && eqb (request_at q k).reference r && same_loc (request_at q k).loc l)
+      (λ k. ltb k q.count && p (write_of (request_at q k))) 16
       (λ k b. and_assoc (ltb k q.count) (eqb (request_at q k).reference r) (same_loc (request_at q k).loc l)) in (
-        (λ e id m. clash {b = p (record { ref = r; loc = l })} (rw (eq-eqb r r refl) ((same_loc_iff l l).1 refl)) (h.0 (sym same ∙ e) id (record { ref = r; loc = l }) m)),
+        (λ e id m. clash {b = p (record { ref = r; loc = l })} (rw (eq-eqb r r refl) ((same_loc_iff l l).1 refl))
+            (h.0 (sym same ∙ e) id (record { ref = r; loc = l }) m)),
         (λ k. same ∙ h.1 (λ id w m. split (p w) (λ t. absurd (k id (m ∙ ap some (is w t)))) (λ t. t))),
       )
     where

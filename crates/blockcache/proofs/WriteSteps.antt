@@ -19,9 +19,10 @@ use Rattle.blockcache.specs.Next.{assigned, step_next}
 use Rattle.blockcache.specs.Ops.{dop_id, dop_loc, vop_loc}
 use Rattle.blockcache.specs.Rows.{own_rows}
 use Rattle.blockcache.specs.Scan.{held_in}
-use Rattle.blockcache.specs.Steps.{write_back_indirection_table_req_step, write_back_indirection_table_resp_step, write_back_node_req_step, write_back_node_resp_step}
-use Rattle.blockcache.specs.Upstream.{NoAddr, ValidAllocation, WriteBackIndirectionTableReq, WriteBackIndirectionTableResp, WriteBackNodeReq, WriteBackNodeResp}
-use Rattle.blockcache.specs.Upstream.{assign_ref_to_location, set_writes}
+use Rattle.blockcache.specs.Steps.{write_back_indirection_table_req_step, write_back_indirection_table_resp_step, write_back_node_req_step}
+use Rattle.blockcache.specs.Steps.{write_back_node_resp_step}
+use Rattle.blockcache.specs.Upstream.{NoAddr, ValidAllocation, WriteBackIndirectionTableReq, WriteBackIndirectionTableResp}
+use Rattle.blockcache.specs.Upstream.{WriteBackNodeReq, WriteBackNodeResp, assign_ref_to_location, set_writes}
 use Rattle.blockcache.specs.declared.CacheState.{CacheState}
 use Rattle.blockcache.specs.declared.Call.{Call}
 use Rattle.blockcache.specs.declared.Settings.{Settings}
@@ -97,9 +98,11 @@ module _ (g : Settings) (c : CacheState) (q : Call) (w : WellFormed g c q) where
               let p = (flagged_is_iff c.tables.isfrozen (indirection_table frozen) t).0 e in
               (flagged_is_iff c.tables.isfrozen (indirection_table (assigned frozen r loc)) (assign_ref_to_location t r loc)).1
               (p.0, assigned_is frozen r loc f.tables.frozen w.call.reference ∙ ap (λ u. assign_ref_to_location u r loc) p.1);
-          frozen_none = λ e. (flagged_none_iff c.tables.isfrozen (indirection_table (assigned frozen r loc))).0 ((flagged_none_iff c.tables.isfrozen (indirection_table frozen)).1 e);
+          frozen_none = λ e. (flagged_none_iff c.tables.isfrozen (indirection_table (assigned frozen r loc))).0
+              ((flagged_none_iff c.tables.isfrozen (indirection_table frozen)).1 e);
           cache' = refl;
-          outstanding_block_writes' = writes_insert writes (writes_requests c f) (record { id = id; reference = r; loc = loc }) (leb-false 16 writes.count room) fresh;
+          outstanding_block_writes' = writes_insert writes (writes_requests c f) (record { id = id; reference = r; loc = loc })
+              (leb-false 16 writes.count room) fresh;
           outstanding_block_reads' = refl;
           outstanding_indirection_table_write' = refl;
           frozen_indirection_table_loc' = refl;
@@ -119,7 +122,10 @@ module _ (g : Settings) (c : CacheState) (q : Call) (w : WellFormed g c q) where
             allocation_iff.1 p.free,
             (
               there.0,
-              ((λ e. (same_node_iff slot.node q.node (cached_form e) w.call.node).1 there.1), ((flagged_none_iff c.awaited.waiting c.awaited.id).1 p.no_table_write, (n.1, tt))),
+              (
+                (λ e. (same_node_iff slot.node q.node (cached_form e) w.call.node).1 there.1),
+                ((flagged_none_iff c.awaited.waiting c.awaited.id).1 p.no_table_write, (n.1, tt)),
+              ),
             ),
           ),
         ),
@@ -129,7 +135,8 @@ module _ (g : Settings) (c : CacheState) (q : Call) (w : WellFormed g c q) where
   write_back_node_req_free k = let h = simp or_iff at k in (or_iff _ _).1 ((or_iff _ _).1 (h.0, h.1.0.1), h.1.1.1.1.1.1.0)
 
   pub write_back_node_req_exact : Exact g c q write_back_node_req_step
-  write_back_node_req_exact = record { sound = write_back_node_req_sound; complete = write_back_node_req_complete; free = write_back_node_req_free }
+  write_back_node_req_exact =
+      record { sound = write_back_node_req_sound; complete = write_back_node_req_complete; free = write_back_node_req_free }
 
   -- WriteBackNodeResp
 
@@ -138,7 +145,11 @@ module _ (g : Settings) (c : CacheState) (q : Call) (w : WellFormed g c q) where
       let h = simp not_iff at k in
       (on_ready_iff (step_next c q write_back_node_resp_step) (λ y. WriteBackNodeResp (ready_vars c) y id)).1 (
         taken.2,
-        record { there = writes_has writes id ∙ h.0; next = ap (set_writes (ready_vars c)) (writes_remove writes (writes_requests c f) id h.0) },
+        record {
+          there = writes_has writes id
+              ∙ h.0;
+          next = ap (set_writes (ready_vars c)) (writes_remove writes (writes_requests c f) id h.0);
+        },
       )
 
   write_back_node_resp_complete : Complete g c q write_back_node_resp_step
@@ -156,11 +167,13 @@ module _ (g : Settings) (c : CacheState) (q : Call) (w : WellFormed g c q) where
       let place = h.0 in
       let frz = h.1.1.1.0 in
       let same = (same_table_iff frozen q.table f.tables.frozen w.call.table).0 (h.1.0 frz.0.0) in
-      (on_ready_iff (step_next c q write_back_indirection_table_req_step) (λ y. WriteBackIndirectionTableReq g.device (ready_vars c) y id loc (indirection_table q.table))).1 (
+      (on_ready_iff (step_next c q write_back_indirection_table_req_step)
+      (λ y. WriteBackIndirectionTableReq g.device (ready_vars c) y id loc (indirection_table q.table))).1 (
         ready,
         record {
           valid = and_right (made g.device) (valid_indirection_table_location (device_of g.device) loc) place.0;
-          frozen = (flagged_is_iff c.tables.isfrozen (indirection_table frozen) (indirection_table q.table)).1 (frz.0.0, ap indirection_table same);
+          frozen = (flagged_is_iff c.tables.isfrozen (indirection_table frozen) (indirection_table q.table)).1
+              (frz.0.0, ap indirection_table same);
           complete = rw same at ((locs_complete_iff frozen f.tables.frozen).0 frz.0.1);
           no_writes = (writes_empty_iff writes (writes_requests c f)).0 (eqb-true writes.count 0 h.1.1.0);
           no_loc = (flagged_none_iff c.places.isfrozen c.places.frozen).0 frz.1;
@@ -179,7 +192,13 @@ module _ (g : Settings) (c : CacheState) (q : Call) (w : WellFormed g c q) where
           (λ e. (same_table_iff frozen q.table f.tables.frozen w.call.table).1 same),
           (
             eq-eqb writes.count 0 ((writes_empty_iff writes (writes_requests c f)).1 p.no_writes),
-            (((z.0, (locs_complete_iff frozen f.tables.frozen).1 (rw same p.complete)), (flagged_none_iff c.places.isfrozen c.places.frozen).1 p.no_loc), tt),
+            (
+              (
+                (z.0, (locs_complete_iff frozen f.tables.frozen).1 (rw same p.complete)),
+                (flagged_none_iff c.places.isfrozen c.places.frozen).1 p.no_loc,
+              ),
+              tt,
+            ),
           ),
         ),
       )
@@ -197,10 +216,12 @@ module _ (g : Settings) (c : CacheState) (q : Call) (w : WellFormed g c q) where
       let h = simp not_iff at k in
       let ready = taken.2 in
       let place = (and_iff c.places.isfrozen (same_loc c.places.frozen vloc)).0 h.1.0 in
-      (on_ready_iff (step_next c q write_back_indirection_table_resp_step) (λ y. WriteBackIndirectionTableResp (ready_vars c) y id vloc)).1 (
+      (on_ready_iff (step_next c q write_back_indirection_table_resp_step)
+      (λ y. WriteBackIndirectionTableResp (ready_vars c) y id vloc)).1 (
         ready,
         record {
-          frozen_loc = sym ((flagged_is_iff c.places.isfrozen c.places.frozen vloc).1 (place.0, (same_loc_iff c.places.frozen vloc).0 place.1));
+          frozen_loc = sym ((flagged_is_iff c.places.isfrozen c.places.frozen vloc).1
+              (place.0, (same_loc_iff c.places.frozen vloc).0 place.1));
           awaited = (awaits_iff c.awaited id).0 h.0;
           next = refl;
         },

@@ -60,4 +60,5 @@ call_op q = op_of q.dop q.node q.table
 
 -- some next state: what upstream allows a call to do
 abbrev pub Allowed : ℕ → CacheState → ℕ → Call → Type 0
-Allowed d c n q = (step : Step) × (step_of n ≡ some step) × ((s' : Variables) × NextStep d (cache_vars c) s' (call_op q) q.vop q.reference q.node step)
+Allowed d c n q =
+    (step : Step) × (step_of n ≡ some step) × ((s' : Variables) × NextStep d (cache_vars c) s' (call_op q) q.vop q.reference q.node step)

@@ -3,9 +3,10 @@
 use Rattle.std.specs.Prelude.{ℕ, ◌&&◌, cond, false, not, true}
 use Rattle.blockcache.specs.Form.{empty_cache, loading_at, not_waiting}
 use Rattle.blockcache.specs.Ops.{dop_id, dop_loc, is_d, node_read_resp, vop_loc}
-use Rattle.blockcache.specs.Steps.{Step, alloc_step, clean_up_step, crash_step, dirty_step, evict_step, freeze_step, let_go_step, no_op_step, page_in_indirection_table_req_step, page_in_indirection_table_resp_step}
-use Rattle.blockcache.specs.Steps.{page_in_node_req_step, page_in_node_resp_step, read_step, receive_loc_step, transaction_step, unalloc_step}
-use Rattle.blockcache.specs.Steps.{write_back_indirection_table_req_step, write_back_indirection_table_resp_step}
+use Rattle.blockcache.specs.Steps.{Step, alloc_step, clean_up_step, crash_step, dirty_step, evict_step, freeze_step, let_go_step}
+use Rattle.blockcache.specs.Steps.{no_op_step, page_in_indirection_table_req_step, page_in_indirection_table_resp_step}
+use Rattle.blockcache.specs.Steps.{page_in_node_req_step, page_in_node_resp_step, read_step, receive_loc_step, transaction_step}
+use Rattle.blockcache.specs.Steps.{unalloc_step, write_back_indirection_table_req_step, write_back_indirection_table_resp_step}
 use Rattle.blockcache.specs.Steps.{write_back_node_req_step, write_back_node_resp_step}
 use Rattle.blockcache.specs.Marks.{marks_of}
 use Rattle.blockcache.specs.declared.Awaited.{Awaited}
@@ -106,7 +107,8 @@ module _ (c : CacheState) (q : Call) where
 
   -- a reference's node set, by Dirty and Alloc
   abbrev pub node_set : CacheState
-  node_set = with_nodes (with_ephemeral c (with_entry c.tables.ephemeral r (unlocated q.node.succs))) (with_slot c.nodes r (cached_slot q.node))
+  node_set =
+      with_nodes (with_ephemeral c (with_entry c.tables.ephemeral r (unlocated q.node.succs))) (with_slot c.nodes r (cached_slot q.node))
 
   abbrev pub step_next : Step → CacheState
   step_next write_back_node_req_step =
@@ -115,7 +117,8 @@ module _ (c : CacheState) (q : Call) where
       (record { persistent = c.tables.persistent; ephemeral = assigned c.tables.ephemeral r loc; isfrozen = c.tables.isfrozen; frozen = assigned c.tables.frozen r loc }))
       (insert_of c.outstanding.writes (record { id = id; reference = r; loc = loc }))
   step_next write_back_node_resp_step = with_writes c (remove_of c.outstanding.writes id)
-  step_next write_back_indirection_table_req_step = with_awaited (with_places c (record { persistent = c.places.persistent; isfrozen = true; frozen = loc })) (waiting_for id)
+  step_next write_back_indirection_table_req_step =
+      with_awaited (with_places c (record { persistent = c.places.persistent; isfrozen = true; frozen = loc })) (waiting_for id)
   step_next write_back_indirection_table_resp_step = with_awaited c not_waiting
   step_next unalloc_step = with_nodes (with_ephemeral c (with_entry c.tables.ephemeral r zero_entry)) (with_slot c.nodes r zero_slot)
   step_next page_in_node_req_step = with_reads c (insert_of c.outstanding.reads (record { id = id; reference = r; loc = zero_loc }))

@@ -1,18 +1,21 @@
 -- Upstream's NextStep: what each step may do to the variables of a cache.
 use Rattle.std.specs.Prelude.{ℕ, Bool, true, ◌⊎◌, ◌≡◌}
 use Rattle.std.proofs.Math.Option.{Option}
-use Rattle.blockcache.specs.Steps.{Step, alloc_step, clean_up_step, crash_step, dirty_step, evict_step, freeze_step, let_go_step, no_op_step, page_in_indirection_table_req_step, page_in_indirection_table_resp_step}
-use Rattle.blockcache.specs.Steps.{page_in_node_req_step, page_in_node_resp_step, read_step, receive_loc_step, transaction_step, unalloc_step}
-use Rattle.blockcache.specs.Steps.{write_back_indirection_table_req_step, write_back_indirection_table_resp_step}
+use Rattle.blockcache.specs.Steps.{Step, alloc_step, clean_up_step, crash_step, dirty_step, evict_step, freeze_step, let_go_step}
+use Rattle.blockcache.specs.Steps.{no_op_step, page_in_indirection_table_req_step, page_in_indirection_table_resp_step}
+use Rattle.blockcache.specs.Steps.{page_in_node_req_step, page_in_node_resp_step, read_step, receive_loc_step, transaction_step}
+use Rattle.blockcache.specs.Steps.{unalloc_step, write_back_indirection_table_req_step, write_back_indirection_table_resp_step}
 use Rattle.blockcache.specs.Steps.{write_back_node_req_step, write_back_node_resp_step}
-use Rattle.blockcache.specs.Upstream.{Alloc, CleanUp, Dirty, Evict, Freeze, Init, NoOp, PageInIndirectionTableReq, PageInIndirectionTableResp, PageInNodeReq, PageInNodeResp, ReadStep}
-use Rattle.blockcache.specs.Upstream.{Ready, ReceiveLoc, Unalloc, Variables, WriteBackIndirectionTableReq, WriteBackIndirectionTableResp, WriteBackNodeReq, WriteBackNodeResp}
-use Rattle.blockcache.specs.Upstream.{loading_indirection_table, ready}
+use Rattle.blockcache.specs.Upstream.{Alloc, CleanUp, Dirty, Evict, Freeze, Init, NoOp, PageInIndirectionTableReq}
+use Rattle.blockcache.specs.Upstream.{PageInIndirectionTableResp, PageInNodeReq, PageInNodeResp, ReadStep, Ready, ReceiveLoc, Unalloc}
+use Rattle.blockcache.specs.Upstream.{Variables, WriteBackIndirectionTableReq, WriteBackIndirectionTableResp, WriteBackNodeReq}
+use Rattle.blockcache.specs.Upstream.{WriteBackNodeResp, loading_indirection_table, ready}
 use Rattle.blockcache.specs.declared.VersionOp.{VersionOp}
-use Rattle.blockcache.specs.declared.VersionOp.TheVariants.{AdvanceOp, CleanUpOp, CrashOp, FreezeOp, JournalInternalOp, PopSyncOp, PushSyncOp, SendFrozenLocOp, SendPersistentLocOp}
-use Rattle.blockcache.specs.declared.VersionOp.TheVariants.{StatesInternalOp}
-use Rattle.blockdisk.specs.Upstream.{Dop, no_disk_op, req_read_indirection_table, req_read_node, req_write_indirection_table, req_write_node, resp_read_indirection_table, resp_read_node}
-use Rattle.blockdisk.specs.Upstream.{resp_write_indirection_table, resp_write_node}
+use Rattle.blockcache.specs.declared.VersionOp.TheVariants.{AdvanceOp, CleanUpOp, CrashOp, FreezeOp, JournalInternalOp, PopSyncOp}
+use Rattle.blockcache.specs.declared.VersionOp.TheVariants.{PushSyncOp, SendFrozenLocOp, SendPersistentLocOp, StatesInternalOp}
+use Rattle.blockdisk.specs.Upstream.{Dop, no_disk_op, req_read_indirection_table, req_read_node, req_write_indirection_table}
+use Rattle.blockdisk.specs.Upstream.{req_write_node, resp_read_indirection_table, resp_read_node, resp_write_indirection_table}
+use Rattle.blockdisk.specs.Upstream.{resp_write_node}
 use Rattle.disklayout.specs.declared.Location.{Location}
 use Rattle.sectortype.specs.Abstract.{IndirectionTable}
 use Rattle.sectortype.specs.declared.Node.{Node}
@@ -38,7 +41,8 @@ abbrev pub OnReqReadNode : Dop → (ℕ → Location → Type 0) → Type 0
 OnReqReadNode dop P = (id : ℕ) × (loc : Location) × (dop ≡ req_read_node id loc) × P id loc
 
 abbrev pub OnReqWriteIndirectionTable : Dop → (ℕ → Location → IndirectionTable → Type 0) → Type 0
-OnReqWriteIndirectionTable dop P = (id : ℕ) × (loc : Location) × (t : IndirectionTable) × (dop ≡ req_write_indirection_table id loc t) × P id loc t
+OnReqWriteIndirectionTable dop P =
+    (id : ℕ) × (loc : Location) × (t : IndirectionTable) × (dop ≡ req_write_indirection_table id loc t) × P id loc t
 
 abbrev pub OnReqWriteNode : Dop → (ℕ → Location → Node → Type 0) → Type 0
 OnReqWriteNode dop P = (id : ℕ) × (loc : Location) × (n : Node) × (dop ≡ req_write_node id loc n) × P id loc n
@@ -70,20 +74,27 @@ Crashed s' vop = (vop ≡ CrashOp) × Init s'
 -- the step with the reference and the node of the call
 module _ (d : ℕ) (s s' : Variables) (dop : Dop) (vop : VersionOp) (ref : ℕ) (n : Node) where
   abbrev pub NextStep : Step → Type 0
-  NextStep write_back_node_req_step = (vop ≡ StatesInternalOp) × OnReqWriteNode dop (λ id loc node. OnBoth s s' (λ x y. WriteBackNodeReq d x y id loc node ref))
+  NextStep write_back_node_req_step =
+      (vop ≡ StatesInternalOp) × OnReqWriteNode dop (λ id loc node. OnBoth s s' (λ x y. WriteBackNodeReq d x y id loc node ref))
   NextStep write_back_node_resp_step = (vop ≡ StatesInternalOp) × OnRespWriteNode dop (λ id. OnBoth s s' (λ x y. WriteBackNodeResp x y id))
   NextStep write_back_indirection_table_req_step =
-      (vop ≡ StatesInternalOp) × OnReqWriteIndirectionTable dop (λ id loc t. OnBoth s s' (λ x y. WriteBackIndirectionTableReq d x y id loc t))
+      (vop ≡ StatesInternalOp) × OnReqWriteIndirectionTable dop
+      (λ id loc t. OnBoth s s' (λ x y. WriteBackIndirectionTableReq d x y id loc t))
   NextStep write_back_indirection_table_resp_step =
-      (vloc : Location) × (vop ≡ SendFrozenLocOp vloc) × OnRespWriteIndirectionTable dop (λ id. OnBoth s s' (λ x y. WriteBackIndirectionTableResp x y id vloc))
+      (vloc : Location) × (vop ≡ SendFrozenLocOp vloc)
+      × OnRespWriteIndirectionTable dop (λ id. OnBoth s s' (λ x y. WriteBackIndirectionTableResp x y id vloc))
   -- AdvanceOp whose uiop is NoOp
   NextStep unalloc_step = (vop ≡ AdvanceOp true) × (dop ≡ no_disk_op) × OnBoth s s' (λ x y. Unalloc x y ref)
-  NextStep page_in_node_req_step = (vop ≡ StatesInternalOp) × OnReqReadNode dop (λ id loc. OnBoth s s' (λ x y. PageInNodeReq x y id loc ref))
-  NextStep page_in_node_resp_step = (vop ≡ StatesInternalOp) × OnRespReadNode dop (λ id node. OnBoth s s' (λ x y. PageInNodeResp x y id node))
+  NextStep page_in_node_req_step =
+      (vop ≡ StatesInternalOp) × OnReqReadNode dop (λ id loc. OnBoth s s' (λ x y. PageInNodeReq x y id loc ref))
+  NextStep page_in_node_resp_step =
+      (vop ≡ StatesInternalOp) × OnRespReadNode dop (λ id node. OnBoth s s' (λ x y. PageInNodeResp x y id node))
   NextStep page_in_indirection_table_req_step =
-      (vop ≡ StatesInternalOp) × OnReqReadIndirectionTable dop (λ id loc. OnLoading s (λ at read. PageInIndirectionTableReq at read s' id loc))
+      (vop ≡ StatesInternalOp) × OnReqReadIndirectionTable dop
+      (λ id loc. OnLoading s (λ at read. PageInIndirectionTableReq at read s' id loc))
   NextStep page_in_indirection_table_resp_step =
-      (vop ≡ StatesInternalOp) × OnRespReadIndirectionTable dop (λ id t. OnLoading s (λ at read. OnReady s' (λ y. PageInIndirectionTableResp d at read y id t)))
+      (vop ≡ StatesInternalOp) × OnRespReadIndirectionTable dop
+      (λ id t. OnLoading s (λ at read. OnReady s' (λ y. PageInIndirectionTableResp d at read y id t)))
   NextStep receive_loc_step = (dop ≡ no_disk_op) × ((vloc : Location) × (vop ≡ SendPersistentLocOp vloc) × ReceiveLoc d s s' vloc)
   NextStep evict_step = (vop ≡ StatesInternalOp) × (dop ≡ no_disk_op) × OnBoth s s' (λ x y. Evict x y ref)
   NextStep freeze_step = (vop ≡ FreezeOp) × (dop ≡ no_disk_op) × OnBoth s s' (λ x y. Freeze x y)

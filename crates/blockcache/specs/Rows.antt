@@ -2,11 +2,15 @@
 use Rattle.std.specs.Prelude.{ℕ, Bool, ◌&&◌, ◌||◌, not, true, List, [], ◌∷◌, eqb, leb}
 use Rattle.base.specs.Refusals.{Row, ◌when◌}
 use Rattle.blockcache.specs.Form.{is_ready, loading_phase, ready_phase, unready_phase}
-use Rattle.blockcache.specs.Ops.{advance, clean_up, crash, dop_brought, dop_id, dop_loc, freeze, internal, is_d, is_idle_d, is_v, journal_internal, no_dop, node_read_req, node_read_resp, node_write_req}
-use Rattle.blockcache.specs.Ops.{node_write_resp, pop_sync, push_sync, send_frozen_loc, send_persistent_loc, table_read_req, table_read_resp, table_write_req, table_write_resp, vop_loc, vop_no_op}
+use Rattle.blockcache.specs.Ops.{advance, clean_up, crash, dop_brought, dop_id, dop_loc, freeze, internal, is_d, is_idle_d, is_v}
+use Rattle.blockcache.specs.Ops.{journal_internal, no_dop, node_read_req, node_read_resp, node_write_req, node_write_resp, pop_sync}
+use Rattle.blockcache.specs.Ops.{push_sync, send_frozen_loc, send_persistent_loc, table_read_req, table_read_resp, table_write_req}
+use Rattle.blockcache.specs.Ops.{table_write_resp, vop_loc, vop_no_op}
 use Rattle.blockcache.specs.Scan.{has_predecessor, held_in, needs_cached, node_rejected, reads, table_rejected, writes_to}
-use Rattle.blockcache.specs.Steps.{Step, alloc_step, clean_up_step, crash_step, dirty_step, evict_step, freeze_step, let_go_step, no_op_step, page_in_indirection_table_req_step, page_in_indirection_table_resp_step}
-use Rattle.blockcache.specs.Steps.{page_in_node_req_step, page_in_node_resp_step, read_step, receive_loc_step, transaction_step, unalloc_step}
+use Rattle.blockcache.specs.Steps.{Step, alloc_step, clean_up_step, crash_step, dirty_step, evict_step, freeze_step, let_go_step}
+use Rattle.blockcache.specs.Steps.{no_op_step, page_in_indirection_table_req_step, page_in_indirection_table_resp_step}
+use Rattle.blockcache.specs.Steps.{page_in_node_req_step, page_in_node_resp_step, read_step, receive_loc_step, transaction_step}
+use Rattle.blockcache.specs.Steps.{unalloc_step}
 use Rattle.blockcache.specs.Steps.{write_back_indirection_table_req_step, write_back_indirection_table_resp_step}
 use Rattle.blockcache.specs.Steps.{write_back_node_req_step, write_back_node_resp_step}
 use Rattle.blockcache.specs.declared.Awaited.{Awaited}

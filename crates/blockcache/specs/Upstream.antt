@@ -4,8 +4,9 @@
 use Rattle.std.specs.Prelude.{ℕ, ◌&&◌, cond, false, not, true, ◌≡◌}
 use Rattle.std.proofs.Math.Option.{Option, none, some}
 use Rattle.base.specs.Maps.{Map, del, empty, is_some, put}
-use Rattle.blockdisk.specs.Upstream.{Dop, no_disk_op, req_read_indirection_table, req_read_node, req_write_indirection_table, req_write_node, resp_read_indirection_table, resp_read_node}
-use Rattle.blockdisk.specs.Upstream.{resp_write_indirection_table, resp_write_node}
+use Rattle.blockdisk.specs.Upstream.{Dop, no_disk_op, req_read_indirection_table, req_read_node, req_write_indirection_table}
+use Rattle.blockdisk.specs.Upstream.{req_write_node, resp_read_indirection_table, resp_read_node, resp_write_indirection_table}
+use Rattle.blockdisk.specs.Upstream.{resp_write_node}
 use Rattle.disklayout.specs.Device.{device_of}
 use Rattle.disklayout.specs.Layout.{valid_indirection_table_location, valid_node_location, overlap}
 use Rattle.disklayout.specs.declared.Location.{Location}
@@ -199,7 +200,8 @@ pub record WriteBackNodeReq (d : ℕ) (s s' : Ready) (id : ℕ) (loc : Location)
   pub no_table_write : s.outstanding_indirection_table_write ≡ none
   pub free : ValidAllocation s loc
   pub ephemeral_indirection_table' : s'.ephemeral_indirection_table ≡ assign_ref_to_location s.ephemeral_indirection_table ref loc
-  pub frozen_some : (t : IndirectionTable) → s.frozen_indirection_table ≡ some t → s'.frozen_indirection_table ≡ some (assign_ref_to_location t ref loc)
+  pub frozen_some : (t : IndirectionTable) → s.frozen_indirection_table ≡ some t →
+      s'.frozen_indirection_table ≡ some (assign_ref_to_location t ref loc)
   pub frozen_none : s.frozen_indirection_table ≡ none → s'.frozen_indirection_table ≡ none
   pub cache' : s'.cache ≡ s.cache
   pub outstanding_block_writes' : s'.outstanding_block_writes ≡ put s.outstanding_block_writes id (record { ref = ref; loc = loc })
@@ -273,7 +275,8 @@ pub record PageInIndirectionTableReq (at : Location) (read : Option ℕ) (s' : V
   pub place : loc ≡ at
   pub next : s' ≡ loading_indirection_table at (some id)
 
-pub record PageInIndirectionTableResp (d : ℕ) (at : Location) (read : Option ℕ) (s' : Ready) (id : ℕ) (brought : Option IndirectionTable) : Type 0 where
+pub record PageInIndirectionTableResp (d : ℕ) (at : Location) (read : Option ℕ) (s' : Ready) (id : ℕ)
+    (brought : Option IndirectionTable) : Type 0 where
   -- indirection_table.Some?, and its value
   pub t : IndirectionTable
   pub table : brought ≡ some t
@@ -307,7 +310,8 @@ pub record Evict (s s' : Ready) (ref : ℕ) : Type 0 where
 
 pub record Freeze (s s' : Ready) : Type 0 where
   pub no_table_write : s.outstanding_indirection_table_write ≡ none
-  pub next : s' ≡ set_locs (set_tables s s.persistent_indirection_table (some s.ephemeral_indirection_table)) s.persistent_indirection_table_loc none
+  pub next : s' ≡ set_locs (set_tables s s.persistent_indirection_table
+      (some s.ephemeral_indirection_table)) s.persistent_indirection_table_loc none
 
 pub record CleanUp (s s' : Ready) : Type 0 where
   pub no_table_write : s.outstanding_indirection_table_write ≡ none

@@ -2,8 +2,8 @@
 use Rattle.std.specs.Prelude.{ℕ, false, true, ◌⊎◌, ◌≡◌}
 use Rattle.std.proofs.Math.Option.{Option, none, some}
 use Rattle.base.specs.Maps.{Map, is_some}
-use Rattle.blockcache.specs.Upstream.{AllLocationsForDifferentRefsDontOverlap, In, OutstandingWrite, Ready, SameSuccs, Variables, WFCompleteIndirectionTable, WFIndirectionTable}
-use Rattle.blockcache.specs.Upstream.{loading_indirection_table, ready, unready}
+use Rattle.blockcache.specs.Upstream.{AllLocationsForDifferentRefsDontOverlap, In, OutstandingWrite, Ready, SameSuccs, Variables}
+use Rattle.blockcache.specs.Upstream.{WFCompleteIndirectionTable, WFIndirectionTable, loading_indirection_table, ready, unready}
 use Rattle.disklayout.specs.Device.{device_of}
 use Rattle.disklayout.specs.Layout.{valid_indirection_table_location, valid_node_location, overlap}
 use Rattle.disklayout.specs.declared.Location.{Location}
@@ -12,7 +12,8 @@ use Rattle.sectortype.specs.declared.Node.{Node}
 use Rattle.sectortype.specs.declared.Succs.{Succs}
 
 abbrev pub CacheConsistentWithSuccessors : Map Node → Map Succs → Type 0
-CacheConsistentWithSuccessors cache graph = (ref : ℕ) (n : Node) (list : Succs) → cache ref ≡ some n → graph ref ≡ some list → SameSuccs list n
+CacheConsistentWithSuccessors cache graph =
+    (ref : ℕ) (n : Node) (list : Succs) → cache ref ≡ some n → graph ref ≡ some list → SameSuccs list n
 
 -- graph.Keys <= cache.Keys + locs.Keys
 abbrev pub IndirectionTableCacheConsistent : IndirectionTable → Map Node → Type 0
@@ -31,13 +32,16 @@ OverlappingImpliesEq loc1 loc2 = loc1.addr ≡ loc2.addr → loc1 ≡ loc2
 
 abbrev pub OverlappingWritesEqForIndirectionTable : Map OutstandingWrite → IndirectionTable → Type 0
 OverlappingWritesEqForIndirectionTable writes t =
-    (ref : ℕ) (loc : Location) → t.locs ref ≡ some loc → (id : ℕ) (w : OutstandingWrite) → writes id ≡ some w → OverlappingImpliesEq loc w.loc
+    (ref : ℕ) (loc : Location) → t.locs ref ≡ some loc → (id : ℕ) (w : OutstandingWrite) → writes id ≡ some w →
+    OverlappingImpliesEq loc w.loc
 
 abbrev pub OutstandingWriteValidNodeLocation : ℕ → Map OutstandingWrite → Type 0
-OutstandingWriteValidNodeLocation d writes = (id : ℕ) (w : OutstandingWrite) → writes id ≡ some w → valid_node_location (device_of d) w.loc ≡ true
+OutstandingWriteValidNodeLocation d writes =
+    (id : ℕ) (w : OutstandingWrite) → writes id ≡ some w → valid_node_location (device_of d) w.loc ≡ true
 
 abbrev pub OutstandingBlockWritesDontOverlap : Map OutstandingWrite → ℕ → ℕ → Type 0
-OutstandingBlockWritesDontOverlap writes id1 id2 = (w1 w2 : OutstandingWrite) → writes id1 ≡ some w1 → writes id2 ≡ some w2 → w1.loc.addr ≡ w2.loc.addr → id1 ≡ id2
+OutstandingBlockWritesDontOverlap writes id1 id2 =
+    (w1 w2 : OutstandingWrite) → writes id1 ≡ some w1 → writes id2 ≡ some w2 → w1.loc.addr ≡ w2.loc.addr → id1 ≡ id2
 
 abbrev pub AllOutstandingBlockWritesDontOverlap : Map OutstandingWrite → Type 0
 AllOutstandingBlockWritesDontOverlap writes = (id1 id2 : ℕ) → OutstandingBlockWritesDontOverlap writes id1 id2
@@ -81,7 +85,8 @@ pub record InvOutstanding (d : ℕ) (writes : Map OutstandingWrite) (reading : M
   pub writes_apart : AllOutstandingBlockWritesDontOverlap writes
 
 -- of the tables' places and the awaited table write
-pub record InvPlaces (d : ℕ) (persistent : Location) (frozenLoc : Option Location) (frozen : Option IndirectionTable) (awaited : Option ℕ) : Type 0 where
+pub record InvPlaces (d : ℕ) (persistent : Location) (frozenLoc : Option Location) (frozen : Option IndirectionTable)
+    (awaited : Option ℕ) : Type 0 where
   pub persistent_valid : valid_indirection_table_location (device_of d) persistent ≡ true
   pub frozen_loc : (loc : Location) → frozenLoc ≡ some loc → InvFrozenLoc d loc persistent frozen
   pub table_write : (id : ℕ) → awaited ≡ some id → is_some frozenLoc ≡ true

@@ -13,8 +13,9 @@ use Rattle.blockdisk.specs.Ops.{answer_rows, disk_rows, op_rows, request_rows}
 use Rattle.blockdisk.specs.declared.DiskState.{DiskState}
 use Rattle.blockdisk.specs.declared.DiskCall.{DiskCall}
 use Rattle.blockdisk.specs.declared.DiskOp.{DiskOp}
-use Rattle.blockdisk.specs.declared.DiskOp.TheVariants.{NoDiskOp, ReqReadIndirectionTableOp, ReqReadNodeOp, ReqWriteIndirectionTableOp, ReqWriteNodeOp}
-use Rattle.blockdisk.specs.declared.DiskOp.TheVariants.{RespReadIndirectionTableOp, RespReadNodeOp, RespWriteIndirectionTableOp, RespWriteNodeOp}
+use Rattle.blockdisk.specs.declared.DiskOp.TheVariants.{NoDiskOp, ReqReadIndirectionTableOp, ReqReadNodeOp, ReqWriteIndirectionTableOp}
+use Rattle.blockdisk.specs.declared.DiskOp.TheVariants.{ReqWriteNodeOp, RespReadIndirectionTableOp, RespReadNodeOp}
+use Rattle.blockdisk.specs.declared.DiskOp.TheVariants.{RespWriteIndirectionTableOp, RespWriteNodeOp}
 use Rattle.queue.specs.Queue.{has_of}
 use Rattle.queue.specs.declared.Requests.{Requests}
 use Rattle.sectortype.specs.Form.{node_form, table_form}
@@ -43,7 +44,8 @@ answer_ok_iff q id wrong = (
 )
 
 -- the numbers ascend
-pub op_ascending : (d : ℕ) (s : DiskState) (op : DiskOp) (n : Node) (t : Table) (b : Bool) → ascending ((1 when b) ∷ op_rows d s op n t) ≡ true
+pub op_ascending : (d : ℕ) (s : DiskState) (op : DiskOp) (n : Node) (t : Table) (b : Bool) →
+    ascending ((1 when b) ∷ op_rows d s op n t) ≡ true
 op_ascending d s (ReqReadIndirectionTableOp id l) n t b = refl
 op_ascending d s (ReqReadNodeOp id l) n t b = refl
 op_ascending d s (ReqWriteIndirectionTableOp id l) n t b = refl
@@ -68,5 +70,6 @@ disk_accepted_iff d s c = (
   (λ e. let h = (accepted_iff (disk_rows d s c) (disk_ascending d s c)).0 e in
       let f = simp (not_iff, disk_form_iff, and_iff) at h.0 in
       record { disk = f.0.0; node = f.0.1; table = f.1; rows = h.1 }),
-  (λ a. (accepted_iff (disk_rows d s c) (disk_ascending d s c)).1 (simp (not_iff, disk_form_iff, and_iff) ((a.disk, a.node), a.table), a.rows)),
+  (λ a. (accepted_iff (disk_rows d s c) (disk_ascending d s c)).1
+      (simp (not_iff, disk_form_iff, and_iff) ((a.disk, a.node), a.table), a.rows)),
 )

@@ -13,8 +13,10 @@ use Rattle.base.proofs.Tests.{and_iff, and_left, and_right, clash, or_true_iff, 
 use Rattle.blockdisk.proofs.Forms.{DiskForm, disk_form_iff, records_form_iff}
 use Rattle.blockdisk.proofs.Outstanding.{queue_iff}
 use Rattle.blockdisk.proofs.RecordArray.{Formed, Holds, Placed, RecordArray, reads, reads_iff, record_at}
-use Rattle.blockdisk.proofs.RecordArrays.{node_array, nodes_are_formed, nodes_are_placed, nodes_read, tables_are_formed, tables_are_placed, upstream_read, upstream_array}
-use Rattle.blockdisk.specs.Form.{disk_form, node_queue_form, node_record_checked, node_request_ok, table_queue_form, table_record_checked, table_request_ok}
+use Rattle.blockdisk.proofs.RecordArrays.{node_array, nodes_are_formed, nodes_are_placed, nodes_read, tables_are_formed, tables_are_placed}
+use Rattle.blockdisk.proofs.RecordArrays.{upstream_read, upstream_array}
+use Rattle.blockdisk.specs.Form.{disk_form, node_queue_form, node_record_checked, node_request_ok, table_queue_form, table_record_checked}
+use Rattle.blockdisk.specs.Form.{table_request_ok}
 use Rattle.blockdisk.specs.Records.{node_record_at, table_record_at, zero_node_record, zero_table_record}
 use Rattle.blockdisk.specs.Upstream.{disk_vars, nodes_stored, places, upstream_tables}
 use Rattle.blockdisk.specs.declared.DiskState.{DiskState}
@@ -44,7 +46,8 @@ module _ {R A : Type 0} (s : RecordArray R A) where
       let p = s.loc (record_at s l k) in
       let a = s.thing (record_at s l k) in
       let n = (placed k b t).1 in
-      let (j, y) = (reads_iff s m p a).0 (ap (λ r. r p) (sym same) ∙ (reads_iff s l p a).1 (k, record { number = n; there = t; loc = refl; thing = refl })) in
+      let (j, y) = (reads_iff s m p a).0
+      (ap (λ r. r p) (sym same) ∙ (reads_iff s l p a).1 (k, record { number = n; there = t; loc = refl; thing = refl })) in
       let e : j ≡ k = (let u : some j ≡ some k = sym y.number ∙ n in cc) in
       rw e at y
 
@@ -68,7 +71,8 @@ absent_node : (d k : ℕ) (x : NodeRecord) → (node_record_checked d k x).form 
 unfolding node_record_checked
 absent_node d k x e p =
     let zeros = loc_zero x.loc && node_zero x.node in
-    let h = (and_iff (loc_zero x.loc) (node_zero x.node)).0 ((or_true_iff x.present zeros).0 (and_right (node_form x.node) (x.present || zeros) e) p) in
+    let h = (and_iff (loc_zero x.loc) (node_zero x.node)).0
+    ((or_true_iff x.present zeros).0 (and_right (node_form x.node) (x.present || zeros) e) p) in
     let l = loc_zero_is x.loc h.0 in
     let n = node_zero_is x.node h.1 in
     λ i. record { present = p i; loc = l i; node = n i }
@@ -77,7 +81,8 @@ absent_table : (d k : ℕ) (x : TableRecord) → (table_record_checked d k x).fo
 unfolding table_record_checked
 absent_table d k x e p =
     let zeros = loc_zero x.loc && eqb x.table.count 0 in
-    let h = (and_iff (loc_zero x.loc) (eqb x.table.count 0)).0 ((or_true_iff x.present zeros).0 (and_right (table_form x.table) (x.present || zeros) e) p) in
+    let h = (and_iff (loc_zero x.loc) (eqb x.table.count 0)).0
+    ((or_true_iff x.present zeros).0 (and_right (table_form x.table) (x.present || zeros) e) p) in
     let l = loc_zero_is x.loc h.0 in
     let t = table_zero_is x.table (and_left (table_form x.table) (x.present || zeros) e) (eqb-true _ _ h.1) in
     λ i. record { present = p i; loc = l i; table = t i }
@@ -106,7 +111,12 @@ module _ (d : ℕ) (s : DiskState) (f : DiskForm d s) where
 module _ (d : ℕ) (s t : DiskState) (f : DiskForm d s) (g : DiskForm d t) where
   nodes_decided : nodes_stored d s.records ≡ nodes_stored d t.records → s.records.nodes ≡ t.records.nodes
   nodes_decided same =
-      array_decided (node_array d) zero_node_record (λ x y u v a b c. λ i. record { present = a i; loc = b i; node = c i }) s.records.nodes t.records.nodes
+      array_decided (node_array d) zero_node_record (λ x y u v a b c. λ i. record {
+        present =
+            a i;
+        loc = b i;
+        node = c i;
+      }) s.records.nodes t.records.nodes
       (nodes_written d s f) (nodes_written d t g) (sym (nodes_read d s.records f.on) ∙ same ∙ nodes_read d t.records f.on)
 
   tables_decided : upstream_tables d s.records ≡ upstream_tables d t.records → s.records.tables ≡ t.records.tables
@@ -119,29 +129,35 @@ module _ (d : ℕ) (s t : DiskState) (f : DiskForm d s) (g : DiskForm d t) where
 -- THE QUEUES
 
 -- a queued request has no reference
-no_reference : (b c : Bool) (v w : Request) → (eqb v.reference 0 && b) ≡ true → (eqb w.reference 0 && c) ≡ true → v.id ≡ w.id → v.loc ≡ w.loc → v ≡ w
+no_reference : (b c : Bool) (v w : Request) → (eqb v.reference 0 && b) ≡ true → (eqb w.reference 0 && c) ≡ true → v.id ≡ w.id →
+    v.loc ≡ w.loc → v ≡ w
 no_reference b c v w e f i l =
     request_ext i (eqb-true _ _ (and_left (eqb v.reference 0) b e) ∙ sym (eqb-true _ _ (and_left (eqb w.reference 0) c f))) l
 
 table_queue_decided : (d : ℕ) (q p : Requests) → table_queue_form d q ≡ true → table_queue_form d p ≡ true → places q ≡ places p → q ≡ p
 unfolding table_queue_form places
 table_queue_decided d q p f g =
-    mapped_decided (λ w. w.loc) (table_request_ok d) (λ v w. no_reference _ _ v w) q p ((queue_iff (table_request_ok d) q).0 f) ((queue_iff (table_request_ok d) p).0 g)
+    mapped_decided (λ w. w.loc) (table_request_ok d) (λ v w. no_reference _ _ v w) q p ((queue_iff (table_request_ok d) q).0 f)
+    ((queue_iff (table_request_ok d) p).0 g)
 
 node_queue_decided : (d : ℕ) (q p : Requests) → node_queue_form d q ≡ true → node_queue_form d p ≡ true → places q ≡ places p → q ≡ p
 unfolding node_queue_form places
 node_queue_decided d q p f g =
-    mapped_decided (λ w. w.loc) (node_request_ok d) (λ v w. no_reference _ _ v w) q p ((queue_iff (node_request_ok d) q).0 f) ((queue_iff (node_request_ok d) p).0 g)
+    mapped_decided (λ w. w.loc) (node_request_ok d) (λ v w. no_reference _ _ v w) q p ((queue_iff (node_request_ok d) q).0 f)
+    ((queue_iff (node_request_ok d) p).0 g)
 
 -- THE DISK
 
-pub disk_decided : (d : ℕ) (s t : DiskState) → disk_form d s ≡ true → disk_form d t ≡ true → disk_vars d s ≡ disk_vars d t → s.rule ≡ t.rule → s ≡ t
+pub disk_decided : (d : ℕ) (s t : DiskState) → disk_form d s ≡ true → disk_form d t ≡ true → disk_vars d s ≡ disk_vars d t →
+    s.rule ≡ t.rule → s ≡ t
 disk_decided d s t e h same rule =
     let f = (disk_form_iff d s).0 e in
     let g = (disk_form_iff d t).0 h in
-    let tr = table_queue_decided d s.queues.tablereads t.queues.tablereads f.tablereads g.tablereads (ap (λ v. v.req_read_indirection_tables) same) in
+    let tr = table_queue_decided d s.queues.tablereads t.queues.tablereads f.tablereads g.tablereads
+    (ap (λ v. v.req_read_indirection_tables) same) in
     let nr = node_queue_decided d s.queues.nodereads t.queues.nodereads f.nodereads g.nodereads (ap (λ v. v.req_read_nodes) same) in
-    let tw = table_queue_decided d s.queues.tablewrites t.queues.tablewrites f.tablewrites g.tablewrites (ap (λ v. v.req_write_indirection_tables) same) in
+    let tw = table_queue_decided d s.queues.tablewrites t.queues.tablewrites f.tablewrites g.tablewrites
+    (ap (λ v. v.req_write_indirection_tables) same) in
     let nw = node_queue_decided d s.queues.nodewrites t.queues.nodewrites f.nodewrites g.nodewrites (ap (λ v. v.req_write_nodes) same) in
     let ts = tables_decided d s t f g (ap (λ v. v.indirection_tables) same) in
     let ns = nodes_decided d s t f g (ap (λ v. v.nodes) same) in

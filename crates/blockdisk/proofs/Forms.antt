@@ -11,8 +11,8 @@ use lib.ListN.{length}
 use Rattle.base.proofs.Scan.{all_at, all_of}
 use Rattle.base.proofs.Tests.{and_iff, and_left, eqb_iff, not_iff, or_true_iff}
 use Rattle.blockdisk.proofs.Outstanding.{places_some, queue_iff}
-use Rattle.blockdisk.specs.Form.{disk_form, is_rule, node_queue_form, node_record_checked, node_request_ok, nodes_checked, queues_form, records_checked, table_queue_form, table_record_checked}
-use Rattle.blockdisk.specs.Form.{table_request_ok, tables_checked}
+use Rattle.blockdisk.specs.Form.{disk_form, is_rule, node_queue_form, node_record_checked, node_request_ok, nodes_checked, queues_form}
+use Rattle.blockdisk.specs.Form.{records_checked, table_queue_form, table_record_checked, table_request_ok, tables_checked}
 use Rattle.blockdisk.specs.Records.{node_record_at, table_record_at}
 use Rattle.blockdisk.specs.Upstream.{places}
 use Rattle.blockdisk.specs.declared.DiskState.{DiskState}
@@ -81,7 +81,10 @@ records_form_iff d r = (
       }),
   (λ f. simp (and_iff, eqb_iff) (
     (f.tables_long, f.nodes_long),
-    ((f.tables_form_lem 0 (omega arith), f.tables_form_lem 1 (omega arith)), all_of (λ k. (node_record_checked d k (node_record_at r k)).form) 128 f.nodes_form_lem),
+    (
+      (f.tables_form_lem 0 (omega arith), f.tables_form_lem 1 (omega arith)),
+      all_of (λ k. (node_record_checked d k (node_record_at r k)).form) 128 f.nodes_form_lem,
+    ),
   )),
 )
 
@@ -143,14 +146,16 @@ unfolding node_queue_form
 node_queue_form_lem d q e = ((queue_iff (node_request_ok d) q).0 e).0
 
 -- a queued place is one that 16 allows
-pub queued_table_place : (d : ℕ) (q : Requests) → table_queue_form d q ≡ true → (id : ℕ) (l : Location) → places q id ≡ some l → valid_indirection_table_location (device_of d) l ≡ true
+pub queued_table_place : (d : ℕ) (q : Requests) → table_queue_form d q ≡ true → (id : ℕ) (l : Location) → places q id ≡ some l →
+    valid_indirection_table_location (device_of d) l ≡ true
 unfolding table_queue_form
 queued_table_place d q e id l h =
     let w = places_some q id h in
     let k = simp and_iff at (((queue_iff (table_request_ok d) q).0 e).1 id w.0 w.1) in
     rw w.2 at k.1.1
 
-pub queued_node_place : (d : ℕ) (q : Requests) → node_queue_form d q ≡ true → (id : ℕ) (l : Location) → places q id ≡ some l → node_place (device_of d) l ≡ true
+pub queued_node_place : (d : ℕ) (q : Requests) → node_queue_form d q ≡ true → (id : ℕ) (l : Location) → places q id ≡ some l →
+    node_place (device_of d) l ≡ true
 unfolding node_queue_form
 queued_node_place d q e id l h =
     let w = places_some q id h in

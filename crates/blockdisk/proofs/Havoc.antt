@@ -39,7 +39,8 @@ module _ {R A : Type 0} (s : RecordArray R A) (q : Requests) where
         (reads_iff s new p a).1 (k, record { number = x.number; there = t.0.0; loc = sym t.0.1 ∙ x.loc; thing = sym same ∙ x.thing })
 
     -- and the reverse, where each record is placed
-    pub stored_kept : Placed s old → ((p : Location) (a : A) → reads s old p ≡ some a → has_addr q p.addr ≡ false → reads s new p ≡ some a) →
+    pub stored_kept : Placed s old →
+        ((p : Location) (a : A) → reads s old p ≡ some a → has_addr q p.addr ≡ false → reads s new p ≡ some a) →
         (k : ℕ) → k < s.size → kept_in (record_at s old k) (record_at s new k) ≡ true
     stored_kept placed h k b =
         (kept_iff (record_at s old k) (record_at s new k)).1
@@ -47,7 +48,8 @@ module _ {R A : Type 0} (s : RecordArray R A) (q : Requests) where
         let l = s.loc (record_at s old k) in
         let a = s.thing (record_at s old k) in
         let n = (placed k b there).1 in
-        let (j, y) = (reads_iff s new l a).0 (h l a ((reads_iff s old l a).1 (k, record { number = n; there = there; loc = refl; thing = refl })) free) in
+        let (j, y) = (reads_iff s new l a).0
+        (h l a ((reads_iff s old l a).1 (k, record { number = n; there = there; loc = refl; thing = refl })) free) in
         let e : j ≡ k = (let u : some j ≡ some k = sym y.number ∙ n in cc) in
         let z : Holds s new l a k = rw e at y in
         ((z.there, sym z.loc), (w.same_iff (record_at s old k) (record_at s new k) (formed k b) (formed' k b)).1 (sym z.thing)))

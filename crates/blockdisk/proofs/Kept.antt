@@ -10,17 +10,20 @@ use Rattle.base.proofs.Refusals.{Clear}
 use Rattle.base.proofs.Tests.{and_right, split}
 use Rattle.base.specs.Refusals.{answer}
 use Rattle.blockdisk.proofs.Accepting.{RequestOk, answer_ok_iff, disk_accepted_iff, request_iff}
-use Rattle.blockdisk.proofs.Forms.{DiskForm, disk_form_iff, node_form_there, node_placed_iff, records_form_iff, records_placed_iff, table_form_there, table_placed_iff}
+use Rattle.blockdisk.proofs.Forms.{DiskForm, disk_form_iff, node_form_there, node_placed_iff, records_form_iff, records_placed_iff}
+use Rattle.blockdisk.proofs.Forms.{table_form_there, table_placed_iff}
 use Rattle.blockdisk.proofs.Outstanding.{queue_insert, queue_remove}
 use Rattle.blockdisk.proofs.Reading.{node_block, table_area, with_node_is, with_table_is}
-use Rattle.blockdisk.specs.Form.{disk_form, node_allowed, node_queue_form, node_record_checked, node_request_ok, records_checked, table_allowed, table_queue_form, table_record_checked, table_request_ok}
+use Rattle.blockdisk.specs.Form.{disk_form, node_allowed, node_queue_form, node_record_checked, node_request_ok, records_checked}
+use Rattle.blockdisk.specs.Form.{table_allowed, table_queue_form, table_record_checked, table_request_ok}
 use Rattle.blockdisk.specs.Ops.{disk_rows, next_disk, op_rows, request_of, node_not_stored, table_not_stored}
 use Rattle.blockdisk.specs.Records.{default_node_record, default_table_record, with_node, with_table}
 use Rattle.blockdisk.specs.declared.DiskState.{DiskState}
 use Rattle.blockdisk.specs.declared.DiskCall.{DiskCall}
 use Rattle.blockdisk.specs.declared.DiskOp.{DiskOp}
-use Rattle.blockdisk.specs.declared.DiskOp.TheVariants.{NoDiskOp, ReqReadIndirectionTableOp, ReqReadNodeOp, ReqWriteIndirectionTableOp, ReqWriteNodeOp}
-use Rattle.blockdisk.specs.declared.DiskOp.TheVariants.{RespReadIndirectionTableOp, RespReadNodeOp, RespWriteIndirectionTableOp, RespWriteNodeOp}
+use Rattle.blockdisk.specs.declared.DiskOp.TheVariants.{NoDiskOp, ReqReadIndirectionTableOp, ReqReadNodeOp, ReqWriteIndirectionTableOp}
+use Rattle.blockdisk.specs.declared.DiskOp.TheVariants.{ReqWriteNodeOp, RespReadIndirectionTableOp, RespReadNodeOp}
+use Rattle.blockdisk.specs.declared.DiskOp.TheVariants.{RespWriteIndirectionTableOp, RespWriteNodeOp}
 use Rattle.blockdisk.specs.declared.NodeRecord.{NodeRecord}
 use Rattle.blockdisk.specs.declared.Records.{Records}
 use Rattle.blockdisk.specs.declared.TableRecord.{TableRecord}
@@ -46,7 +49,8 @@ set_each : {R : Type 0} (g : ℕ → R → Bool) (z : R) (l : List R) (n k : ℕ
 set_each g z l n k v b e h j c =
     rw (set_at_place l k v z j b) (split (eqb j k) (λ t. let q : j ≡ k = eqb-true j k t in rw t (rw q e)) (λ t. rw t (h j c)))
 
-module _ (d : ℕ) (r : Records) (on : made d ≡ true) (form : (records_checked d r).form ≡ true) (placed : (records_checked d r).placed ≡ true) (l : Location) where
+module _ (d : ℕ) (r : Records) (on : made d ≡ true) (form : (records_checked d r).form ≡ true)
+    (placed : (records_checked d r).placed ≡ true) (l : Location) where
   module _ (x : Node) (allowed : node_place (device_of d) l ≡ true) where
     abbrev new_node_lem : NodeRecord
     new_node_lem = record { present = true; loc = l; node = x }
@@ -63,7 +67,8 @@ module _ (d : ℕ) (r : Records) (on : made d ≡ true) (form : (records_checked
         (record {
           nodes_long = length-set r.nodes k new_node_lem ∙ h.nodes_long;
           tables_long = h.tables_long;
-          nodes_form_lem = set_each (λ j y. (node_record_checked d j y).form) default_node_record r.nodes 128 k new_node_lem fits (node_form_there d k new_node_lem refl f) h.nodes_form_lem;
+          nodes_form_lem = set_each (λ j y. (node_record_checked d j y).form) default_node_record r.nodes 128 k new_node_lem fits
+              (node_form_there d k new_node_lem refl f) h.nodes_form_lem;
           tables_form_lem = h.tables_form_lem;
         }))
 
@@ -76,7 +81,8 @@ module _ (d : ℕ) (r : Records) (on : made d ≡ true) (form : (records_checked
         rw (with_node_is d r l x k on at)
         ((records_placed_iff d (node_after k)).1
         (record {
-          nodes_placed = set_each (λ j y. (node_record_checked d j y).placed) default_node_record r.nodes 128 k new_node_lem fits in_place h.nodes_placed;
+          nodes_placed = set_each (λ j y.
+              (node_record_checked d j y).placed) default_node_record r.nodes 128 k new_node_lem fits in_place h.nodes_placed;
           tables_placed = h.tables_placed;
         }))
 
@@ -96,7 +102,8 @@ module _ (d : ℕ) (r : Records) (on : made d ≡ true) (form : (records_checked
         (record {
           tables_long = length-set r.tables k new_table_lem ∙ h.tables_long;
           nodes_long = h.nodes_long;
-          tables_form_lem = set_each (λ j y. (table_record_checked d j y).form) default_table_record r.tables 2 k new_table_lem fits (table_form_there d k new_table_lem refl f) h.tables_form_lem;
+          tables_form_lem = set_each (λ j y. (table_record_checked d j y).form) default_table_record r.tables 2 k new_table_lem fits
+              (table_form_there d k new_table_lem refl f) h.tables_form_lem;
           nodes_form_lem = h.nodes_form_lem;
         }))
 
@@ -109,18 +116,21 @@ module _ (d : ℕ) (r : Records) (on : made d ≡ true) (form : (records_checked
         rw (with_table_is d r l x k on at)
         ((records_placed_iff d (table_after k)).1
         (record {
-          tables_placed = set_each (λ j y. (table_record_checked d j y).placed) default_table_record r.tables 2 k new_table_lem fits in_place h.tables_placed;
+          tables_placed = set_each (λ j y.
+              (table_record_checked d j y).placed) default_table_record r.tables 2 k new_table_lem fits in_place h.tables_placed;
           nodes_placed = h.nodes_placed;
         }))
 
 -- THE QUEUES
 
 module _ (d : ℕ) (q : Requests) (id : ℕ) where
-  pub table_request_form : (l : Location) → table_queue_form d q ≡ true → RequestOk q id (table_allowed d l) → table_queue_form d (insert_of q (request_of id l)) ≡ true
+  pub table_request_form : (l : Location) → table_queue_form d q ≡ true → RequestOk q id (table_allowed d l) →
+      table_queue_form d (insert_of q (request_of id l)) ≡ true
   unfolding table_queue_form
   table_request_form l f r = queue_insert (table_request_ok d) q (request_of id l) f r.room r.fresh r.ok
 
-  pub node_request_form : (l : Location) → node_queue_form d q ≡ true → RequestOk q id (node_allowed d l) → node_queue_form d (insert_of q (request_of id l)) ≡ true
+  pub node_request_form : (l : Location) → node_queue_form d q ≡ true → RequestOk q id (node_allowed d l) →
+      node_queue_form d (insert_of q (request_of id l)) ≡ true
   unfolding node_queue_form
   node_request_form l f r = queue_insert (node_request_ok d) q (request_of id l) f r.room r.fresh r.ok
 
@@ -135,9 +145,11 @@ module _ (d : ℕ) (q : Requests) (id : ℕ) where
 -- THE DISK
 
 module _ (d : ℕ) (s : DiskState) (f : DiskForm d s) where
-  pub op_form_kept : (op : DiskOp) (n : Node) (t : Table) → node_form n ≡ true → table_form t ≡ true → Clear (op_rows d s op n t) → DiskForm d (next_disk d s op n t)
+  pub op_form_kept : (op : DiskOp) (n : Node) (t : Table) → node_form n ≡ true → table_form t ≡ true → Clear (op_rows d s op n t) →
+      DiskForm d (next_disk d s op n t)
   op_form_kept (ReqReadIndirectionTableOp id l) n t a b c =
-      let q = table_request_form d s.queues.tablereads id l f.tablereads ((request_iff s.queues.tablereads id (table_allowed d l)).0 c) in search
+      let q = table_request_form d s.queues.tablereads id l f.tablereads ((request_iff s.queues.tablereads id (table_allowed d l)).0 c) in
+      search
   op_form_kept (ReqReadNodeOp id l) n t a b c =
       let q = node_request_form d s.queues.nodereads id l f.nodereads ((request_iff s.queues.nodereads id (node_allowed d l)).0 c) in search
   op_form_kept (ReqWriteIndirectionTableOp id l) n t a b c =
@@ -155,16 +167,19 @@ module _ (d : ℕ) (s : DiskState) (f : DiskForm d s) where
       let y = with_node_placed d s.records f.on f.form f.placed l n p in
       search
   op_form_kept (RespReadIndirectionTableOp id x) n t a b c =
-      let q = table_answer_form d s.queues.tablereads id f.tablereads ((answer_ok_iff s.queues.tablereads id (table_not_stored d s id x t)).0 c).there in search
+      let q = table_answer_form d s.queues.tablereads id f.tablereads
+      ((answer_ok_iff s.queues.tablereads id (table_not_stored d s id x t)).0 c).there in search
   op_form_kept (RespReadNodeOp id x) n t a b c =
-      let q = node_answer_form d s.queues.nodereads id f.nodereads ((answer_ok_iff s.queues.nodereads id (node_not_stored d s id x n)).0 c).there in search
+      let q = node_answer_form d s.queues.nodereads id f.nodereads
+      ((answer_ok_iff s.queues.nodereads id (node_not_stored d s id x n)).0 c).there in search
   op_form_kept (RespWriteIndirectionTableOp id) n t a b c =
       let q = table_answer_form d s.queues.tablewrites id f.tablewrites ((answer_ok_iff s.queues.tablewrites id false).0 c).there in search
   op_form_kept (RespWriteNodeOp id) n t a b c =
       let q = node_answer_form d s.queues.nodewrites id f.nodewrites ((answer_ok_iff s.queues.nodewrites id false).0 c).there in search
   op_form_kept NoDiskOp n t a b c = f
 
-pub disk_form_kept : (d : ℕ) (s : DiskState) (c : DiskCall) → answer (disk_rows d s c) ≡ 0 → disk_form d (next_disk d s c.op c.node c.table) ≡ true
+pub disk_form_kept : (d : ℕ) (s : DiskState) (c : DiskCall) → answer (disk_rows d s c) ≡ 0 →
+    disk_form d (next_disk d s c.op c.node c.table) ≡ true
 disk_form_kept d s c e =
     let a = (disk_accepted_iff d s c).0 e in
     (disk_form_iff d (next_disk d s c.op c.node c.table)).1 (op_form_kept d s a.disk c.op c.node c.table a.node a.table a.rows)

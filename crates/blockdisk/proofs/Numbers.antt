@@ -8,11 +8,13 @@ use borrow.Author.Tests.{ltb-true}
 use lib.Dec.{eqb, ltb}
 use lib.ListN.{set}
 use Rattle.base.proofs.Tests.{and_right, split}
-use Rattle.blockdisk.specs.Records.{area_of, block_of, node_record_at, read_node, read_table, table_record_at, with_node, with_table, zero_node_record, zero_table_record}
+use Rattle.blockdisk.specs.Records.{area_of, block_of, node_record_at, read_node, read_table, table_record_at, with_node, with_table}
+use Rattle.blockdisk.specs.Records.{zero_node_record, zero_table_record}
 use Rattle.blockdisk.specs.declared.Records.{Records}
 use Rattle.disklayout.specs.Blocks.{node_block_of, table_area_of}
 use Rattle.disklayout.specs.Device.{device_of, made}
-use Rattle.disklayout.specs.Layout.{indirection_table1_addr, indirection_table2_addr, min_node_block_index, node_block_size, valid_node_addr, same_loc}
+use Rattle.disklayout.specs.Layout.{indirection_table1_addr, indirection_table2_addr, min_node_block_index, node_block_size}
+use Rattle.disklayout.specs.Layout.{valid_node_addr, same_loc}
 use Rattle.disklayout.specs.declared.Location.{Location}
 use Rattle.disklayout.specs.declared.NumberOption.{NumberOption}
 use Rattle.sectortype.specs.declared.Node.{Node}
@@ -24,7 +26,8 @@ block_below d l =
     split (made d)
     (λ t. rw t
     (split (valid_node_addr (device_of d) l.addr && ltb (l.addr / node_block_size (device_of d) - min_node_block_index (device_of d)) 128)
-    (λ e. rw e (ltb-true _ _ (and_right (valid_node_addr (device_of d) l.addr) (ltb (l.addr / node_block_size (device_of d) - min_node_block_index (device_of d)) 128) e)))
+    (λ e. rw e (ltb-true _ _ (and_right (valid_node_addr (device_of d) l.addr)
+    (ltb (l.addr / node_block_size (device_of d) - min_node_block_index (device_of d)) 128) e)))
     (λ e. rw e (omega arith))))
     (λ t. rw t (omega arith))
 

@@ -52,7 +52,8 @@ module _ (q : Requests) (id : ℕ) (form : requests_form q ≡ true) where
   places_remove = mapped_remove place_in q form id
 
 -- no write is outstanding at the address
-pub written_iff : (q : Requests) (a : ℕ) → requests_form q ≡ true → (has_addr q a ≡ false) ↔ ((id : ℕ) (l : Location) → places q id ≡ some l → l.addr ≡ a → ⊥)
+pub written_iff : (q : Requests) (a : ℕ) → requests_form q ≡ true →
+    (has_addr q a ≡ false) ↔ ((id : ℕ) (l : Location) → places q id ≡ some l → l.addr ≡ a → ⊥)
 unfolding has_addr places
 written_iff q a form =
     let h = mapped_none_iff place_in q form (λ l. eqb l.addr a) in
@@ -64,7 +65,8 @@ abbrev pub queue_ok : (Request → Bool) → Requests → Bool
 queue_ok ok q = requests_form q && all_below (λ k. not (ltb k q.count) || ok (request_at q k)) 16
 
 -- a test that each place in use passes
-pub all_used_iff : (n : ℕ) (g : ℕ → Bool) → (all_below (λ k. not (ltb k n) || g k) 16 ≡ true) ↔ (some_below (λ k. ltb k n && not (g k)) 16 ≡ false)
+pub all_used_iff : (n : ℕ) (g : ℕ → Bool) →
+    (all_below (λ k. not (ltb k n) || g k) 16 ≡ true) ↔ (some_below (λ k. ltb k n && not (g k)) 16 ≡ false)
 all_used_iff n g = (
   (λ e. some_of_none (λ k. ltb k n && not (g k)) 16 (λ k b. (turn (ltb k n) (g k)).0 (all_at (λ k. not (ltb k n) || g k) 16 k e b))),
   (λ e. all_of (λ k. not (ltb k n) || g k) 16 (λ k b. (turn (ltb k n) (g k)).1 (none_at (λ k. ltb k n && not (g k)) 16 k e b))),
@@ -75,16 +77,19 @@ all_used_iff n g = (
     turn true false = ((λ e. sym e), (λ e. sym e))
     turn false y = ((λ e. refl), (λ e. refl))
 
-pub queue_iff : (ok : Request → Bool) (q : Requests) → (queue_ok ok q ≡ true) ↔ ((requests_form q ≡ true) × ((id : ℕ) (w : Request) → requests_map q id ≡ some w → ok w ≡ true))
+pub queue_iff : (ok : Request → Bool) (q : Requests) →
+    (queue_ok ok q ≡ true) ↔ ((requests_form q ≡ true) × ((id : ℕ) (w : Request) → requests_map q id ≡ some w → ok w ≡ true))
 queue_iff ok q = (
   (λ e. let h = (and_iff (requests_form q) (all_below (λ k. not (ltb k q.count) || ok (request_at q k)) 16)).0 e in
       let s = (scan_iff q h.0 (λ w. not (ok w))).0 ((all_used_iff q.count (λ k. ok (request_at q k))).0 h.1) in
       (h.0, λ id w m. (not_iff (ok w)).0 (s id w m))),
   (λ h. and_both h.0
-      ((all_used_iff q.count (λ k. ok (request_at q k))).1 ((scan_iff q h.0 (λ w. not (ok w))).1 (λ id w m. (not_iff (ok w)).1 (h.1 id w m))))),
+      ((all_used_iff q.count (λ k. ok (request_at q k))).1
+      ((scan_iff q h.0 (λ w. not (ok w))).1 (λ id w m. (not_iff (ok w)).1 (h.1 id w m))))),
 )
 
-pub queue_insert : (ok : Request → Bool) (q : Requests) (w : Request) → queue_ok ok q ≡ true → q.count < 16 → has_of q w.id ≡ false → ok w ≡ true → queue_ok ok (insert_of q w) ≡ true
+pub queue_insert : (ok : Request → Bool) (q : Requests) (w : Request) → queue_ok ok q ≡ true → q.count < 16 → has_of q w.id ≡ false →
+    ok w ≡ true → queue_ok ok (insert_of q w) ≡ true
 queue_insert ok q w f room new fine =
     let h = (queue_iff ok q).0 f in
     (queue_iff ok (insert_of q w)).1 (
@@ -93,7 +98,9 @@ queue_insert ok q w f room new fine =
           ⊎_elim (λ x. rw (← x.1) fine) (λ x. h.1 id v x.1) (put_some (requests_map q) w.id w id (rw (insert_map q h.0 w room new) at m)),
     )
 
-pub queue_remove : (ok : Request → Bool) (q : Requests) (id : ℕ) → queue_ok ok q ≡ true → has_of q id ≡ true → queue_ok ok (remove_of q id) ≡ true
+pub queue_remove : (ok : Request → Bool) (q : Requests) (id : ℕ) → queue_ok ok q ≡ true → has_of q id ≡ true →
+    queue_ok ok (remove_of q id) ≡ true
 queue_remove ok q id f there =
     let h = (queue_iff ok q).0 f in
-    (queue_iff ok (remove_of q id)).1 (remove_form q h.0 id there, λ j v m. h.1 j v (del_some (requests_map q) id j (rw (remove_map q h.0 id there) at m)).1)
+    (queue_iff ok (remove_of q id)).1
+    (remove_form q h.0 id there, λ j v m. h.1 j v (del_some (requests_map q) id j (rw (remove_map q h.0 id there) at m)).1)

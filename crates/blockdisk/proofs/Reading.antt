@@ -13,8 +13,8 @@ use Rattle.base.proofs.Tests.{and_both, and_iff, clash, split}
 use Rattle.base.specs.Maps.{flagged}
 use Rattle.blockdisk.proofs.Forms.{records_form_iff}
 use Rattle.blockdisk.proofs.RecordArray.{reads, reads_iff, replaced_away, replaced_elsewhere, replaced_same, replaced_update}
-use Rattle.blockdisk.proofs.RecordArrays.{node_laws, node_array, nodes_are_formed, nodes_are_placed, nodes_read, table_laws, table_array, tables_are_formed, tables_are_placed}
-use Rattle.blockdisk.proofs.RecordArrays.{tables_read, upstream_laws, upstream_read, upstream_array}
+use Rattle.blockdisk.proofs.RecordArrays.{node_laws, node_array, nodes_are_formed, nodes_are_placed, nodes_read, table_laws, table_array}
+use Rattle.blockdisk.proofs.RecordArrays.{tables_are_formed, tables_are_placed, tables_read, upstream_laws, upstream_read, upstream_array}
 use Rattle.blockdisk.specs.Form.{records_checked}
 use Rattle.blockdisk.specs.Records.{node_record_at, read_node, read_table, table_record_at, with_node, with_table}
 use Rattle.blockdisk.specs.Upstream.{DiskMapUpdate, Imap, nodes_stored, tables_stored, upstream_tables}
@@ -64,7 +64,8 @@ module _ {A : Type 0} (m : Imap A) (l : Location) (a : A) where
   pub replacing_some : (k : Location) {x : A} → replacing m l a k ≡ some x → ((k ≡ l) × (a ≡ x)) ⊎ ((k.addr ≡ l.addr → ⊥) × (m k ≡ some x))
   replacing_some k {x} e = go (eqb k.addr l.addr) (same_loc k l) refl refl e
     where
-      go : (p q : Bool) → eqb k.addr l.addr ≡ p → same_loc k l ≡ q → cond p (flagged q a) (m k) ≡ some x → ((k ≡ l) × (a ≡ x)) ⊎ ((k.addr ≡ l.addr → ⊥) × (m k ≡ some x))
+      go : (p q : Bool) → eqb k.addr l.addr ≡ p → same_loc k l ≡ q → cond p (flagged q a) (m k) ≡ some x →
+          ((k ≡ l) × (a ≡ x)) ⊎ ((k.addr ≡ l.addr → ⊥) × (m k ≡ some x))
       go true q u v h = let f = flagged_some q a h in inl ((same_loc_iff k l).0 (v ∙ f.0), f.1)
       go false q u v h = inr (eqb-false k.addr l.addr u, h)
 
@@ -77,20 +78,24 @@ replaced_map m m' l a here else gone =
     (λ x. rw x (else k (eqb-false k.addr l.addr x))))
 
 -- what the code's read gives
-pub node_read_iff : (d : ℕ) (r : Records) (l : Location) (n : Node) → (nodes_stored d r l ≡ some n) ↔ (((read_node d r l).present ≡ true) × ((read_node d r l).node ≡ n))
+pub node_read_iff : (d : ℕ) (r : Records) (l : Location) (n : Node) →
+    (nodes_stored d r l ≡ some n) ↔ (((read_node d r l).present ≡ true) × ((read_node d r l).node ≡ n))
 unfolding nodes_stored
 node_read_iff d r l n = (flagged_some (read_node d r l).present (read_node d r l).node, (λ h. rw (h.0, h.1)))
 
-pub table_read_iff : (d : ℕ) (r : Records) (l : Location) (t : Table) → (tables_stored d r l ≡ some t) ↔ (((read_table d r l).present ≡ true) × ((read_table d r l).table ≡ t))
+pub table_read_iff : (d : ℕ) (r : Records) (l : Location) (t : Table) →
+    (tables_stored d r l ≡ some t) ↔ (((read_table d r l).present ≡ true) × ((read_table d r l).table ≡ t))
 unfolding tables_stored
 table_read_iff d r l t = (flagged_some (read_table d r l).present (read_table d r l).table, (λ h. rw (h.0, h.1)))
 
 -- a table as upstream's
-pub upstream_some : (d : ℕ) (r : Records) (l : Location) {x : IndirectionTable} → upstream_tables d r l ≡ some x → (t : Table) × (tables_stored d r l ≡ some t) × (indirection_table t ≡ x)
+pub upstream_some : (d : ℕ) (r : Records) (l : Location) {x : IndirectionTable} → upstream_tables d r l ≡ some x → (t : Table)
+    × (tables_stored d r l ≡ some t) × (indirection_table t ≡ x)
 unfolding upstream_tables
 upstream_some d r l e = (map-eq-some_iff indirection_table (tables_stored d r l)).0 e
 
-pub upstream_of : (d : ℕ) (r : Records) (l : Location) (t : Table) → tables_stored d r l ≡ some t → upstream_tables d r l ≡ some (indirection_table t)
+pub upstream_of : (d : ℕ) (r : Records) (l : Location) (t : Table) → tables_stored d r l ≡ some t →
+    upstream_tables d r l ≡ some (indirection_table t)
 unfolding upstream_tables
 upstream_of d r l t e = rw e
 
@@ -100,7 +105,8 @@ module _ (d : ℕ) (r : Records) (on : made d ≡ true) where
     (λ e. let h = (reads_iff (node_array d) r.nodes l n).0 (rw (nodes_read d r on) at e) in
         let j = h.1 in
         (h.0, record { within = (node_laws d).below l.addr h.0 j.number; block = j.number; present = j.there; loc = j.loc; node = j.thing })),
-    (λ (k, h). rw (nodes_read d r on) ((reads_iff (node_array d) r.nodes l n).1 (k, record { number = h.block; there = h.present; loc = h.loc; thing = h.node }))),
+    (λ (k, h). rw (nodes_read d r on)
+        ((reads_iff (node_array d) r.nodes l n).1 (k, record { number = h.block; there = h.present; loc = h.loc; thing = h.node }))),
   )
 
   pub read_table_some : (l : Location) (t : Table) → (tables_stored d r l ≡ some t) ↔ ((k : ℕ) × TableAt d r l t k)
@@ -108,15 +114,18 @@ module _ (d : ℕ) (r : Records) (on : made d ≡ true) where
     (λ e. let h = (reads_iff (table_array d) r.tables l t).0 (rw (tables_read d r on) at e) in
         let j = h.1 in
         (h.0, record { within = (table_laws d).below l.addr h.0 j.number; area = j.number; present = j.there; loc = j.loc; table = j.thing })),
-    (λ (k, h). rw (tables_read d r on) ((reads_iff (table_array d) r.tables l t).1 (k, record { number = h.area; there = h.present; loc = h.loc; thing = h.table }))),
+    (λ (k, h). rw (tables_read d r on)
+        ((reads_iff (table_array d) r.tables l t).1 (k, record { number = h.area; there = h.present; loc = h.loc; thing = h.table }))),
   )
 
   -- a stored place is one that 16 allows
-  pub stored_node_place : (records_checked d r).placed ≡ true → (l : Location) (n : Node) → nodes_stored d r l ≡ some n → node_place (device_of d) l ≡ true
+  pub stored_node_place : (records_checked d r).placed ≡ true → (l : Location) (n : Node) → nodes_stored d r l ≡ some n →
+      node_place (device_of d) l ≡ true
   stored_node_place placed l n e =
       let (k, h) = (read_node_some l n).0 e in rw h.loc at (nodes_are_placed d r placed k h.within h.present).0
 
-  pub stored_table_place : (records_checked d r).placed ≡ true → (l : Location) (t : Table) → tables_stored d r l ≡ some t → valid_indirection_table_location (device_of d) l ≡ true
+  pub stored_table_place : (records_checked d r).placed ≡ true → (l : Location) (t : Table) → tables_stored d r l ≡ some t →
+      valid_indirection_table_location (device_of d) l ≡ true
   stored_table_place placed l t e =
       let (k, h) = (read_table_some l t).0 e in rw h.loc at (tables_are_placed d r (λ x. x) placed k h.within h.present).0
 
@@ -124,7 +133,8 @@ module _ (d : ℕ) (r : Records) (on : made d ≡ true) where
   pub stored_node_form : (records_checked d r).form ≡ true → (l : Location) (n : Node) → nodes_stored d r l ≡ some n → node_form n ≡ true
   stored_node_form form l n e = let (k, h) = (read_node_some l n).0 e in rw h.node at (nodes_are_formed d r form k h.within)
 
-  pub stored_table_form : (records_checked d r).form ≡ true → (l : Location) (t : Table) → tables_stored d r l ≡ some t → table_form t ≡ true
+  pub stored_table_form : (records_checked d r).form ≡ true → (l : Location) (t : Table) → tables_stored d r l ≡ some t →
+      table_form t ≡ true
   stored_table_form form l t e = let (k, h) = (read_table_some l t).0 e in rw h.table at (tables_are_formed d r (λ x. x) form k h.within)
 
   -- the code's test of exactly what is stored
@@ -147,7 +157,8 @@ module _ (d : ℕ) (r : Records) (on : made d ≡ true) where
   )
 
   -- so upstream's table settles the stored one
-  pub upstream_stored : (records_checked d r).form ≡ true → (l : Location) (t : Table) → table_form t ≡ true → upstream_tables d r l ≡ some (indirection_table t) → tables_stored d r l ≡ some t
+  pub upstream_stored : (records_checked d r).form ≡ true → (l : Location) (t : Table) → table_form t ≡ true →
+      upstream_tables d r l ≡ some (indirection_table t) → tables_stored d r l ≡ some t
   upstream_stored form l t f e =
       let (x, h, q) = upstream_some d r l e in h ∙ ap some ((table_abstract x t (stored_table_form form l x h) f).0 q)
 
@@ -171,9 +182,11 @@ node_leaves_upstream d r l n = ap (λ m x. map indirection_table (m x)) (node_le
 pub node_block : (d : ℕ) (r : Records) → (records_checked d r).form ≡ true → (l : Location) → node_place (device_of d) l ≡ true →
     (k : ℕ) × (node_block_of (device_of d) l.addr ≡ some k) × (k < length r.nodes)
 node_block d r form l place =
-    let (k, e) = (node_laws d).numbered l place in (k, e, omega (arith, ((records_form_iff d r).0 form).nodes_long, (node_laws d).below l.addr k e))
+    let (k, e) = (node_laws d).numbered l place in
+    (k, e, omega (arith, ((records_form_iff d r).0 form).nodes_long, (node_laws d).below l.addr k e))
 
-module _ (d : ℕ) (r : Records) (on : made d ≡ true) (form : (records_checked d r).form ≡ true) (l : Location) (n : Node) (place : node_place (device_of d) l ≡ true) where
+module _ (d : ℕ) (r : Records) (on : made d ≡ true) (form : (records_checked d r).form ≡ true) (l : Location) (n : Node)
+    (place : node_place (device_of d) l ≡ true) where
   abbrev new_node : NodeRecord
   new_node = record { present = true; loc = l; node = n }
 
@@ -187,13 +200,16 @@ module _ (d : ℕ) (r : Records) (on : made d ≡ true) (form : (records_checked
   node_fits = (node_block d r form l place).2
 
   now : nodes_stored d (with_node d r l n) ≡ reads (node_array d) (set r.nodes block new_node)
-  now = ap (nodes_stored d) (with_node_is d r l n block on node_at) ∙ nodes_read d (record { tables = r.tables; nodes = set r.nodes block new_node }) on
+  now =
+      ap (nodes_stored d) (with_node_is d r l n block on node_at)
+      ∙ nodes_read d (record { tables = r.tables; nodes = set r.nodes block new_node }) on
 
   pub node_written_lem : nodes_stored d (with_node d r l n) l ≡ some n
   node_written_lem = rw now (replaced_same (node_array d) (node_laws d) r.nodes block new_node node_fits refl node_at)
 
   pub node_elsewhere : (k : Location) → (k.addr ≡ l.addr → ⊥) → nodes_stored d (with_node d r l n) k ≡ nodes_stored d r k
-  node_elsewhere k ne = rw (now, nodes_read d r on) (replaced_elsewhere (node_array d) (node_laws d) r.nodes block new_node node_fits refl node_at k ne)
+  node_elsewhere k ne =
+      rw (now, nodes_read d r on) (replaced_elsewhere (node_array d) (node_laws d) r.nodes block new_node node_fits refl node_at k ne)
 
   pub node_replaced : (k : Location) → k.addr ≡ l.addr → (k ≡ l → ⊥) → nodes_stored d (with_node d r l n) k ≡ none
   node_replaced k e ne = rw now (replaced_away (node_array d) (node_laws d) r.nodes block new_node node_fits refl node_at k e ne)
@@ -205,7 +221,8 @@ module _ (d : ℕ) (r : Records) (on : made d ≡ true) (form : (records_checked
   -- upstream's DiskMapUpdate
   pub node_update : (records_checked d r).placed ≡ true → DiskMapUpdate (nodes_stored d r) (nodes_stored d (with_node d r l n)) l n
   node_update placed =
-      rw (now, nodes_read d r on) (replaced_update (node_array d) (node_laws d) r.nodes block new_node node_fits refl node_at (nodes_are_placed d r placed) place)
+      rw (now, nodes_read d r on) (replaced_update (node_array d) (node_laws d) r.nodes block new_node node_fits refl node_at
+      (nodes_are_placed d r placed) place)
 
 -- A TABLE WRITTEN
 
@@ -220,12 +237,15 @@ unfolding nodes_stored read_node with_table
 table_leaves_nodes d r l t = refl
 
 -- the area of a place, for which there is a record
-pub table_area : (d : ℕ) (r : Records) → (records_checked d r).form ≡ true → (l : Location) → valid_indirection_table_location (device_of d) l ≡ true →
+pub table_area : (d : ℕ) (r : Records) → (records_checked d r).form ≡ true → (l : Location) →
+    valid_indirection_table_location (device_of d) l ≡ true →
     (k : ℕ) × (table_area_of (device_of d) l.addr ≡ some k) × (k < length r.tables)
 table_area d r form l place =
-    let (k, e) = (table_laws d).numbered l place in (k, e, omega (arith, ((records_form_iff d r).0 form).tables_long, (table_laws d).below l.addr k e))
+    let (k, e) = (table_laws d).numbered l place in
+    (k, e, omega (arith, ((records_form_iff d r).0 form).tables_long, (table_laws d).below l.addr k e))
 
-module _ (d : ℕ) (r : Records) (on : made d ≡ true) (form : (records_checked d r).form ≡ true) (l : Location) (t : Table) (place : valid_indirection_table_location (device_of d) l ≡ true) where
+module _ (d : ℕ) (r : Records) (on : made d ≡ true) (form : (records_checked d r).form ≡ true) (l : Location) (t : Table)
+    (place : valid_indirection_table_location (device_of d) l ≡ true) where
   abbrev new_table : TableRecord
   new_table = record { present = true; loc = l; table = t }
 
@@ -251,24 +271,31 @@ module _ (d : ℕ) (r : Records) (on : made d ≡ true) (form : (records_checked
   table_written_lem = rw then (replaced_same (table_array d) (table_laws d) r.tables area new_table table_fits refl table_at)
 
   pub table_elsewhere : (k : Location) → (k.addr ≡ l.addr → ⊥) → tables_stored d (with_table d r l t) k ≡ tables_stored d r k
-  table_elsewhere k ne = rw (then, tables_read d r on) (replaced_elsewhere (table_array d) (table_laws d) r.tables area new_table table_fits refl table_at k ne)
+  table_elsewhere k ne =
+      rw (then, tables_read d r on) (replaced_elsewhere (table_array d)
+      (table_laws d) r.tables area new_table table_fits refl table_at k ne)
 
   pub table_replaced : (k : Location) → k.addr ≡ l.addr → (k ≡ l → ⊥) → tables_stored d (with_table d r l t) k ≡ none
   table_replaced k e ne = rw then (replaced_away (table_array d) (table_laws d) r.tables area new_table table_fits refl table_at k e ne)
 
   pub tables_after : tables_stored d (with_table d r l t) ≡ replacing (tables_stored d r) l t
-  tables_after = replaced_map (tables_stored d r) (tables_stored d (with_table d r l t)) l t table_written_lem table_elsewhere table_replaced
+  tables_after =
+      replaced_map (tables_stored d r) (tables_stored d (with_table d r l t)) l t table_written_lem table_elsewhere table_replaced
 
   pub upstream_after : upstream_tables d (with_table d r l t) ≡ replacing (upstream_tables d r) l (indirection_table t)
   unfolding upstream_tables
-  upstream_after = ap (λ m x. map indirection_table (m x)) tables_after ∙ fun_ext (λ k. mapped (eqb k.addr l.addr) (same_loc k l) (tables_stored d r k))
+  upstream_after =
+      ap (λ m x. map indirection_table (m x)) tables_after ∙ fun_ext (λ k. mapped (eqb k.addr l.addr) (same_loc k l) (tables_stored d r k))
     where
-      mapped : (a b : Bool) (o : Option Table) → map indirection_table (cond a (flagged b t) o) ≡ cond a (flagged b (indirection_table t)) (map indirection_table o)
+      mapped : (a b : Bool) (o : Option Table) →
+          map indirection_table (cond a (flagged b t) o) ≡ cond a (flagged b (indirection_table t)) (map indirection_table o)
       mapped true true o = refl
       mapped true false o = refl
       mapped false b o = refl
 
-  pub table_update : (records_checked d r).placed ≡ true → DiskMapUpdate (upstream_tables d r) (upstream_tables d (with_table d r l t)) l (indirection_table t)
+  pub table_update : (records_checked d r).placed ≡ true →
+      DiskMapUpdate (upstream_tables d r) (upstream_tables d (with_table d r l t)) l (indirection_table t)
   table_update placed =
       rw (upstream_then, upstream_read d r on)
-      (replaced_update (upstream_array d) (upstream_laws d) r.tables area new_table table_fits refl table_at (tables_are_placed d r indirection_table placed) place)
+      (replaced_update (upstream_array d) (upstream_laws d) r.tables area new_table table_fits refl table_at
+      (tables_are_placed d r indirection_table placed) place)

@@ -50,7 +50,9 @@ module _ {R A : Type 0} (s : RecordArray R A) where
 
   -- each record is at an allowed place of its own area or block
   abbrev pub Placed : List R → Type 0
-  Placed l = (k : ℕ) → k < s.size → s.there (record_at l k) ≡ true → (s.place (s.loc (record_at l k)) ≡ true) × (s.number (s.loc (record_at l k)).addr ≡ some k)
+  Placed l =
+      (k : ℕ) → k < s.size → s.there (record_at l k) ≡ true → (s.place (s.loc (record_at l k)) ≡ true)
+      × (s.number (s.loc (record_at l k)).addr ≡ some k)
 
   abbrev pub Formed : List R → Type 0
   Formed l = (k : ℕ) → k < s.size → s.form (record_at l k) ≡ true
@@ -79,12 +81,19 @@ module _ {R A : Type 0} (s : RecordArray R A) where
 
   -- A RECORD REPLACED
 
-  module _ (w : Laws s) (l : List R) (k : ℕ) (v : R) (fits : k < length l) (there : s.there v ≡ true) (at : s.number (s.loc v).addr ≡ some k) where
+  module _ (w : Laws s) (l : List R) (k : ℕ) (v : R) (fits : k < length l) (there : s.there v ≡ true)
+      (at : s.number (s.loc v).addr ≡ some k) where
     pub replaced_same : reads (set l k v) (s.loc v) ≡ some (s.thing v)
     replaced_same =
         (reads_iff (set l k v) (s.loc v) (s.thing v)).1 (
           k,
-          record { number = at; there = rw (get_or-set_same l k v s.blank fits) there; loc = rw (get_or-set_same l k v s.blank fits); thing = rw (get_or-set_same l k v s.blank fits) },
+          record {
+            number = at;
+            there = rw (get_or-set_same l k v s.blank fits) there;
+            loc = rw
+                (get_or-set_same l k v s.blank fits);
+            thing = rw (get_or-set_same l k v s.blank fits);
+          },
         )
 
     pub replaced_elsewhere : (p : Location) → (p.addr ≡ (s.loc v).addr → ⊥) → reads (set l k v) p ≡ reads l p

@@ -9,7 +9,8 @@ use Rattle.base.specs.Maps.{flagged, is_some}
 use Rattle.blockdisk.proofs.Forms.{node_form_of, node_placed_iff, records_form_iff, records_placed_iff, table_form_of, table_placed_iff}
 use Rattle.blockdisk.proofs.RecordArray.{Formed, Laws, Placed, RecordArray, read_in, reads}
 use Rattle.blockdisk.specs.Form.{records_checked}
-use Rattle.blockdisk.specs.Records.{default_node_record, default_table_record, node_record_at, read_node, read_table, table_record_at, zero_node_record, zero_table_record}
+use Rattle.blockdisk.specs.Records.{default_node_record, default_table_record, node_record_at, read_node, read_table, table_record_at}
+use Rattle.blockdisk.specs.Records.{zero_node_record, zero_table_record}
 use Rattle.blockdisk.specs.Upstream.{nodes_stored, tables_stored, upstream_tables}
 use Rattle.blockdisk.specs.declared.NodeRecord.{NodeRecord}
 use Rattle.blockdisk.specs.declared.Records.{Records}
@@ -89,11 +90,13 @@ node_laws d =
     g : Good (device_of d)
     g = device_good d
 
-table_array_laws : {A : Type 0} (f : Table → A) (d : ℕ) → ((x y : Table) → table_form x ≡ true → table_form y ≡ true → (same_table x y ≡ true) ↔ (f x ≡ f y)) → Laws (table_array_of f d)
+table_array_laws : {A : Type 0} (f : Table → A) (d : ℕ) →
+    ((x y : Table) → table_form x ≡ true → table_form y ≡ true → (same_table x y ≡ true) ↔ (f x ≡ f y)) → Laws (table_array_of f d)
 table_array_laws f d same =
     record {
       below = λ a k e. ((table_area_iff (device_of d) (device_table d) a k).0 e).0;
-      single = λ a b k e h. ((table_area_iff (device_of d) (device_table d) a k).0 e).1 ∙ sym ((table_area_iff (device_of d) (device_table d) b k).0 h).1;
+      single = λ a b k e h. ((table_area_iff (device_of d) (device_table d) a k).0 e).1
+          ∙ sym ((table_area_iff (device_of d) (device_table d) b k).0 h).1;
       numbered = λ l p. let h = (table_place_iff (device_of d) l).0 p in (h.0, (table_place_in_of (device_of d) h.0 l p).0 h.2);
       overlapping = table_overlap_iff (device_of d);
       same_iff = λ x y a b. same x.table y.table a b;
@@ -105,7 +108,10 @@ table_laws d = table_array_laws (λ t. t) d same_table_iff
 pub upstream_laws : (d : ℕ) → Laws (upstream_array d)
 upstream_laws d =
     table_array_laws indirection_table d
-    (λ x y a b. ((λ e. (table_abstract x y a b).1 ((same_table_iff x y a b).0 e)), (λ e. (same_table_iff x y a b).1 ((table_abstract x y a b).0 e))))
+    (λ x y a b. (
+      (λ e. (table_abstract x y a b).1 ((same_table_iff x y a b).0 e)),
+      (λ e. (same_table_iff x y a b).1 ((table_abstract x y a b).0 e)),
+    ))
 
 -- WHAT IS STORED IS WHAT THE ARRAY READS
 
@@ -116,30 +122,37 @@ module _ (d : ℕ) (r : Records) (on : made d ≡ true) where
     where
       -- the record found in block k, or zeros
       found : Location → Option ℕ → NodeRecord
-      found l o = cond (is_some o && (node_record_at r (or_zero o)).present && same_loc (node_record_at r (or_zero o)).loc l) (node_record_at r (or_zero o)) zero_node_record
+      found l o =
+          cond (is_some o && (node_record_at r (or_zero o)).present && same_loc (node_record_at r (or_zero o)).loc l)
+          (node_record_at r (or_zero o)) zero_node_record
 
       go : (l : Location) (o : Option ℕ) → flagged (found l o).present (found l o).node ≡ read_in (node_array d) r.nodes l o
       go l none = refl
       go l (some k) =
-          split (node_record_at r k).present (λ p. split (same_loc (node_record_at r k).loc l) (λ q. rw (p, q, p)) (λ q. rw (p, q))) (λ p. rw p)
+          split (node_record_at r k).present (λ p. split (same_loc (node_record_at r k).loc l) (λ q. rw (p, q, p)) (λ q. rw (p, q)))
+          (λ p. rw p)
 
   pub tables_read : tables_stored d r ≡ reads (table_array d) r.tables
   unfolding tables_stored read_table reads
   tables_read = fun_ext (λ l. rw on (go l (table_area_of (device_of d) l.addr)))
     where
       found : Location → Option ℕ → TableRecord
-      found l o = cond (is_some o && (table_record_at r (or_zero o)).present && same_loc (table_record_at r (or_zero o)).loc l) (table_record_at r (or_zero o)) zero_table_record
+      found l o =
+          cond (is_some o && (table_record_at r (or_zero o)).present && same_loc (table_record_at r (or_zero o)).loc l)
+          (table_record_at r (or_zero o)) zero_table_record
 
       go : (l : Location) (o : Option ℕ) → flagged (found l o).present (found l o).table ≡ read_in (table_array d) r.tables l o
       go l none = refl
       go l (some k) =
-          split (table_record_at r k).present (λ p. split (same_loc (table_record_at r k).loc l) (λ q. rw (p, q, p)) (λ q. rw (p, q))) (λ p. rw p)
+          split (table_record_at r k).present (λ p. split (same_loc (table_record_at r k).loc l) (λ q. rw (p, q, p)) (λ q. rw (p, q)))
+          (λ p. rw p)
 
   pub upstream_read : upstream_tables d r ≡ reads (upstream_array d) r.tables
   unfolding upstream_tables reads
   upstream_read = fun_ext (λ l. rw tables_read (go l (table_area_of (device_of d) l.addr)))
     where
-      go : (l : Location) (o : Option ℕ) → map indirection_table (read_in (table_array d) r.tables l o) ≡ read_in (upstream_array d) r.tables l o
+      go : (l : Location) (o : Option ℕ) →
+          map indirection_table (read_in (table_array d) r.tables l o) ≡ read_in (upstream_array d) r.tables l o
       go l none = refl
       go l (some k) =
           split ((table_record_at r k).present && same_loc (table_record_at r k).loc l) (λ p. rw p) (λ p. rw p)

@@ -27,8 +27,9 @@ use Rattle.blockdisk.specs.Records.{area_of, block_of, node_record_at, read_node
 use Rattle.blockdisk.specs.Unwritten.{StoredUnchanged, Unwritten, is_write_req, has_no_writes}
 use Rattle.blockdisk.specs.declared.DiskCall.{DiskCall}
 use Rattle.blockdisk.specs.declared.DiskOp.{DiskOp}
-use Rattle.blockdisk.specs.declared.DiskOp.TheVariants.{NoDiskOp, ReqReadIndirectionTableOp, ReqReadNodeOp, ReqWriteIndirectionTableOp, ReqWriteNodeOp}
-use Rattle.blockdisk.specs.declared.DiskOp.TheVariants.{RespReadIndirectionTableOp, RespReadNodeOp, RespWriteIndirectionTableOp, RespWriteNodeOp}
+use Rattle.blockdisk.specs.declared.DiskOp.TheVariants.{NoDiskOp, ReqReadIndirectionTableOp, ReqReadNodeOp, ReqWriteIndirectionTableOp}
+use Rattle.blockdisk.specs.declared.DiskOp.TheVariants.{ReqWriteNodeOp, RespReadIndirectionTableOp, RespReadNodeOp}
+use Rattle.blockdisk.specs.declared.DiskOp.TheVariants.{RespWriteIndirectionTableOp, RespWriteNodeOp}
 use Rattle.blockdisk.specs.declared.DiskState.{DiskState}
 use Rattle.blockdisk.specs.declared.Records.{Records}
 use Rattle.queue.specs.Queue.{has_addr, has_of, request_at}
@@ -89,8 +90,10 @@ unwritten_then a b c x y =
 
 -- A RECORD of an array, of which no write is outstanding, stays in what a crash may leave
 
-record_stays : {R A : Type 0} (a : RecordArray R A) → ((x y : R) → a.there x ≡ a.there y → a.loc x ≡ a.loc y → a.thing x ≡ a.thing y → x ≡ y) →
-    (q : Requests) → q.count ≡ 0 → a.there a.blank ≡ false → Laws a → (old new : List R) → length old ≡ a.size → Formed a old → Formed a new →
+record_stays : {R A : Type 0} (a : RecordArray R A) →
+    ((x y : R) → a.there x ≡ a.there y → a.loc x ≡ a.loc y → a.thing x ≡ a.thing y → x ≡ y) →
+    (q : Requests) → q.count ≡ 0 → a.there a.blank ≡ false → Laws a → (old new : List R) → length old ≡ a.size → Formed a old →
+    Formed a new →
     ((k : ℕ) → k < a.size → kept_in a q (record_at a old k) (record_at a new k) ≡ true) →
     (k : ℕ) → a.there (record_at a old k) ≡ true → record_at a new k ≡ record_at a old k
 record_stays a ext q empty blank laws old new long f g kept k there =
@@ -114,7 +117,8 @@ module _ (d : ℕ) (s : DiskState) (none : has_no_writes s ≡ true) where
   both_empty : (s.queues.tablewrites.count ≡ 0) × (s.queues.nodewrites.count ≡ 0)
   both_empty = let h = (and_iff _ _).0 none in (eqb-true _ _ h.0, eqb-true _ _ h.1)
 
-  op_unwritten : (op : DiskOp) (n : Node) (t : Table) → is_write_req op ≡ false → Clear (op_rows d s op n t) → Unwritten s (next_disk d s op n t)
+  op_unwritten : (op : DiskOp) (n : Node) (t : Table) → is_write_req op ≡ false → Clear (op_rows d s op n t) →
+      Unwritten s (next_disk d s op n t)
   op_unwritten (ReqReadIndirectionTableOp id l) n t w h = record { stored = stored_same s.records; none_outstanding = none }
   op_unwritten (ReqReadNodeOp id l) n t w h = record { stored = stored_same s.records; none_outstanding = none }
   op_unwritten (ReqWriteIndirectionTableOp id l) n t w h = absurd (false≢true (sym w))

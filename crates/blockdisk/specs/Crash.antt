@@ -30,7 +30,9 @@ abbrev pub kept_node : Requests → NodeRecord → NodeRecord → Bool
 kept_node q a b = not a.present || has_addr q a.loc.addr || same_node_record a b
 
 unfoldable pub tables_kept : Requests → List TableRecord → List TableRecord → Bool
-tables_kept q old new = kept_table q (get_or old 0 default_table_record) (get_or new 0 default_table_record) && kept_table q (get_or old 1 default_table_record) (get_or new 1 default_table_record)
+tables_kept q old new =
+    kept_table q (get_or old 0 default_table_record) (get_or new 0 default_table_record) && kept_table q
+    (get_or old 1 default_table_record) (get_or new 1 default_table_record)
 
 unfoldable pub nodes_kept : Requests → List NodeRecord → List NodeRecord → Bool
 nodes_kept q old new = all_below (λ k. kept_node q (get_or old k default_node_record) (get_or new k default_node_record)) 128

@@ -37,8 +37,10 @@ node_record_checked d k r =
 unfoldable pub tables_checked : ℕ → List TableRecord → Checked
 tables_checked d l =
     record {
-      form = (table_record_checked d 0 (get_or l 0 default_table_record)).form && (table_record_checked d 1 (get_or l 1 default_table_record)).form;
-      placed = (table_record_checked d 0 (get_or l 0 default_table_record)).placed && (table_record_checked d 1 (get_or l 1 default_table_record)).placed;
+      form = (table_record_checked d 0 (get_or l 0 default_table_record)).form &&
+          (table_record_checked d 1 (get_or l 1 default_table_record)).form;
+      placed = (table_record_checked d 0 (get_or l 0 default_table_record)).placed &&
+          (table_record_checked d 1 (get_or l 1 default_table_record)).placed;
     }
 
 unfoldable pub nodes_checked : ℕ → List NodeRecord → Checked

@@ -8,8 +8,9 @@ use Rattle.blockdisk.specs.declared.Brought.TheVariants.{Nothing, Something}
 use Rattle.blockdisk.specs.declared.DiskState.{DiskState}
 use Rattle.blockdisk.specs.declared.DiskCall.{DiskCall}
 use Rattle.blockdisk.specs.declared.DiskOp.{DiskOp}
-use Rattle.blockdisk.specs.declared.DiskOp.TheVariants.{NoDiskOp, ReqReadIndirectionTableOp, ReqReadNodeOp, ReqWriteIndirectionTableOp, ReqWriteNodeOp}
-use Rattle.blockdisk.specs.declared.DiskOp.TheVariants.{RespReadIndirectionTableOp, RespReadNodeOp, RespWriteIndirectionTableOp, RespWriteNodeOp}
+use Rattle.blockdisk.specs.declared.DiskOp.TheVariants.{NoDiskOp, ReqReadIndirectionTableOp, ReqReadNodeOp, ReqWriteIndirectionTableOp}
+use Rattle.blockdisk.specs.declared.DiskOp.TheVariants.{ReqWriteNodeOp, RespReadIndirectionTableOp, RespReadNodeOp}
+use Rattle.blockdisk.specs.declared.DiskOp.TheVariants.{RespWriteIndirectionTableOp, RespWriteNodeOp}
 use Rattle.blockdisk.specs.declared.DiskOutcome.{DiskOutcome}
 use Rattle.blockdisk.specs.declared.Queues.{Queues}
 use Rattle.blockdisk.specs.declared.Records.{Records}
@@ -62,12 +63,14 @@ something_in Nothing = false
 unfoldable pub table_not_stored : ℕ → DiskState → ℕ → Brought → Table → Bool
 table_not_stored d s id b t =
     something_in b &&
-    not ((read_table d s.records (entry_of s.queues.tablereads id).loc).present && same_table (read_table d s.records (entry_of s.queues.tablereads id).loc).table t)
+    not ((read_table d s.records (entry_of s.queues.tablereads id).loc).present && same_table
+    (read_table d s.records (entry_of s.queues.tablereads id).loc).table t)
 
 unfoldable pub node_not_stored : ℕ → DiskState → ℕ → Brought → Node → Bool
 node_not_stored d s id b n =
     something_in b &&
-    not ((read_node d s.records (entry_of s.queues.nodereads id).loc).present && same_node (read_node d s.records (entry_of s.queues.nodereads id).loc).node n)
+    not ((read_node d s.records (entry_of s.queues.nodereads id).loc).present && same_node
+    (read_node d s.records (entry_of s.queues.nodereads id).loc).node n)
 
 -- THE ROWS OF EACH OPERATION
 
@@ -105,10 +108,12 @@ abbrev pub with_node_writes : Queues → Requests → Queues
 with_node_writes qs q = record { tablereads = qs.tablereads; nodereads = qs.nodereads; tablewrites = qs.tablewrites; nodewrites = q }
 
 abbrev pub next_disk : ℕ → DiskState → DiskOp → Node → Table → DiskState
-next_disk d s (ReqReadIndirectionTableOp id l) n t = with_queues s (with_table_reads s.queues (insert_of s.queues.tablereads (request_of id l)))
+next_disk d s (ReqReadIndirectionTableOp id l) n t =
+    with_queues s (with_table_reads s.queues (insert_of s.queues.tablereads (request_of id l)))
 next_disk d s (ReqReadNodeOp id l) n t = with_queues s (with_node_reads s.queues (insert_of s.queues.nodereads (request_of id l)))
 next_disk d s (ReqWriteIndirectionTableOp id l) n t =
-    with_records (with_queues s (with_table_writes s.queues (insert_of s.queues.tablewrites (request_of id l)))) (with_table d s.records l t)
+    with_records (with_queues s (with_table_writes s.queues (insert_of s.queues.tablewrites (request_of id l))))
+    (with_table d s.records l t)
 next_disk d s (ReqWriteNodeOp id l) n t =
     with_records (with_queues s (with_node_writes s.queues (insert_of s.queues.nodewrites (request_of id l)))) (with_node d s.records l n)
 next_disk d s (RespReadIndirectionTableOp id b) n t = with_queues s (with_table_reads s.queues (remove_of s.queues.tablereads id))

@@ -93,13 +93,15 @@ survives d s o e =
 
 module _ (d : ℕ) (n : ℕ) (q : Call) (o : Records) (c : CacheState) (s : DiskState) where
   -- accepted exactly where cache, disk and the row of a start accept
-  pub joined_zero : (joined_answer d n q o c s ≡ 0) ↔ ((answer (cache_rows (settings_of d s) c n q) ≡ 0) × ((disk_asked d n q o s).answer ≡ 0) × (answer (start_rows d n q s) ≡ 0))
+  pub joined_zero : (joined_answer d n q o c s ≡ 0) ↔
+      ((answer (cache_rows (settings_of d s) c n q) ≡ 0) × ((disk_asked d n q o s).answer ≡ 0) × (answer (start_rows d n q s) ≡ 0))
   unfolding joined_answer
   joined_zero =
       let a = (cache_step (settings_of d s) c n q).answer in
       let b = (disk_asked d n q o s).answer in
       let z = answer (start_rows d n q s) in (
-        (λ e. let h = (lowest_zero (lowest a b) z).0 e in let g = (lowest_zero a b).0 h.0 in (sym (step_answer (settings_of d s) c n q) ∙ g.0, g.1, h.1)),
+        (λ e. let h = (lowest_zero (lowest a b) z).0 e in let g = (lowest_zero a b).0 h.0 in
+            (sym (step_answer (settings_of d s) c n q) ∙ g.0, g.1, h.1)),
         (λ h. (lowest_zero (lowest a b) z).1 ((lowest_zero a b).1 (step_answer (settings_of d s) c n q ∙ h.0, h.1), h.2)),
       )
 

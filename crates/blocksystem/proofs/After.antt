@@ -81,7 +81,8 @@ module _ (d : ℕ) (P : State → JoinedCall → Type 0) where
   at_cut [] back k s h = h.0
   at_cut (j ∷ js) back k s h = at_cut js back k (moved d s j) h.1
 
-  from_cuts : (calls : List JoinedCall) (s : State) → ((front back : List JoinedCall) (k : JoinedCall) → calls ≡ front ++ (k ∷ back) → P (after d s front) k) → Every d P s calls
+  from_cuts : (calls : List JoinedCall) (s : State) →
+      ((front back : List JoinedCall) (k : JoinedCall) → calls ≡ front ++ (k ∷ back) → P (after d s front) k) → Every d P s calls
   unfolding after
   from_cuts [] s h = tt
   from_cuts (k ∷ ks) s h = (h [] ks k refl, from_cuts ks (moved d s k) (λ front back j e. h (k ∷ front) back j (ap (λ l. k ∷ l) e)))
@@ -106,7 +107,8 @@ step_named_iff d s n q o = if_then_iff (accepts_step d s n q o) (is_start n) (is
 -- of a list: wherever it is cut, a start right after the first part, if it is accepted, is given a place then named
 abbrev pub EveryStartNamed : ℕ → State → List JoinedCall → Type 0
 EveryStartNamed d s calls =
-    (front back : List JoinedCall) (n : ℕ) (q : Call) (o : Records) → calls ≡ front ++ (step n q o ∷ back) → (asked d (after d s front) n q o).answer ≡ 0 → is_start n ≡ true →
+    (front back : List JoinedCall) (n : ℕ) (q : Call) (o : Records) → calls ≡ front ++ (step n q o ∷ back) →
+    (asked d (after d s front) n q o).answer ≡ 0 → is_start n ≡ true →
     is_named (after d s front).pictures (vop_loc q.vop) ≡ true
 
 abbrev CallNamed : ℕ → State → JoinedCall → Type 0
@@ -120,7 +122,8 @@ each_named d (k ∷ ks) s =
     let rest = each_named d ks (moved d s k) in ((λ h. ((both.0 h).0, rest.0 (both.0 h).1)), (λ h. both.1 (h.0, rest.1 h.1)))
 
 -- of the two parts of a list, of the second in the state after the first
-pub starts_cut : (d : ℕ) (front back : List JoinedCall) (s : State) → starts_named d s (front ++ back) ≡ true → (starts_named d s front ≡ true) × (starts_named d (after d s front) back ≡ true)
+pub starts_cut : (d : ℕ) (front back : List JoinedCall) (s : State) → starts_named d s (front ++ back) ≡ true →
+    (starts_named d s front ≡ true) × (starts_named d (after d s front) back ≡ true)
 unfolding starts_named after
 starts_cut d [] back s h = (refl, h)
 starts_cut d (k ∷ ks) back s h =
@@ -129,7 +132,8 @@ starts_cut d (k ∷ ks) back s h =
     ((and_iff (start_named d s k) (starts_named d (moved d s k) ks)).1 (both.0, rest.0), rest.1)
 
 at_named : (d : ℕ) (s : State) (k : JoinedCall) →
-    ((n : ℕ) (q : Call) (o : Records) → k ≡ step n q o → (asked d s n q o).answer ≡ 0 → is_start n ≡ true → is_named s.pictures (vop_loc q.vop) ≡ true) → CallNamed d s k
+    ((n : ℕ) (q : Call) (o : Records) → k ≡ step n q o → (asked d s n q o).answer ≡ 0 → is_start n ≡ true →
+    is_named s.pictures (vop_loc q.vop) ≡ true) → CallNamed d s k
 at_named d s (step n q o) h = (step_named_iff d s n q o).1 (λ t. h n q o refl (eqb-true _ _ t))
 at_named d s choose h = refl
 at_named d s (operations q l) h = refl
@@ -139,5 +143,6 @@ starts_named_iff d s calls =
     let each = each_named d calls s in
     let cuts = every_iff d (CallNamed d) calls s in (
       (λ h front back n q o e a. (step_named_iff d (after d s front) n q o).0 (cuts.0 (each.0 h) front back (step n q o) e) (eq-eqb _ _ a)),
-      (λ h. each.1 (cuts.1 (λ front back k e. at_named d (after d s front) k (λ n q o i. h front back n q o (e ∙ ap (λ j. front ++ (j ∷ back)) i))))),
+      (λ h. each.1 (cuts.1 (λ front back k e. at_named d (after d s front) k
+          (λ n q o i. h front back n q o (e ∙ ap (λ j. front ++ (j ∷ back)) i))))),
     )

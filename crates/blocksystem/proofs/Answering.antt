@@ -75,7 +75,8 @@ lowest_of a b P Q x y =
 
 -- a list of rows whose numbers ascend
 pub rows_lowest : (rs : List Row) → ascending rs ≡ true → Lowest (answer rs) (λ k. holds k rs)
-rows_lowest rs up = record { none = λ z k. clear_holds rs ((accepted_iff rs up).0 z) k; own = answer_holds rs; least = answer_lowest 0 rs up }
+rows_lowest rs up =
+    record { none = λ z k. clear_holds rs ((accepted_iff rs up).0 z) k; own = answer_holds rs; least = answer_lowest 0 rs up }
 
 pub cache_lowest : (g : Settings) (c : CacheState) (n : ℕ) (q : Call) →
     Lowest (answer (cache_rows g c n q)) (λ k. holds k (cache_rows g c n q))
@@ -89,7 +90,8 @@ module _ (d : ℕ) (s : State) (n : ℕ) (q : Call) (o : Records) where
   disk_lowest =
       split (is_crash n)
       (λ t. rw (crash_answer d n q o s.disk t, t) (rows_lowest (crash_rows d s.disk o) (crash_ascending d s.disk o)))
-      (λ t. rw (disk_answer d n q o s.disk t, t) (rows_lowest (disk_rows d s.disk (disk_call n q)) (disk_ascending d s.disk (disk_call n q))))
+      (λ t. rw (disk_answer d n q o s.disk t, t)
+      (rows_lowest (disk_rows d s.disk (disk_call n q)) (disk_ascending d s.disk (disk_call n q))))
 
   pub joined_lowest : Lowest a (conditions d s n q o)
   unfolding joined_answer conditions
@@ -99,7 +101,8 @@ module _ (d : ℕ) (s : State) (n : ℕ) (q : Call) (o : Records) where
       let disk = (disk_asked d n q o s.disk).answer in
       rw (step_answer (settings_of d s.disk) s.cache n q)
       (lowest_of (lowest (answer c) disk) (answer start) (λ k. holds k c || holds k (disk_side d s n q o)) (λ k. holds k start)
-      (lowest_of (answer c) disk (λ k. holds k c) (λ k. holds k (disk_side d s n q o)) (cache_lowest (settings_of d s.disk) s.cache n q) disk_lowest)
+      (lowest_of (answer c) disk (λ k. holds k c) (λ k. holds k (disk_side d s n q o))
+      (cache_lowest (settings_of d s.disk) s.cache n q) disk_lowest)
       (rows_lowest start refl))
 
   step_answered : StepAnswered d s n q o

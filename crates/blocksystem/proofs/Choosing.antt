@@ -45,10 +45,12 @@ module _ (d : ℕ) (c : CacheState) (s : DiskState) where
 
   -- the cache's form and upstream's variables are kept, accepted or refused
   pub choice_keeps_form : cache_form d c ≡ true → cache_form d (joined_choice d c s).cache ≡ true
-  choice_keeps_form h = split (disk_form d s) (λ f. rw (choice_formed f) (choice_form (settings_of d s) c h)) (λ f. rw (choice_misformed f) h)
+  choice_keeps_form h =
+      split (disk_form d s) (λ f. rw (choice_formed f) (choice_form (settings_of d s) c h)) (λ f. rw (choice_misformed f) h)
 
   pub choice_keeps_vars : cache_vars (joined_choice d c s).cache ≡ cache_vars c
-  choice_keeps_vars = split (disk_form d s) (λ f. rw (choice_formed f) (choice_vars (settings_of d s) c)) (λ f. rw (choice_misformed f) refl)
+  choice_keeps_vars =
+      split (disk_form d s) (λ f. rw (choice_formed f) (choice_vars (settings_of d s) c)) (λ f. rw (choice_misformed f) refl)
 
   -- refused: the cache as it was
   pub choice_refused : eqb (joined_choice d c s).answer 0 ≡ false → (joined_choice d c s).cache ≡ c

@@ -34,7 +34,8 @@ use Rattle.blocksystem.specs.declared.Named.{Named}
 
 -- what is read by an entry of a table is what upstream's disk has at the reference's location
 pub entry_read_iff : (d : ℕ) (r : Records) (t : Table) (k : ℕ) (n : Node) →
-    (((at_entry d r (entry_at t k)).present ≡ true) × ((at_entry d r (entry_at t k)).node ≡ n)) ↔ (at (nodes_stored d r) (locs_of t k) ≡ some n)
+    (((at_entry d r (entry_at t k)).present ≡ true) × ((at_entry d r (entry_at t k)).node ≡ n)) ↔
+    (at (nodes_stored d r) (locs_of t k) ≡ some n)
 entry_read_iff d r t k n =
     split (entry_at t k).located
     (λ e. let h = node_read_iff d r (entry_at t k).loc n in rw (e, locs_at t k e) ((λ x. h.1 x), (λ x. h.0 x)))
@@ -62,7 +63,14 @@ module _ (d : ℕ) (r : Records) (l : Location) (k : ℕ) (n : Node) where
     (λ h. split table_read.present
         (λ t. let e = (entry_read_iff d r table_read.table k n).0 (rw t at h) in
         let m = at_some (nodes_stored d r) (locs_of table_read.table k) e in
-        record { table = table_read.table; at_place = (table_read_iff d r l table_read.table).1 (t, refl); loc = m.0; located = m.1; at_loc = rw m.1 at e })
+        record {
+          table = table_read.table;
+          at_place = (table_read_iff d r l table_read.table).1
+              (t, refl);
+          loc = m.0;
+          located = m.1;
+          at_loc = rw m.1 at e;
+        })
         (λ t. absurd (false≢true (rw t at h.0)))),
     (λ s.
         let a = (table_read_iff d r l s.table).0 s.at_place in
@@ -80,7 +88,8 @@ three_ways true false same = ((λ h. clash refl h.1), (λ h. clash h refl))
 three_ways true true false = ((λ h. clash refl h.2), (λ h. clash h refl))
 three_ways true true true = ((λ h. refl), (λ h. (refl, refl, refl)))
 
-pub agrees_iff : (x : NodeRecord) (s : Slot) → ((is_lost x s ≡ false) × (is_added x s ≡ false) × (is_altered x s ≡ false)) ↔ (agrees x s ≡ true)
+pub agrees_iff : (x : NodeRecord) (s : Slot) →
+    ((is_lost x s ≡ false) × (is_added x s ≡ false) × (is_altered x s ≡ false)) ↔ (agrees x s ≡ true)
 agrees_iff x s = three_ways x.present s.present (same_node x.node s.node)
 
 module _ (d : ℕ) (r : Records) (m : Named) where
@@ -102,7 +111,8 @@ module _ (d : ℕ) (r : Records) (m : Named) where
         λ i. record { lost = a i; added = b i; altered = c i }),
   )
     where
-      at : (k : ℕ) → ((is_lost (read k) (shown k) ≡ false) × (is_added (read k) (shown k) ≡ false) × (is_altered (read k) (shown k) ≡ false)) ↔ (agrees (read k) (shown k) ≡ true)
+      at : (k : ℕ) → ((is_lost (read k) (shown k) ≡ false) × (is_added (read k) (shown k) ≡ false)
+          × (is_altered (read k) (shown k) ≡ false)) ↔ (agrees (read k) (shown k) ≡ true)
       at k = agrees_iff (read k) (shown k)
 
       lost : (count_below (λ k. is_lost (read k) (shown k)) 64 ≡ 0) ↔ ((k : ℕ) → k < 64 → is_lost (read k) (shown k) ≡ false)
@@ -117,11 +127,16 @@ module _ (d : ℕ) (r : Records) (m : Named) where
   -- each counts references, of which there are 64
   pub counts_at_most : ((counted d r m).lost ≤ 64) × ((counted d r m).added ≤ 64) × ((counted d r m).altered ≤ 64)
   unfolding counted
-  counts_at_most = (count_le (λ k. is_lost (read k) (shown k)) 64, count_le (λ k. is_added (read k) (shown k)) 64, count_le (λ k. is_altered (read k) (shown k)) 64)
+  counts_at_most = (
+    count_le (λ k. is_lost (read k) (shown k)) 64,
+    count_le (λ k. is_added (read k) (shown k)) 64,
+    count_le (λ k. is_altered (read k) (shown k)) 64,
+  )
 
 -- A KEPT PLACE
 
-module _ (d : ℕ) (s : DiskState) (m : Named) (h : KeptOn d (disk_vars d s) m.place (nodes_map m.picture)) (form : nodes_form m.picture ≡ true) where
+module _ (d : ℕ) (s : DiskState) (m : Named) (h : KeptOn d (disk_vars d s) m.place (nodes_map m.picture))
+    (form : nodes_form m.picture ≡ true) where
   abbrev stored : Table
   stored = (upstream_some d s.records m.place h.stored).0
 
@@ -136,7 +151,8 @@ module _ (d : ℕ) (s : DiskState) (m : Named) (h : KeptOn d (disk_vars d s) m.p
   there k e =
       let l = locs_at stored k e in
       let z = h.located k (entry_at stored k).loc (rw locs_are at l) in
-      let x = (read_iff d s.records m.place k z.node).1 (record { table = stored; at_place = at_place; loc = (entry_at stored k).loc; located = l; at_loc = z.stored }) in
+      let x = (read_iff d s.records m.place k z.node).1
+      (record { table = stored; at_place = at_place; loc = (entry_at stored k).loc; located = l; at_loc = z.stored }) in
       let p = nodes_some m.picture k z.pictured in
       let f = nodes_form_at m.picture form k z.node z.pictured in
       rw (x.0, x.1, p.0, p.1) ((same_node_iff z.node z.node f f).1 refl)

@@ -66,7 +66,8 @@ module _ (d : ℕ) (s s' : MVariables) (q : Call) where
 
 -- THE ROW OF A START
 
-start_iff : (d n : ℕ) (q : Call) (s : DiskState) → (answer (start_rows d n q s) ≡ 0) ↔ (is_start n ≡ true → whole_graph d s.records (vop_loc q.vop) ≡ true)
+start_iff : (d n : ℕ) (q : Call) (s : DiskState) →
+    (answer (start_rows d n q s) ≡ 0) ↔ (is_start n ≡ true → whole_graph d s.records (vop_loc q.vop) ≡ true)
 start_iff d n q s = (
   (λ e. let h = simp (and_false_iff, not_iff) at ((accepted_iff (start_rows d n q s) refl).0 e) in h.0),
   (λ h. (accepted_iff (start_rows d n q s) refl).1 (simp (and_false_iff, not_iff) (h, tt))),
@@ -104,7 +105,8 @@ module _ (d n : ℕ) (q : Call) (o : Records) (c : CacheState) (s : DiskState) w
         let m = x.2 in
         let a = (disk_accepted d s (disk_call n q)).1 (h.disk ne, (s'.disk, m.disk)) in
         (joined_zero d n q o c s).1 (
-          (cache_accepted (settings_of d s) c n q old).1 (h.cache, (x.0, x.1, (s'.machine, (next_joined d (cache_vars c) s'.machine q n x.0 x.1).1 m.machine))),
+          (cache_accepted (settings_of d s) c n q old).1
+              (h.cache, (x.0, x.1, (s'.machine, (next_joined d (cache_vars c) s'.machine q n x.0 x.1).1 m.machine))),
           disk_answer d n q o s ne ∙ a,
           (start_iff d n q s).1
               (λ t. let u = sends d (cache_vars c) s'.machine q n x.0 x.1 t m.machine in
@@ -115,16 +117,26 @@ module _ (d n : ℕ) (q : Call) (o : Records) (c : CacheState) (s : DiskState) w
 -- A CRASH
 
 module _ (d : ℕ) (q : Call) (o : Records) (c : CacheState) (s : DiskState) where
-  crash_op : (s' : MVariables) → ((step : Step) × (step_of 18 ≡ some step) × NextStep d (cache_vars c) s' (call_op q) q.vop q.reference q.node step) → q.vop ≡ CrashOp
+  crash_op : (s' : MVariables) →
+      ((step : Step) × (step_of 18 ≡ some step) × NextStep d (cache_vars c) s' (call_op q) q.vop q.reference q.node step) → q.vop ≡ CrashOp
   crash_op s' (step, e, x) = let z : step ≡ crash_step = number_decides 18 step crash_step e refl in (rw z at x).0
 
-  crash_to : joined_answer d 18 q o c s ≡ 0 → (answer (crash_rows d s o) ≡ 0) × Crash (system_vars d c s) (record { machine = unready; disk = disk_vars d (crashed s o) }) q.vop
+  crash_to : joined_answer d 18 q o c s ≡ 0 → (answer (crash_rows d s o) ≡ 0)
+      × Crash (system_vars d c s) (record { machine = unready; disk = disk_vars d (crashed s o) }) q.vop
   crash_to e =
       let z = (joined_zero d 18 q o c s).0 e in
-      let a : answer (crash_rows d s o) ≡ 0 = sym (crash_answer d 18 q o s refl) ∙ z.1 in
-      (a, record { op = crash_op (cache_vars (cache_next d c 18 q)) (cache_allowed (settings_of d s) c 18 q refl z.0); machine = refl; disk = ((crash_accepted d s o).0 a).1 })
+      let a : answer (crash_rows d s o) ≡ 0 = sym (crash_answer d 18 q o s refl) ∙ z.1 in (
+        a,
+        record {
+          op = crash_op (cache_vars (cache_next d c 18 q))
+              (cache_allowed (settings_of d s) c 18 q refl z.0);
+          machine = refl;
+          disk = ((crash_accepted d s o).0 a).1;
+        },
+      )
 
-  crash_from : NoNarrowing d 18 q o c s → (m : MVariables) → Crash (system_vars d c s) (record { machine = m; disk = disk_vars d (crashed s o) }) q.vop → joined_answer d 18 q o c s ≡ 0
+  crash_from : NoNarrowing d 18 q o c s → (m : MVariables) →
+      Crash (system_vars d c s) (record { machine = m; disk = disk_vars d (crashed s o) }) q.vop → joined_answer d 18 q o c s ≡ 0
   unfolding step_of steps
   crash_from h m x =
       (joined_zero d 18 q o c s).1 (
@@ -167,12 +179,15 @@ module _ (d n : ℕ) (q : Call) (o : Records) (c : CacheState) (s : DiskState) (
       let cs = joined_cache d n q o c s e in
       record {
         machine = λ ne.
-            let y : (joined d n q o c s).disk ≡ next_disk d s (disk_call n q).op q.node q.table = joined_disk d n q o c s e ∙ disk_next d n q o s ne (sym (disk_answer d n q o s ne) ∙ z.1) in
+            let y : (joined d n q o c s).disk ≡ next_disk d s (disk_call n q).op q.node q.table = joined_disk d n q o c s e
+            ∙ disk_next d n q o s ne (sym (disk_answer d n q o s ne) ∙ z.1) in
             rw (cs, y) (machine_to d n q o c s ne old e);
         crash = λ t.
-            let y : (joined d n q o c s).disk ≡ crashed s o = joined_disk d n q o c s e ∙ crash_next d n q o s t (sym (crash_answer d n q o s t) ∙ z.1) in
+            let y : (joined d n q o c s).disk ≡ crashed s o = joined_disk d n q o c s e
+            ∙ crash_next d n q o s t (sym (crash_answer d n q o s t) ∙ z.1) in
             let h : n ≡ 18 = eqb-true n 18 t in
-            let k : cache_vars (joined d n q o c s).cache ≡ unready = ap cache_vars (cs ∙ ap (λ m. cache_next d c m q) h) ∙ cache_crash d c q in
+            let k : cache_vars (joined d n q o c s).cache ≡ unready = ap cache_vars (cs ∙ ap (λ m. cache_next d c m q) h)
+            ∙ cache_crash d c q in
             rw (k, y) (crash_to d q o c s (rw h at e)).1;
       }
 

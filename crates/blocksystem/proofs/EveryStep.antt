@@ -16,28 +16,32 @@ use Rattle.blockcache.specs.LetGo.{AwaitsRead, StoreStep}
 use Rattle.blockcache.specs.Next.{cached_slot}
 use Rattle.blockcache.specs.NextStep.{IdleVop, NextStep}
 use Rattle.blockcache.specs.Ops.{vop_kind, vop_loc}
-use Rattle.blockcache.specs.Steps.{alloc_step, clean_up_step, crash_step, dirty_step, evict_step, freeze_step, is_crash, is_start, let_go_step, no_op_step, number_of, page_in_indirection_table_req_step}
-use Rattle.blockcache.specs.Steps.{page_in_indirection_table_resp_step, page_in_node_req_step, page_in_node_resp_step, read_step, receive_loc_step, Step}
-use Rattle.blockcache.specs.Steps.{step_of, steps, transaction_step, unalloc_step}
-use Rattle.blockcache.specs.Steps.{write_back_indirection_table_req_step, write_back_indirection_table_resp_step, write_back_node_req_step, write_back_node_resp_step}
+use Rattle.blockcache.specs.Steps.{alloc_step, clean_up_step, crash_step, dirty_step, evict_step, freeze_step, is_crash, is_start}
+use Rattle.blockcache.specs.Steps.{let_go_step, no_op_step, number_of, page_in_indirection_table_req_step}
+use Rattle.blockcache.specs.Steps.{page_in_indirection_table_resp_step, page_in_node_req_step, page_in_node_resp_step, read_step}
+use Rattle.blockcache.specs.Steps.{receive_loc_step, Step, step_of, steps, transaction_step, unalloc_step}
+use Rattle.blockcache.specs.Steps.{write_back_indirection_table_req_step, write_back_indirection_table_resp_step, write_back_node_req_step}
+use Rattle.blockcache.specs.Steps.{write_back_node_resp_step}
 use Rattle.blockcache.specs.Upstream.{Variables}
 use Rattle.blockcache.specs.UpstreamInv.{Inv}
 use Rattle.blockcache.specs.declared.Call.{Call}
 use Rattle.blockcache.specs.declared.VersionOp.{VersionOp}
-use Rattle.blockcache.specs.declared.VersionOp.TheVariants.{AdvanceOp, CleanUpOp, CrashOp, FreezeOp, JournalInternalOp, PopSyncOp, PushSyncOp, SendFrozenLocOp, SendPersistentLocOp}
-use Rattle.blockcache.specs.declared.VersionOp.TheVariants.{StatesInternalOp}
+use Rattle.blockcache.specs.declared.VersionOp.TheVariants.{AdvanceOp, CleanUpOp, CrashOp, FreezeOp, JournalInternalOp, PopSyncOp}
+use Rattle.blockcache.specs.declared.VersionOp.TheVariants.{PushSyncOp, SendFrozenLocOp, SendPersistentLocOp, StatesInternalOp}
 use Rattle.blockdisk.proofs.Moves.{next_vars}
 use Rattle.blockdisk.specs.Upstream.{Dop, dop_of, Next, Variables as DVariables}
 use Rattle.blocksystem.proofs.Invariant.{PictureMaps, picture_maps, PicturesForm, Whole}
 use Rattle.blocksystem.proofs.KeepQueues.{Started}
-use Rattle.blocksystem.proofs.KeepSteps.{alloc_kept, clean_up_kept, dirty_kept, evict_kept, freeze_kept, let_go_kept, no_op_kept, page_in_node_req_kept, page_in_node_resp_kept}
-use Rattle.blocksystem.proofs.KeepSteps.{page_in_table_req_kept, page_in_table_resp_kept, read_kept, receive_loc_kept, unalloc_kept, write_back_node_req_kept}
+use Rattle.blocksystem.proofs.KeepSteps.{alloc_kept, clean_up_kept, dirty_kept, evict_kept, freeze_kept, let_go_kept, no_op_kept}
+use Rattle.blocksystem.proofs.KeepSteps.{page_in_node_req_kept, page_in_node_resp_kept, page_in_table_req_kept, page_in_table_resp_kept}
+use Rattle.blocksystem.proofs.KeepSteps.{read_kept, receive_loc_kept, unalloc_kept, write_back_node_req_kept}
 use Rattle.blocksystem.proofs.Naming.{is_named_iff, names_iff}
 use Rattle.blocksystem.proofs.KeepSteps.{transaction_kept, write_back_node_resp_kept, write_back_table_req_kept}
 use Rattle.blocksystem.proofs.KeepSteps.{write_back_table_resp_kept}
 use Rattle.blocksystem.specs.Allowed.{joined_op, joined_vop}
 use Rattle.blocksystem.specs.Joined.{disk_call}
-use Rattle.blocksystem.specs.Names.{is_named, names, node_pictured, picture_of, pictures_after, pictures_of, started_at, step_pictures, with_working}
+use Rattle.blocksystem.specs.Names.{is_named, names, node_pictured, picture_of, pictures_after, pictures_of, started_at, step_pictures}
+use Rattle.blocksystem.specs.Names.{with_working}
 use Rattle.blocksystem.specs.declared.Pictures.{Pictures}
 use Rattle.disklayout.specs.declared.Location.{Location}
 use Rattle.sectortype.proofs.Forms.{empty_nodes_form, with_slot_form, zero_slot_form}
@@ -92,13 +96,18 @@ module _ (d : ℕ) (q : Call) (s s' : Variables) (v v' : DVariables) (t : Pictur
   set_node = nodes_put t.working q.reference (cached_slot q.node) f.working bound refl
 
   pub step_kept : (step : Step) → is_crash (number_of step) ≡ false → Moves step → KeptAfter d s' v' (step_pictures q t step)
-  step_kept write_back_node_req_step e m = same (write_back_node_req_kept d s s' v v' (call_op q) q.vop q.reference q.node maps w i m.disk m.move m.cache)
-  step_kept write_back_node_resp_step e m = same (write_back_node_resp_kept d s s' v v' (call_op q) q.vop q.reference q.node maps w i m.disk m.move m.cache)
-  step_kept write_back_indirection_table_req_step e m = same (write_back_table_req_kept d s s' v v' (call_op q) q.vop q.reference q.node maps w i m.disk m.move m.cache)
+  step_kept write_back_node_req_step e m =
+      same (write_back_node_req_kept d s s' v v' (call_op q) q.vop q.reference q.node maps w i m.disk m.move m.cache)
+  step_kept write_back_node_resp_step e m =
+      same (write_back_node_resp_kept d s s' v v' (call_op q) q.vop q.reference q.node maps w i m.disk m.move m.cache)
+  step_kept write_back_indirection_table_req_step e m =
+      same (write_back_table_req_kept d s s' v v' (call_op q) q.vop q.reference q.node maps w i m.disk m.move m.cache)
   step_kept write_back_indirection_table_resp_step e m =
       record {
         named = named;
-        whole = rw (ap vop_loc m.cache.1) (write_back_table_resp_kept d s s' v v' (call_op q) q.vop q.reference q.node maps w i m.disk m.move m.cache.0 m.cache.1 m.cache);
+        whole = rw (ap vop_loc m.cache.1)
+            (write_back_table_resp_kept d s s' v v'
+            (call_op q) q.vop q.reference q.node maps w i m.disk m.move m.cache.0 m.cache.1 m.cache);
       }
   step_kept unalloc_step e m =
       record {
@@ -106,10 +115,14 @@ module _ (d : ℕ) (q : Call) (s s' : Variables) (v v' : DVariables) (t : Pictur
         whole = rw (nodes_del t.working q.reference zero_slot f.working bound refl)
             (unalloc_kept d s s' v v' (call_op q) q.vop q.reference q.node maps w i m.disk m.move m.cache);
       }
-  step_kept page_in_node_req_step e m = same (page_in_node_req_kept d s s' v v' (call_op q) q.vop q.reference q.node maps w i m.disk m.move m.cache)
-  step_kept page_in_node_resp_step e m = same (page_in_node_resp_kept d s s' v v' (call_op q) q.vop q.reference q.node maps w i m.disk m.move m.cache)
-  step_kept page_in_indirection_table_req_step e m = same (page_in_table_req_kept d s s' v v' (call_op q) q.vop q.reference q.node maps w i m.disk m.move m.cache)
-  step_kept page_in_indirection_table_resp_step e m = same (page_in_table_resp_kept d s s' v v' (call_op q) q.vop q.reference q.node maps w i m.disk m.move m.cache)
+  step_kept page_in_node_req_step e m =
+      same (page_in_node_req_kept d s s' v v' (call_op q) q.vop q.reference q.node maps w i m.disk m.move m.cache)
+  step_kept page_in_node_resp_step e m =
+      same (page_in_node_resp_kept d s s' v v' (call_op q) q.vop q.reference q.node maps w i m.disk m.move m.cache)
+  step_kept page_in_indirection_table_req_step e m =
+      same (page_in_table_req_kept d s s' v v' (call_op q) q.vop q.reference q.node maps w i m.disk m.move m.cache)
+  step_kept page_in_indirection_table_resp_step e m =
+      same (page_in_table_resp_kept d s s' v v' (call_op q) q.vop q.reference q.node maps w i m.disk m.move m.cache)
   step_kept receive_loc_step e m =
       let to = started_at t (vop_loc q.vop) in
       let l = m.cache.1.0 in
@@ -133,7 +146,8 @@ module _ (d : ℕ) (q : Call) (s s' : Variables) (v v' : DVariables) (t : Pictur
         named = h.0;
         whole = rw h.1 k.2;
       }
-  step_kept no_op_step e m = same (no_op_kept d s s' v v' (call_op q) q.vop q.reference q.node maps w i m.disk m.move (m.unawaited refl) m.cache)
+  step_kept no_op_step e m =
+      same (no_op_kept d s s' v v' (call_op q) q.vop q.reference q.node maps w i m.disk m.move (m.unawaited refl) m.cache)
   step_kept dirty_step e m =
       record {
         named = named;
@@ -154,7 +168,9 @@ module _ (d : ℕ) (q : Call) (s s' : Variables) (v v' : DVariables) (t : Pictur
 
 module _ (t : Pictures) (f : PicturesForm t) where
   picture_form : (l : Location) → nodes_form (picture_of t l) ≡ true
-  picture_form l = split (names t.first l) (λ a. rw a f.first) (λ a. split (names t.second l) (λ b. rw (a, b) f.second) (λ b. rw (a, b) empty_nodes_form))
+  picture_form l =
+      split (names t.first l) (λ a. rw a f.first)
+      (λ a. split (names t.second l) (λ b. rw (a, b) f.second) (λ b. rw (a, b) empty_nodes_form))
 
   with_working_form : (m : Nodes) → nodes_form m ≡ true → PicturesForm (with_working t m)
   with_working_form m h = record { first = f.first; second = f.second; working = h; frozen = f.frozen }
@@ -171,13 +187,20 @@ module _ (t : Pictures) (f : PicturesForm t) where
     step_form write_back_indirection_table_req_step = f
     step_form write_back_indirection_table_resp_step = record { first = f.first; second = f.frozen; working = f.working; frozen = f.frozen }
     step_form unalloc_step =
-        with_working_form (with_slot t.working q.reference zero_slot) (with_slot_form t.working q.reference zero_slot f.working bound zero_slot_form)
+        with_working_form (with_slot t.working q.reference zero_slot)
+        (with_slot_form t.working q.reference zero_slot f.working bound zero_slot_form)
     step_form page_in_node_req_step = f
     step_form page_in_node_resp_step = f
     step_form page_in_indirection_table_req_step = f
     step_form page_in_indirection_table_resp_step = f
     step_form receive_loc_step =
-        record { first = picture_form (vop_loc q.vop); second = empty_nodes_form; working = picture_form (vop_loc q.vop); frozen = f.frozen }
+        record {
+          first = picture_form (vop_loc q.vop);
+          second = empty_nodes_form;
+          working = picture_form
+              (vop_loc q.vop);
+          frozen = f.frozen;
+        }
     step_form evict_step = f
     step_form freeze_step = record { first = f.first; second = empty_nodes_form; working = f.working; frozen = f.working }
     step_form clean_up_step = record { first = f.second; second = empty_nodes_form; working = f.working; frozen = f.frozen }
@@ -199,7 +222,8 @@ module _ (t : Pictures) (f : PicturesForm t) where
 
 -- THE NUMBERS OF THE STEPS THAT CHANGE NAMES OR PICTURES: every other number leaves them as they are
 
-module _ (n : ℕ) (q : Call) (t : Pictures) (not4 : n ≡ 4 → ⊥) (not5 : n ≡ 5 → ⊥) (not10 : n ≡ 10 → ⊥) (not12 : n ≡ 12 → ⊥) (not13 : n ≡ 13 → ⊥) (not15 : n ≡ 15 → ⊥) (not16 : n ≡ 16 → ⊥) where
+module _ (n : ℕ) (q : Call) (t : Pictures) (not4 : n ≡ 4 → ⊥) (not5 : n ≡ 5 → ⊥) (not10 : n ≡ 10 → ⊥) (not12 : n ≡ 12 → ⊥)
+    (not13 : n ≡ 13 → ⊥) (not15 : n ≡ 15 → ⊥) (not16 : n ≡ 16 → ⊥) where
   of_step : (step : Step) → n ≡ number_of step → step_pictures q t step ≡ t
   of_step write_back_node_req_step e = refl
   of_step write_back_node_resp_step e = refl
@@ -261,18 +285,21 @@ module _ (d : ℕ) (s s' : Variables) (q : Call) where
   idle_sends n l i v =
       ⊎_elim (λ a. differ (joined_vop n q) StatesInternalOp (SendPersistentLocOp l) a v refl)
       (⊎_elim (λ a. differ (joined_vop n q) JournalInternalOp (SendPersistentLocOp l) a v refl)
-      (⊎_elim (λ a. differ (joined_vop n q) PushSyncOp (SendPersistentLocOp l) a v refl) (λ a. differ (joined_vop n q) PopSyncOp (SendPersistentLocOp l) a v refl)))
+      (⊎_elim (λ a. differ (joined_vop n q) PushSyncOp (SendPersistentLocOp l) a v refl)
+      (λ a. differ (joined_vop n q) PopSyncOp (SendPersistentLocOp l) a v refl)))
       i
 
   read_vop : (n : ℕ) {v : VersionOp} → step_of n ≡ some read_step → joined_vop n q ≡ v → StatesInternalOp ≡ v
   read_vop n e x = rw (step_of_number n read_step e) at x
 
   -- only a start sends a persistent place
-  pub sent_by : (n : ℕ) (l : Location) (step : Step) → step_of n ≡ some step → To (joined_op n q) (joined_vop n q) step → joined_vop n q ≡ SendPersistentLocOp l → is_start n ≡ true
+  pub sent_by : (n : ℕ) (l : Location) (step : Step) → step_of n ≡ some step → To (joined_op n q) (joined_vop n q) step →
+      joined_vop n q ≡ SendPersistentLocOp l → is_start n ≡ true
   sent_by n l write_back_node_req_step e x v = differ (joined_vop n q) StatesInternalOp (SendPersistentLocOp l) x.0 v refl
   sent_by n l write_back_node_resp_step e x v = differ (joined_vop n q) StatesInternalOp (SendPersistentLocOp l) x.0 v refl
   sent_by n l write_back_indirection_table_req_step e x v = differ (joined_vop n q) StatesInternalOp (SendPersistentLocOp l) x.0 v refl
-  sent_by n l write_back_indirection_table_resp_step e x v = differ (joined_vop n q) (SendFrozenLocOp x.0) (SendPersistentLocOp l) x.1 v refl
+  sent_by n l write_back_indirection_table_resp_step e x v =
+      differ (joined_vop n q) (SendFrozenLocOp x.0) (SendPersistentLocOp l) x.1 v refl
   sent_by n l unalloc_step e x v = differ (joined_vop n q) (AdvanceOp true) (SendPersistentLocOp l) x.0 v refl
   sent_by n l page_in_node_req_step e x v = differ (joined_vop n q) StatesInternalOp (SendPersistentLocOp l) x.0 v refl
   sent_by n l page_in_node_resp_step e x v = differ (joined_vop n q) StatesInternalOp (SendPersistentLocOp l) x.0 v refl

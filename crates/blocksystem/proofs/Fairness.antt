@@ -60,7 +60,8 @@ module _ (d : ℕ) where
   formed_next : (s : State) (k : JoinedCall) → Formed s → Formed (moved d s k)
   formed_next s (step n q o) f = formed_step s n q o f
   formed_next s choose f = choice_keeps_form d s.cache s.disk f
-  formed_next s (operations q l) f = list_keeps d s q l Formed (λ t o. formed_step t (operation_number o) (operation_call o) empty_records) f
+  formed_next s (operations q l) f =
+      list_keeps d s q l Formed (λ t o. formed_step t (operation_number o) (operation_call o) empty_records) f
 
   -- whatever the list
   pub formed_after : (calls : List JoinedCall) (s : State) → Formed s → Formed (after d s calls)
@@ -100,7 +101,8 @@ module _ (d : ℕ) where
       list_keeps d s q l (λ t. is_ready t.cache ≡ true → (is_ready s.cache ≡ true) × (last t ≡ last s))
       (λ t o p r. let n = operation_number o in
       let call = operation_call o in
-      let none : loads d t (step n call empty_records) ≡ false = rw (no_load_number o) (and-false (accepts_step d t n call empty_records)) in
+      let none : loads d t (step n call empty_records) ≡ false = rw (no_load_number o)
+      (and-false (accepts_step d t n call empty_records)) in
       let x = step_last t n call empty_records none r in
       let y = p x.0 in
       (y.0, x.1 ∙ y.1))
@@ -116,7 +118,8 @@ module _ (d : ℕ) where
   as_it_was s t = choice_refused d s.cache s.disk t
 
   refused_unready : (s : State) → is_ready s.cache ≡ false → eqb (choice d s).answer 0 ≡ false
-  refused_unready s f = split (eqb (choice d s).answer 0) (λ t. clash (choice_accepted (settings_of d s.disk) s.cache (accepted s t)).ready f) (λ t. t)
+  refused_unready s f =
+      split (eqb (choice d s).answer 0) (λ t. clash (choice_accepted (settings_of d s.disk) s.cache (accepted s t)).ready f) (λ t. t)
 
   none_given : (s : State) (k : JoinedCall) → is_ready s.cache ≡ false → given_by d s k ≡ []
   none_given s (step n q o) f = refl
@@ -150,13 +153,15 @@ module _ (d : ℕ) where
   module _ (b : ℕ) (small : b < 128) where
     abbrev Fair : List JoinedCall → Type 0
     Fair calls =
-        (s : State) (n : ℕ) → Formed s → is_ready s.cache ≡ true → free d s b ≡ true → Every d (λ t k. free d (moved d t k) b ≡ true) s calls →
+        (s : State) (n : ℕ) → Formed s → is_ready s.cache ≡ true → free d s b ≡ true →
+        Every d (λ t k. free d (moved d t k) b ≡ true) s calls →
         Every d (λ t k. loads d t k ≡ false) s calls → distance (last s) b < n → n ≤ length (given d s calls) → Among b n (given d s calls)
 
     -- a call that gives none and leaves the last block as it was, or leaves Ready
     fair_same : (ks : List JoinedCall) → Fair ks → (s t : State) (n : ℕ) → Formed t → (is_ready t.cache ≡ true → last t ≡ last s) →
         free d t b ≡ true →
-        Every d (λ t k. free d (moved d t k) b ≡ true) t ks → Every d (λ t k. loads d t k ≡ false) t ks → distance (last s) b < n → n ≤ length (given d t ks) →
+        Every d (λ t k. free d (moved d t k) b ≡ true) t ks → Every d (λ t k. loads d t k ≡ false) t ks → distance (last s) b < n →
+        n ≤ length (given d t ks) →
         Among b n (given d t ks)
     fair_same ks rest s t n f same e es ls near long =
         split (is_ready t.cache)
@@ -165,8 +170,10 @@ module _ (d : ℕ) where
 
     -- a choice that gives a block
     fair_given : (ks : List JoinedCall) → Fair ks → (s : State) (n : ℕ) → Formed s → eqb (choice d s).answer 0 ≡ true → free d s b ≡ true →
-        free d (after_choice d s) b ≡ true → Every d (λ t k. free d (moved d t k) b ≡ true) (after_choice d s) ks → Every d (λ t k. loads d t k ≡ false) (after_choice d s) ks →
-        distance (last s) b < n → n ≤ length ((choice d s).block ∷ given d (after_choice d s) ks) → Among b n ((choice d s).block ∷ given d (after_choice d s) ks)
+        free d (after_choice d s) b ≡ true → Every d (λ t k. free d (moved d t k) b ≡ true) (after_choice d s) ks →
+        Every d (λ t k. loads d t k ≡ false) (after_choice d s) ks →
+        distance (last s) b < n → n ≤ length ((choice d s).block ∷ given d (after_choice d s) ks) →
+        Among b n ((choice d s).block ∷ given d (after_choice d s) ks)
     fair_given ks rest s n f t e e' es ls near long =
         let g = settings_of d s.disk in
         let z = accepted s t in
@@ -184,14 +191,16 @@ module _ (d : ℕ) where
     unfolding given
     fair [] s n f r e es ls near long = absurd (omega arith)
     fair (step m q o ∷ ks) s n f r e es ls near long =
-        fair_same ks (fair ks) s (after_step d s m q o) n (formed_next s (step m q o) f) (λ t. (step_last s m q o ls.0 t).1) es.0 es.1 ls.1 near long
+        fair_same ks (fair ks) s (after_step d s m q o) n (formed_next s (step m q o) f)
+        (λ t. (step_last s m q o ls.0 t).1) es.0 es.1 ls.1 near long
     fair (operations q l ∷ ks) s n f r e es ls near long =
         fair_same ks (fair ks) s (after_list d s q l) n (formed_next s (operations q l) f)
         (λ t. (list_last s q l t).1) es.0 es.1 ls.1 near long
     fair (choose ∷ ks) s n f r e es ls near long =
         split (eqb (choice d s).answer 0)
         (λ t. rw t (fair_given ks (fair ks) s n f t e es.0 es.1 ls.1 near (rw t at long)))
-        (λ t. rw t (fair_same ks (fair ks) s (after_choice d s) n (formed_next s choose f) (λ r. ap (λ y. y.blocks.last) (as_it_was s t)) es.0 es.1 ls.1 near (rw t at long)))
+        (λ t. rw t (fair_same ks (fair ks) s (after_choice d s) n (formed_next s choose f)
+        (λ r. ap (λ y. y.blocks.last) (as_it_was s t)) es.0 es.1 ls.1 near (rw t at long)))
 
   pub fairness : (calls : List JoinedCall) (s : State) → Formed s → Fairness d s calls
   fairness calls s f front back b cut small staying no_loads long =
@@ -220,7 +229,8 @@ module _ (d : ℕ) where
       let own : choice d t ≡ chooser g t.cache = choice_formed d t.cache t.disk formed in
       rw own (
         choice_answer g t.cache ∙ a,
-        gives_block g t.cache a ∙ ap (next_fit (is_free_block g t.cache)) l ∙ next_fit_from_end (is_free_block g t.cache) (choice_accepted g t.cache a).free,
+        gives_block g t.cache a ∙ ap (next_fit (is_free_block g t.cache)) l
+            ∙ next_fit_from_end (is_free_block g t.cache) (choice_accepted g t.cache a).free,
       )
 
   -- RIGHT AFTER A BLOCK IS GIVEN
@@ -243,8 +253,10 @@ module _ (d : ℕ) where
       let disk = disk_side d t 1 q o in
       let six : holds 6 disk ≡ false = rw op refl in
       let seven : holds 7 disk ≡ false = rw op refl in (
-        not_answered t 1 q o 6 (omega arith) ((or_iff (holds 6 rows || holds 6 disk) _).1 ((or_iff (holds 6 rows) (holds 6 disk)).1 (u.0, six), refl)),
-        not_answered t 1 q o 7 (omega arith) ((or_iff (holds 7 rows || holds 7 disk) _).1 ((or_iff (holds 7 rows) (holds 7 disk)).1 (u.1, seven), refl)),
+        not_answered t 1 q o 6 (omega arith)
+            ((or_iff (holds 6 rows || holds 6 disk) _).1 ((or_iff (holds 6 rows) (holds 6 disk)).1 (u.0, six), refl)),
+        not_answered t 1 q o 7 (omega arith)
+            ((or_iff (holds 7 rows || holds 7 disk) _).1 ((or_iff (holds 7 rows) (holds 7 disk)).1 (u.1, seven), refl)),
       )
 
   -- THE PROMISE IN USE: chooser's calls and reads, in any order, while a block is free

@@ -39,7 +39,8 @@ use Rattle.sectortype.specs.declared.Contents.{Contents}
 use Rattle.blocksystem.proofs.Accepting.{none_queued}
 use Rattle.blocksystem.proofs.Invariant.{Invariant, KeptOn, ListsAgree, PicturesForm}
 use Rattle.blocksystem.proofs.Laws.{same_put}
-use Rattle.blocksystem.specs.Format.{empty_disk, formatted, formatted_disk, formatted_records, root_node, root_place, root_table, table_place_of}
+use Rattle.blocksystem.specs.Format.{empty_disk, formatted, formatted_disk, formatted_records, root_node, root_place, root_table}
+use Rattle.blocksystem.specs.Format.{table_place_of}
 use Rattle.blocksystem.specs.Names.{first_pictures, with_root}
 use Rattle.blocksystem.specs.Run.{start}
 use Rattle.blocksystem.specs.declared.Outcome.{Outcome}
@@ -73,22 +74,31 @@ table_area = each_device (λ d. table_area_of (device_of d) (table_place_of d).a
 module _ (l : Location) where
   pub root_locs : locs_of (root_table l) ≡ put empty 0 l
   unfolding root_table
-  root_locs = locs_put empty_table 0 (record { allocated = true; located = true; loc = l; succs = zero_succs }) empty_table_form (omega arith) refl ∙ ap (λ m. put m 0 l) empty_locs
+  root_locs =
+      locs_put empty_table 0 (record { allocated = true; located = true; loc = l; succs = zero_succs }) empty_table_form
+      (omega arith) refl ∙ ap (λ m. put m 0 l) empty_locs
 
   pub root_graph : graph_of (root_table l) ≡ put empty 0 zero_succs
   unfolding root_table
-  root_graph = graph_put empty_table 0 (record { allocated = true; located = true; loc = l; succs = zero_succs }) empty_table_form (omega arith) refl ∙ ap (λ m. put m 0 zero_succs) empty_graph
+  root_graph =
+      graph_put empty_table 0 (record { allocated = true; located = true; loc = l; succs = zero_succs }) empty_table_form
+      (omega arith) refl ∙ ap (λ m. put m 0 zero_succs) empty_graph
 
   pub root_table_form : table_form (root_table l) ≡ true
   unfolding root_table
-  root_table_form = with_entry_form empty_table 0 (record { allocated = true; located = true; loc = l; succs = zero_succs }) empty_table_form (omega arith) (rw zero_succs_form)
+  root_table_form =
+      with_entry_form empty_table 0 (record { allocated = true; located = true; loc = l; succs = zero_succs }) empty_table_form
+      (omega arith) (rw zero_succs_form)
 
 module _ (x : Contents) where
   pub root_picture : nodes_map (with_root x) ≡ put empty 0 (root_node x)
-  root_picture = nodes_put empty_nodes 0 (record { present = true; node = root_node x }) empty_nodes_form (omega arith) refl ∙ ap (λ m. put m 0 (root_node x)) empty_nodes_lem
+  root_picture =
+      nodes_put empty_nodes 0 (record { present = true; node = root_node x }) empty_nodes_form (omega arith) refl
+      ∙ ap (λ m. put m 0 (root_node x)) empty_nodes_lem
 
   pub root_picture_form : nodes_form (with_root x) ≡ true
-  root_picture_form = with_slot_form empty_nodes 0 (record { present = true; node = root_node x }) empty_nodes_form (omega arith) (rw zero_succs_form)
+  root_picture_form =
+      with_slot_form empty_nodes 0 (record { present = true; node = root_node x }) empty_nodes_form (omega arith) (rw zero_succs_form)
 
 -- an empty list names nothing
 pub no_successor : (r : ℕ) → has_succ zero_succs r ≡ false
@@ -101,7 +111,8 @@ root_chosen x = (refl, no_successor)
 
 -- at first the table's place is named and no other; its picture and the working one hold the root and nothing else, the frozen one nothing
 module _ (d : ℕ) (x : Contents) where
-  pub first_place : ((first_pictures d x).first.present ≡ true) × ((first_pictures d x).first.place ≡ table_place_of d) × ((first_pictures d x).second.present ≡ false)
+  pub first_place : ((first_pictures d x).first.present ≡ true) × ((first_pictures d x).first.place ≡ table_place_of d)
+      × ((first_pictures d x).second.present ≡ false)
   unfolding first_pictures
   first_place = (refl, refl, refl)
 
@@ -145,10 +156,16 @@ module _ (d : ℕ) (x : Contents) (on : made d ≡ true) where
       let node_is = with_node_is d empty_records l (root_node x) 0 on (root_block d on) in
       sym
       (with_table_is d rooted k (root_table l) 0 on (table_area d on)
-      ∙ ap (λ (r : Records). record { tables = set r.tables 0 (record { present = true; loc = k; table = root_table l }); nodes = r.nodes }) node_is)
+      ∙ ap (λ (r : Records). record {
+        tables = set r.tables 0
+            (record { present = true; loc = k; table = root_table l });
+        nodes = r.nodes;
+      }) node_is)
 
   rooted_form : (records_checked d rooted).form ≡ true
-  rooted_form = with_node_form d empty_records on (empty_records_form d) (empty_records_placed d) l (root_node x) (root_place_lem d on) zero_succs_form
+  rooted_form =
+      with_node_form d empty_records on (empty_records_form d) (empty_records_placed d) l (root_node x)
+      (root_place_lem d on) zero_succs_form
 
   rooted_placed : (records_checked d rooted).placed ≡ true
   rooted_placed = with_node_placed d empty_records on (empty_records_form d) (empty_records_placed d) l (root_node x) (root_place_lem d on)
@@ -162,21 +179,25 @@ module _ (d : ℕ) (x : Contents) (on : made d ≡ true) where
 
   pub formatted_table : upstream_tables d (formatted_records k l x) k ≡ some (indirection_table (root_table l))
   formatted_table =
-      rw records_are (upstream_of d (with_table d rooted k (root_table l)) k (root_table l) (table_written_lem d rooted on rooted_form k (root_table l) (table_place d on)))
+      rw records_are (upstream_of d (with_table d rooted k (root_table l)) k (root_table l)
+      (table_written_lem d rooted on rooted_form k (root_table l) (table_place d on)))
 
   pub formatted_node : nodes_stored d (formatted_records k l x) l ≡ some (root_node x)
   formatted_node =
-      rw (records_are, table_leaves_nodes d rooted k (root_table l)) (node_written_lem d empty_records on (empty_records_form d) l (root_node x) (root_place_lem d on))
+      rw (records_are, table_leaves_nodes d rooted k (root_table l))
+      (node_written_lem d empty_records on (empty_records_form d) l (root_node x) (root_place_lem d on))
 
   pub root_complete : WFCompleteIndirectionTable d (indirection_table (root_table (root_place d)))
   root_complete =
       record {
         valid = λ ref loc e.
-            ⊎_elim (λ (z : (ref ≡ 0) × (l ≡ loc)). rw (← z.1) (node_place_valid d l (root_place_lem d on))) (λ z. never z.1) (put_some empty 0 l ref (rw (root_locs l) at e));
+            ⊎_elim (λ (z : (ref ≡ 0) × (l ≡ loc)). rw (← z.1) (node_place_valid d l (root_place_lem d on))) (λ z. never z.1)
+            (put_some empty 0 l ref (rw (root_locs l) at e));
         keys = λ ref. rw (root_locs l, root_graph l) (same_put {A = Succs} {B = Location} empty empty (λ k. refl) 0 zero_succs l ref);
         root = rw (root_graph l) (in_put_same {A = Succs} empty 0 zero_succs);
         graph_closed = λ ref list e succ h.
-            ⊎_elim (λ (z : (ref ≡ 0) × (zero_succs ≡ list)). clash (rw (← z.1) at h) (no_successor succ)) (λ z. never z.1) (put_some empty 0 zero_succs ref (rw (root_graph l) at e));
+            ⊎_elim (λ (z : (ref ≡ 0) × (zero_succs ≡ list)). clash (rw (← z.1) at h) (no_successor succ)) (λ z. never z.1)
+            (put_some empty 0 zero_succs ref (rw (root_graph l) at e));
       }
 
   root_distinct : AllLocationsForDifferentRefsDontOverlap (indirection_table (root_table (root_place d)))
@@ -189,7 +210,8 @@ module _ (d : ℕ) (x : Contents) (on : made d ≡ true) where
   root_lists ref list n a b =
       ⊎_elim
       (λ (z : (ref ≡ 0) × (zero_succs ≡ list)).
-      ⊎_elim (λ (y : (ref ≡ 0) × (root_node x ≡ n)). rw (← z.1, ← y.1) (λ r. refl)) (λ y. never y.1) (put_some empty 0 (root_node x) ref (rw (root_picture x) at b)))
+      ⊎_elim (λ (y : (ref ≡ 0) × (root_node x ≡ n)). rw (← z.1, ← y.1) (λ r. refl)) (λ y. never y.1)
+      (put_some empty 0 (root_node x) ref (rw (root_picture x) at b)))
       (λ z. never z.1)
       (put_some empty 0 zero_succs ref (rw (root_graph l) at a))
 
@@ -203,10 +225,12 @@ module _ (d : ℕ) (x : Contents) (on : made d ≡ true) where
         lists = root_lists;
         located = λ ref m e.
             ⊎_elim
-            (λ (z : (ref ≡ 0) × (l ≡ m)). rw (← z.1, z.0) (record { node = root_node x; stored = formatted_node; pictured = rw (root_picture x) (put_same empty 0 (root_node x)) }))
+            (λ (z : (ref ≡ 0) × (l ≡ m)). rw (← z.1, z.0)
+            (record { node = root_node x; stored = formatted_node; pictured = rw (root_picture x) (put_same empty 0 (root_node x)) }))
             (λ z. never z.1)
             (put_some empty 0 l ref (rw (root_locs l) at e));
-        no_more = λ ref e. let z = put_none empty 0 l ref (rw (root_locs l) at e) in rw (root_picture x) (put_other empty 0 (root_node x) ref z.0);
+        no_more = λ ref e. let z = put_none empty 0 l ref (rw (root_locs l) at e) in
+            rw (root_picture x) (put_other empty 0 (root_node x) ref z.0);
         none_at_place = λ id m h a. none_queued id m h;
         none_at_nodes = λ ref m e id n h a. none_queued id n h;
       }
@@ -274,7 +298,13 @@ module _ (d : ℕ) (x : Contents) (r : ℕ) where
 
   -- else it is 1 and zeros, the rule too
   pub formatted_refused : ((formatted d x r).answer ≡ 0 → ⊥) →
-      formatted d x r ≡ record { answer = 1; node = zero_node; cache = empty_cache; disk = record { rule = 0; records = empty_records; queues = empty_queues } }
+      formatted d x r ≡ record {
+        answer = 1;
+        node = zero_node;
+        cache = empty_cache;
+        disk = record
+            { rule = 0; records = empty_records; queues = empty_queues };
+      }
   formatted_refused ne =
       split (made d && is_rule r)
       (λ t. let h = (and_iff (made d) (is_rule r)).0 t in absurd (ne (ap (λ o. o.answer) (formatted_is d x h.0 r h.1))))

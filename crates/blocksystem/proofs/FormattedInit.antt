@@ -20,7 +20,8 @@ use Rattle.sectortype.specs.Form.{zero_succs}
 use Rattle.sectortype.specs.declared.Node.{Node}
 use Rattle.sectortype.specs.declared.Succs.{Succs}
 use Rattle.sectortype.specs.declared.Contents.{Contents}
-use Rattle.blocksystem.proofs.Formatted.{formatted_is, formatted_node, no_successor, root_complete, formatted_table, root_graph, root_locs, table_place}
+use Rattle.blocksystem.proofs.Formatted.{formatted_is, formatted_node, no_successor, root_complete, formatted_table, root_graph, root_locs}
+use Rattle.blocksystem.proofs.Formatted.{table_place}
 use Rattle.blocksystem.specs.Format.{formatted, formatted_disk, formatted_records, root_node, root_place, root_table, table_place_of}
 use Rattle.blocksystem.specs.Upstream.{disk_graph, Init, NoDanglingPointers, SuccessorsAgree, system_vars}
 
@@ -61,7 +62,8 @@ module _ (d : ℕ) (x : Contents) (on : made d ≡ true) where
 
   closed : NoDanglingPointers (put empty 0 (root_node x))
   closed r1 r2 n e h =
-      ⊎_elim (λ (y : (r1 ≡ 0) × (root_node x ≡ n)). clash (rw (← y.1) at h) (no_successor r2)) (λ y. never y.1) (put_some empty 0 (root_node x) r1 e)
+      ⊎_elim (λ (y : (r1 ≡ 0) × (root_node x ≡ n)). clash (rw (← y.1) at h) (no_successor r2)) (λ y. never y.1)
+      (put_some empty 0 (root_node x) r1 e)
 
   pub formatted_init : (r : ℕ) → is_rule r ≡ true → Init d (system_vars d (formatted d x r).cache (formatted d x r).disk) (table_place_of d)
   formatted_init r rule =
@@ -75,7 +77,8 @@ module _ (d : ℕ) (x : Contents) (on : made d ≡ true) where
           there = formatted_table d x on;
           complete = root_complete d x on;
           stored = λ ref loc e.
-              ⊎_elim (λ (z : (ref ≡ 0) × (l ≡ loc)). rw (← z.1) (ap is_some (formatted_node d x on))) (λ z. never z.1) (put_some empty 0 l ref (rw (root_locs l) at e));
+              ⊎_elim (λ (z : (ref ≡ 0) × (l ≡ loc)). rw (← z.1) (ap is_some (formatted_node d x on))) (λ z. never z.1)
+              (put_some empty 0 l ref (rw (root_locs l) at e));
         };
         agree = rw (formatted_table d x on, graph_is, root_graph l) agree;
         closed = rw (formatted_table d x on, graph_is) closed;

@@ -43,7 +43,8 @@ module _ (d n : ℕ) (q : Call) (o : Records) (c : CacheState) (s : DiskState) (
 
   unruled_answer : joined_answer d n q o c s ≡ 1
   unfolding joined_answer
-  unruled_answer = rw (unruled_asked, lowest_one_right (cache_step (settings_of d s) c n q).answer) (lowest_one_left (answer (start_rows d n q s)))
+  unruled_answer =
+      rw (unruled_asked, lowest_one_right (cache_step (settings_of d s) c n q).answer) (lowest_one_left (answer (start_rows d n q s)))
 
   pub no_rule_joined : joined d n q o c s ≡ record { answer = 1; node = zero_node; cache = c; disk = s }
   unfolding joined
@@ -96,7 +97,8 @@ module _ (d : ℕ) (s : State) (q : Call) (o : Records) where
   -- UNDER EITHER RULE
 
   -- 25 exactly where all is in its form, upstream allows the Freeze, the disk carries rule 2 and a frozen place is set
-  pub joined_25_iff : ((asked d s 12 q o).answer ≡ 25) ↔ (InForm d s q × Allowed d s.cache 12 q × (s.disk.rule ≡ 2) × FrozenPlaceSet (cache_vars s.cache))
+  pub joined_25_iff : ((asked d s 12 q o).answer ≡ 25) ↔
+      (InForm d s q × Allowed d s.cache 12 q × (s.disk.rule ≡ 2) × FrozenPlaceSet (cache_vars s.cache))
   joined_25_iff = (
     (λ e. let a = (answered_as d s (step 12 q o)).lowest in
         let w = formed (a 1 (subst (λ m. 1 < m) (sym e) (omega arith))) in

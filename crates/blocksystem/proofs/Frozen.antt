@@ -71,7 +71,8 @@ module _ (d : ℕ) (s : State) (v : Invariant d s) (there : s.pictures.second.pr
   Accepted n = joined_answer d n q o s.cache s.disk ≡ 0
 
   -- in Ready it is the cache's, and no table write is outstanding
-  in_ready : (x : Ready) → cache_vars s.cache ≡ ready x → unless_writing x.outstanding_indirection_table_write x.frozen_indirection_table_loc ≡ some place
+  in_ready : (x : Ready) → cache_vars s.cache ≡ ready x →
+      unless_writing x.outstanding_indirection_table_write x.frozen_indirection_table_loc ≡ some place
   in_ready x e =
       let r = subst (λ y. InPhase y (disk_vars d s.disk) (picture_maps s.pictures)) e v.whole.phase in
       sym r.frozen_place.place_is ∙ rw there refl
@@ -96,7 +97,8 @@ module _ (d : ℕ) (s : State) (v : Invariant d s) (there : s.pictures.second.pr
       let held = (joined_25_iff d s q o).1 (accepted_form d s q o e, allowed, two, (on.0, on.1, (place, l))) in
       absurd (let w : ◌≡◌ {A = ℕ} 0 25 = sym e ∙ held in omega arith)
 
-  step_stays : (n : ℕ) → s.disk.rule ≡ 2 → Accepted n → (is_clean_up n || is_start n) ≡ false → (pictures_after n q s.pictures).second ≡ s.pictures.second
+  step_stays : (n : ℕ) → s.disk.rule ≡ 2 → Accepted n → (is_clean_up n || is_start n) ≡ false →
+      (pictures_after n q s.pictures).second ≡ s.pictures.second
   step_stays n two e h =
       let b = (or_iff (is_clean_up n) (is_start n)).0 h in
       (names_same n q s.pictures (λ x. not_4 (rw x at e)) (eqb-false n 10 b.1) (λ x. not_12 two (rw x at e)) (eqb-false n 13 b.0)).1
@@ -105,21 +107,31 @@ module _ (d : ℕ) (s : State) (v : Invariant d s) (there : s.pictures.second.pr
 
 -- what ends a frozen name: an accepted clean-up or start, and no other call
 pub ends_frozen_iff : (d : ℕ) (s : State) (k : JoinedCall) →
-    (ends_frozen d s k ≡ true) ↔ ((n : ℕ) × (q : Call) × (o : Records) × (k ≡ step n q o) × ((asked d s n q o).answer ≡ 0) × ((n ≡ 13) ⊎ (n ≡ 10)))
+    (ends_frozen d s k ≡ true) ↔ ((n : ℕ) × (q : Call) × (o : Records) × (k ≡ step n q o) × ((asked d s n q o).answer ≡ 0)
+    × ((n ≡ 13) ⊎ (n ≡ 10)))
 ends_frozen_iff d s k = (to k, (λ (n, q, o, e, a, u). subst (λ j. ends_frozen d s j ≡ true) (sym e) (of_step n q o a u)))
   where
-    to : (j : JoinedCall) → ends_frozen d s j ≡ true → (n : ℕ) × (q : Call) × (o : Records) × (j ≡ step n q o) × ((asked d s n q o).answer ≡ 0) × ((n ≡ 13) ⊎ (n ≡ 10))
+    to : (j : JoinedCall) → ends_frozen d s j ≡ true → (n : ℕ) × (q : Call) × (o : Records) × (j ≡ step n q o)
+        × ((asked d s n q o).answer ≡ 0) × ((n ≡ 13) ⊎ (n ≡ 10))
     to (step n q o) h =
-        let b = (and_iff (accepts_step d s n q o) (is_clean_up n || is_start n)).0 h in
-        (n, q, o, refl, eqb-true _ _ b.0, ⊎_elim (λ x. inl (eqb-true n 13 x)) (λ x. inr (eqb-true n 10 x)) (or_cases (is_clean_up n) (is_start n) b.1))
+        let b = (and_iff (accepts_step d s n q o) (is_clean_up n || is_start n)).0 h in (
+          n,
+          q,
+          o,
+          refl,
+          eqb-true _ _ b.0,
+          ⊎_elim (λ x. inl (eqb-true n 13 x)) (λ x. inr (eqb-true n 10 x)) (or_cases (is_clean_up n) (is_start n) b.1),
+        )
     to choose h = absurd (false≢true h)
     to (operations q l) h = absurd (false≢true h)
 
     of_step : (n : ℕ) (q : Call) (o : Records) → (asked d s n q o).answer ≡ 0 → (n ≡ 13) ⊎ (n ≡ 10) → ends_frozen d s (step n q o) ≡ true
-    of_step n q o a u = and_both (eq-eqb _ _ a) (⊎_elim (λ x. or_inl (is_start n) (eq-eqb n 13 x)) (λ x. or_inr (is_clean_up n) (eq-eqb n 10 x)) u)
+    of_step n q o a u =
+        and_both (eq-eqb _ _ a) (⊎_elim (λ x. or_inl (is_start n) (eq-eqb n 13 x)) (λ x. or_inr (is_clean_up n) (eq-eqb n 10 x)) u)
 
 -- what the promise says of a list's last call
-pub stays_one : (d : ℕ) (s : State) (front : List JoinedCall) (n : ℕ) (q : Call) (o : Records) → FrozenStays d s (front ++ (step n q o ∷ [])) →
+pub stays_one : (d : ℕ) (s : State) (front : List JoinedCall) (n : ℕ) (q : Call) (o : Records) →
+    FrozenStays d s (front ++ (step n q o ∷ [])) →
     (after d s front).pictures.second.present ≡ true → ends_frozen d (after d s front) (step n q o) ≡ false →
     (after_step d (after d s front) n q o).pictures.second ≡ (after d s front).pictures.second
 stays_one d s front n q o h there e =
@@ -135,12 +147,14 @@ module _ (d : ℕ) where
       (λ t. rw t (split o.alloc (λ a. rw a) (λ a. rw a)))
       (λ t. rw t)
 
-  call_stays : (s : State) (k : JoinedCall) → Invariant d s → s.disk.rule ≡ 2 → s.pictures.second.present ≡ true → ends_frozen d s k ≡ false →
+  call_stays : (s : State) (k : JoinedCall) → Invariant d s → s.disk.rule ≡ 2 → s.pictures.second.present ≡ true →
+      ends_frozen d s k ≡ false →
       (moved d s k).pictures.second ≡ s.pictures.second
   unfolding joined
   call_stays s (step n q o) v two there h =
       split (accepts_step d s n q o)
-      (λ t. rw t (step_stays d s v there q o n two (eqb-true _ _ t) ((and_false_iff (accepts_step d s n q o) (is_clean_up n || is_start n)).0 h t)))
+      (λ t. rw t (step_stays d s v there q o n two (eqb-true _ _ t)
+      ((and_false_iff (accepts_step d s n q o) (is_clean_up n || is_start n)).0 h t)))
       (λ t. rw t refl)
   call_stays s choose v two there h = refl
   call_stays s (operations q l) v two there h =
@@ -148,7 +162,8 @@ module _ (d : ℕ) where
 
   -- ANY LIST
 
-  run_stays : (calls : List JoinedCall) (s : State) → Invariant d s → starts_named d s calls ≡ true → s.disk.rule ≡ 2 → s.pictures.second.present ≡ true →
+  run_stays : (calls : List JoinedCall) (s : State) → Invariant d s → starts_named d s calls ≡ true → s.disk.rule ≡ 2 →
+      s.pictures.second.present ≡ true →
       Every d (λ t k. ends_frozen d t k ≡ false) s calls → (after d s calls).pictures.second ≡ s.pictures.second
   unfolding after
   run_stays [] s v n two there none = refl
@@ -157,7 +172,8 @@ module _ (d : ℕ) where
       let rest = first_keeps d s k ks v n in
       run_stays ks (moved d s k) rest.0 rest.1 (call_keeps_rule d s k ∙ two) (ap (λ m. m.present) same ∙ there) none.1 ∙ same
 
-  pub frozen_stays : (calls : List JoinedCall) (s : State) → Invariant d s → starts_named d s calls ≡ true → s.disk.rule ≡ 2 → FrozenStays d s calls
+  pub frozen_stays : (calls : List JoinedCall) (s : State) → Invariant d s → starts_named d s calls ≡ true → s.disk.rule ≡ 2 →
+      FrozenStays d s calls
   frozen_stays calls s v n two front back e there none =
       let cut = starts_cut d front back s (subst (λ l. starts_named d s l ≡ true) e n) in
       let f = after d s front in

@@ -7,8 +7,8 @@ use mathlib.Core.Path.{◌≡◌}
 use Rattle.base.specs.Maps.{Map, flagged, is_some}
 use Rattle.blockcache.specs.Abstract.{cache_vars}
 use Rattle.blockcache.specs.Form.{cache_form}
-use Rattle.blockcache.specs.Upstream.{AllLocationsForDifferentRefsDontOverlap, In, NoAddr, OutstandingWrite, Ready, SameSuccs, Variables, WFCompleteIndirectionTable, loading_indirection_table}
-use Rattle.blockcache.specs.Upstream.{ready, unready}
+use Rattle.blockcache.specs.Upstream.{AllLocationsForDifferentRefsDontOverlap, In, NoAddr, OutstandingWrite, Ready, SameSuccs, Variables}
+use Rattle.blockcache.specs.Upstream.{WFCompleteIndirectionTable, loading_indirection_table, ready, unready}
 use Rattle.blockcache.specs.UpstreamInv.{Inv}
 use Rattle.blockdisk.specs.Form.{disk_form}
 use Rattle.blockdisk.specs.Upstream.{Imap, Variables as DVariables, disk_vars}
@@ -70,7 +70,8 @@ abbrev pub ListsAgree : Map Succs → Map Node → Type 0
 ListsAgree graph pic = (ref : ℕ) (list : Succs) (n : Node) → graph ref ≡ some list → pic ref ≡ some n → SameSuccs list n
 
 -- a named place l with the picture that belongs to it
-pub record Kept (d : ℕ) (tables : Imap IndirectionTable) (nodes : Imap Node) (table_writes node_writes : Map Location) (l : Location) (pic : Map Node) : Type 0 where
+pub record Kept (d : ℕ) (tables : Imap IndirectionTable) (nodes : Imap Node) (table_writes node_writes : Map Location) (l : Location)
+    (pic : Map Node) : Type 0 where
   -- a table is stored at exactly the place
   pub table : IndirectionTable
   pub stored : tables l ≡ some table
@@ -96,7 +97,8 @@ abbrev pub SameKeys : {A B : Type 0} → Map A → Map B → Type 0
 SameKeys a b = (ref : ℕ) → is_some (a ref) ≡ is_some (b ref)
 
 -- the persistent table
-pub record PersistentOk (tables : Imap IndirectionTable) (table_reads : Map Location) (place loc : Location) (t : IndirectionTable) : Type 0 where
+pub record PersistentOk (tables : Imap IndirectionTable) (table_reads : Map Location) (place loc : Location)
+    (t : IndirectionTable) : Type 0 where
   -- the first named place is the persistent one, and the persistent table is stored there
   pub place_is : place ≡ loc
   pub stored : tables loc ≡ some t
@@ -112,7 +114,8 @@ abbrev pub TableWritesAwaited : Map Location → Option ℕ → Option Location 
 TableWritesAwaited queue awaited loc = (id : ℕ) (k : Location) → queue id ≡ some k → (awaited ≡ some id) × (loc ≡ some k)
 
 -- the frozen place
-pub record FrozenPlaceOk (tables : Imap IndirectionTable) (queue : Map Location) (second : Option Location) (awaited : Option ℕ) (loc : Option Location) (t : Option IndirectionTable) : Type 0 where
+pub record FrozenPlaceOk (tables : Imap IndirectionTable) (queue : Map Location) (second : Option Location) (awaited : Option ℕ)
+    (loc : Option Location) (t : Option IndirectionTable) : Type 0 where
   -- the second named place is the frozen one, while no write of it is outstanding
   pub place_is : second ≡ unless_writing awaited loc
   pub stored : FrozenStored tables loc t
@@ -127,7 +130,8 @@ abbrev pub WritesApart : Map OutstandingWrite → Map Location → Type 0
 WritesApart writes locs = (id : ℕ) (w : OutstandingWrite) → writes id ≡ some w → NoAddr locs w.loc.addr
 
 -- the node writes
-pub record NodeWritesOk (queue : Map Location) (writes : Map OutstandingWrite) (t : IndirectionTable) (loc : Option Location) (frozen : Option IndirectionTable) : Type 0 where
+pub record NodeWritesOk (queue : Map Location) (writes : Map OutstandingWrite) (t : IndirectionTable) (loc : Option Location)
+    (frozen : Option IndirectionTable) : Type 0 where
   pub awaited : NodeWritesAwaited queue writes
   -- none is outstanding at an address of the persistent table t, nor of a frozen one whose place is set
   pub persistent_apart : WritesApart writes t.locs
@@ -135,7 +139,8 @@ pub record NodeWritesOk (queue : Map Location) (writes : Map OutstandingWrite) (
 
 -- a queued node read is one that the cache awaits, at the ephemeral location of its reference
 abbrev pub NodeReadsAwaited : Map Location → Map ℕ → Map Location → Type 0
-NodeReadsAwaited queue reading locs = (id : ℕ) (k : Location) → queue id ≡ some k → (ref : ℕ) × (reading id ≡ some ref) × (locs ref ≡ some k)
+NodeReadsAwaited queue reading locs =
+    (id : ℕ) (k : Location) → queue id ≡ some k → (ref : ℕ) × (reading id ≡ some ref) × (locs ref ≡ some k)
 
 -- a read that the cache awaits is queued: no wait is for ever
 abbrev pub ReadsQueued : Map ℕ → Map Location → Type 0

@@ -44,7 +44,8 @@ use Rattle.blocksystem.specs.Run.{operations, start_named, starts_named, State, 
 
 module _ (d : ℕ) (q : Call) (o : Records) (s : State) (v : Invariant d s) where
   abbrev next_state : ℕ → State
-  next_state n = record { cache = cache_next d s.cache n q; disk = (disk_asked d n q o s.disk).disk; pictures = pictures_after n q s.pictures }
+  next_state n =
+      record { cache = cache_next d s.cache n q; disk = (disk_asked d n q o s.disk).disk; pictures = pictures_after n q s.pictures }
 
   abbrev Accepted : ℕ → Type 0
   Accepted n = joined_answer d n q o s.cache s.disk ≡ 0
@@ -66,7 +67,8 @@ module _ (d : ℕ) (q : Call) (o : Records) (s : State) (v : Invariant d s) wher
         pictures_form = v.pictures_form;
         first_named = v.first_named;
         whole = rw after
-            (keep_crash d (cache_vars s.cache) (disk_vars d s.disk) (disk_vars d (crashed s.disk o)) (picture_maps s.pictures) v.whole (survives d s.disk o a));
+            (keep_crash d (cache_vars s.cache) (disk_vars d s.disk) (disk_vars d (crashed s.disk o)) (picture_maps s.pictures) v.whole
+            (survives d s.disk o a));
       }
 
   step_keeps : (n : ℕ) → is_crash n ≡ false → Named n → Accepted n → Invariant d (next_state n)
@@ -84,7 +86,8 @@ module _ (d : ℕ) (q : Call) (o : Records) (s : State) (v : Invariant d s) wher
       let one : to.0 ≡ x.step = cc in
       let s' = cache_vars (cache_next d s.cache n q) in
       let inv = inv_kept (settings_of d s.disk) s.cache n q v.whole.inv z.0 in
-      let r = step_kept d q (cache_vars s.cache) s' (disk_vars d s.disk) (disk_vars d next) s.pictures v.whole v.pictures_form v.first_named inv x.form.call.reference
+      let r = step_kept d q (cache_vars s.cache) s' (disk_vars d s.disk)
+      (disk_vars d next) s.pictures v.whole v.pictures_form v.first_named inv x.form.call.reference
       x.step (subst (λ m. is_crash m ≡ false) is ne)
       (record {
         cache = subst (λ y. StoreStep d (cache_vars s.cache) s' (call_op q) q.vop q.reference q.node y) one to.2;
@@ -92,7 +95,8 @@ module _ (d : ℕ) (q : Call) (o : Records) (s : State) (v : Invariant d s) wher
         move = subst (λ m. disk_vars d next ≡ next_vars (disk_vars d s.disk) (dop_of (disk_call m q))) is (disk_moves d s.disk c a);
         unawaited = λ t.
             let k : n ≡ 14 = is ∙ eqb-true (number_of x.step) 14 t in
-            no_op_unawaited (settings_of d s.disk) s.cache q (subst (λ m. answer (cache_rows (settings_of d s.disk) s.cache m q) ≡ 0) k z.0);
+            no_op_unawaited (settings_of d s.disk) s.cache q
+            (subst (λ m. answer (cache_rows (settings_of d s.disk) s.cache m q) ≡ 0) k z.0);
         start = subst (λ m. Named m) is named;
       }) in
       record {
@@ -159,11 +163,13 @@ call_keeps d s (operations q l) v named = list_keeps d s q l (Invariant d) (sing
 -- ANY LIST
 
 -- after its first call, the rest of a list finds what the list found
-pub first_keeps : (d : ℕ) (s : State) (k : JoinedCall) (ks : List JoinedCall) → Invariant d s → starts_named d s (k ∷ ks) ≡ true → Invariant d (moved d s k) × (starts_named d (moved d s k) ks ≡ true)
+pub first_keeps : (d : ℕ) (s : State) (k : JoinedCall) (ks : List JoinedCall) → Invariant d s → starts_named d s (k ∷ ks) ≡ true →
+    Invariant d (moved d s k) × (starts_named d (moved d s k) ks ≡ true)
 unfolding starts_named
 first_keeps d s k ks v n = let h = (and_iff (start_named d s k) (starts_named d (moved d s k) ks)).0 n in (call_keeps d s k v h.0, h.1)
 
-pub run_keeps : (d : ℕ) (calls : List JoinedCall) (s : State) → Invariant d s → starts_named d s calls ≡ true → Invariant d (after d s calls)
+pub run_keeps : (d : ℕ) (calls : List JoinedCall) (s : State) → Invariant d s → starts_named d s calls ≡ true →
+    Invariant d (after d s calls)
 unfolding after
 run_keeps d [] s v n = v
 run_keeps d (k ∷ ks) s v n = let rest = first_keeps d s k ks v n in run_keeps d ks (moved d s k) rest.0 rest.1

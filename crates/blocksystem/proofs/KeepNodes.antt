@@ -5,7 +5,8 @@ use mathlib.Core.Option.{Option, none, some}
 use mathlib.Core.Path.{◌∙◌, ◌≡◌, ap, sym}
 use Rattle.blockcache.proofs.InvGraph.{alloc_fixed, dirty_fixed, unalloc_fixed}
 use Rattle.blockcache.proofs.InvLaws.{set_ephemeral}
-use Rattle.base.proofs.Maps.{del_in, del_other, del_some, in_del, in_put, none_del, not_both, put_in, put_other, put_same, put_some, some_of}
+use Rattle.base.proofs.Maps.{del_in, del_other, del_some, in_del, in_put, none_del, not_both, put_in, put_other, put_same, put_some}
+use Rattle.base.proofs.Maps.{some_of}
 use Rattle.base.proofs.Tests.{never}
 use Rattle.base.specs.Maps.{Map, del, is_some, put}
 use Rattle.blockcache.specs.Upstream.{Alloc, Dirty, Evict, In, PageInNodeResp, Ready, SameSuccs, Unalloc, ready}
@@ -20,7 +21,8 @@ use Rattle.blocksystem.proofs.Laws.{answered_awaited, answered_queued, same_del,
 
 -- the same pictures but for the working one
 abbrev pub working_maps : PictureMaps → Map Node → PictureMaps
-working_maps t w = record { place = t.place; picture = t.picture; second = t.second; second_picture = t.second_picture; working = w; frozen = t.frozen }
+working_maps t w =
+    record { place = t.place; picture = t.picture; second = t.second; second_picture = t.second_picture; working = w; frozen = t.frozen }
 
 -- the frozen table needs no cached node of the reference: it needs one only of a reference that it doesn't locate
 abbrev pub Unneeded : IndirectionTable → ℕ → Type 0
@@ -36,12 +38,14 @@ module _ {nodes : Imap Node} {f : IndirectionTable} {cache pic : Map Node} (o : 
 
   -- what is cached of another reference is as it was
   pub frozen_cache : {cache' : Map Node} → Unneeded f ref → ((k : ℕ) → (k ≡ ref → ⊥) → cache' k ≡ cache k) → FrozenOk nodes f cache' pic
-  frozen_cache unneeded same = record { pictured = o.pictured; cached = λ k g e. let c = o.cached k g e in (c.0, same k (unneeded k g e) ∙ c.1, c.2) }
+  frozen_cache unneeded same =
+      record { pictured = o.pictured; cached = λ k g e. let c = o.cached k g e in (c.0, same k (unneeded k g e) ∙ c.1, c.2) }
 
 -- A NODE PAGED IN
 
 pub keep_page_in : (d : ℕ) (x y : Ready) (v v' : DVariables) (t : PictureMaps) (id : ℕ) (n : Option Node) →
-    Whole d (ready x) v t → Inv d (ready y) → PageInNodeResp x y id n → AckReadNode v v' id n → Whole d (ready y) (next_vars v (resp_read_node id n)) t
+    Whole d (ready x) v t → Inv d (ready y) → PageInNodeResp x y id n → AckReadNode v v' id n →
+    Whole d (ready y) (next_vars v (resp_read_node id n)) t
 keep_page_in d x y v v' t id n w i u a =
     let p = w.phase in
     rw u.next
@@ -65,7 +69,8 @@ keep_page_in d x y v v' t id n w i u a =
         working = record {
           pictured = p.working.pictured;
           cached = λ r m g q.
-              ⊎_elim (λ (z : (r ≡ u.ref) × (u.block ≡ m)). rw z.0 (pictured ∙ ap some z.1)) (λ z. p.working.cached r m g z.1) (put_some x.cache u.ref u.block r q);
+              ⊎_elim (λ (z : (r ≡ u.ref) × (u.block ≡ m)). rw z.0 (pictured ∙ ap some z.1)) (λ z. p.working.cached r m g z.1)
+              (put_some x.cache u.ref u.block r q);
         };
         frozen = λ f q.
             let o = p.frozen f q in
@@ -100,9 +105,15 @@ keep_evict d x y v t ref w i u =
         persistent = p.persistent;
         frozen_place = p.frozen_place;
         writes = p.writes;
-        reads = record { awaited = p.reads.awaited; queued = p.reads.queued; uncached = λ j r q. let h = p.reads.uncached j r q in (h.0, none_del x.cache ref r h.1) };
+        reads = record {
+          awaited = p.reads.awaited;
+          queued = p.reads.queued;
+          uncached = λ j r q. let h = p.reads.uncached j r q in
+              (h.0, none_del x.cache ref r h.1);
+        };
         working = record { pictured = p.working.pictured; cached = λ r m g q. p.working.cached r m g (del_some x.cache ref r q).1 };
-        frozen = λ f q. frozen_cache (p.frozen f q) ref (unneeded_located f ref (u.frozen_located f q)) (λ k ne. del_other x.cache ref k ne);
+        frozen = λ f q. frozen_cache (p.frozen f q) ref (unneeded_located f ref (u.frozen_located f q))
+            (λ k ne. del_other x.cache ref k ne);
       };
     })
 
@@ -136,7 +147,8 @@ keep_unalloc d x y v t ref w i u =
         working = record {
           pictured = record {
             refs = same_del t.working x.ephemeral_indirection_table.graph o.refs ref;
-            lists = λ r list n a b. o.lists r list n (del_some x.ephemeral_indirection_table.graph ref r a).1 (del_some t.working ref r b).1;
+            lists = λ r list n a b. o.lists r list n (del_some x.ephemeral_indirection_table.graph ref r a).1
+                (del_some t.working ref r b).1;
             located = λ r l q.
                 let e = del_some x.ephemeral_indirection_table.locs ref r q in
                 let s = o.located r l e.1 in
@@ -146,16 +158,19 @@ keep_unalloc d x y v t ref w i u =
               let e = del_in x.ephemeral_indirection_table.graph ref r g in
               del_other t.working ref r e.0 ∙ p.working.cached r m e.1 (del_some x.cache ref r q).1;
         };
-        frozen = λ f q. frozen_cache (p.frozen f q) ref (unneeded_located f ref (u.frozen_located f q)) (λ k ne. del_other x.cache ref k ne);
+        frozen = λ f q. frozen_cache (p.frozen f q) ref (unneeded_located f ref (u.frozen_located f q))
+            (λ k ne. del_other x.cache ref k ne);
       };
     })
 
 -- a reference's node set in the cache and the picture, its list in the graph; its location, if it had one, is dropped
-module _ (d : ℕ) (x y : Ready) (v : DVariables) (t : PictureMaps) (ref : ℕ) (n : Node) (list : Succs) (w : Whole d (ready x) v t) (i : Inv d (ready y)) where
+module _ (d : ℕ) (x y : Ready) (v : DVariables) (t : PictureMaps) (ref : ℕ) (n : Node) (list : Succs) (w : Whole d (ready x) v t)
+    (i : Inv d (ready y)) where
   abbrev table : IndirectionTable
   table = x.ephemeral_indirection_table
 
-  keep_set : y ≡ set_ephemeral x (record { locs = del table.locs ref; graph = put table.graph ref list }) (put x.cache ref n) → SameSuccs list n →
+  keep_set : y ≡ set_ephemeral x (record { locs = del table.locs ref; graph = put table.graph ref list }) (put x.cache ref n) →
+      SameSuccs list n →
       ((id k : ℕ) → x.outstanding_block_reads id ≡ some k → k ≡ ref → ⊥) →
       ((f : IndirectionTable) → x.frozen_indirection_table ≡ some f → Unneeded f ref) →
       Whole d (ready y) v (working_maps t (put t.working ref n))
@@ -195,7 +210,8 @@ module _ (d : ℕ) (x y : Ready) (v : DVariables) (t : PictureMaps) (ref : ℕ) 
             };
             cached = λ r m g q.
                 ⊎_elim (λ (z : (r ≡ ref) × (n ≡ m)). rw z.0 (put_same t.working ref n ∙ ap some z.1))
-                (λ z. put_other t.working ref n r z.0 ∙ p.working.cached r m (put_in table.graph ref list r z.0 g) z.1) (put_some x.cache ref n r q);
+                (λ z. put_other t.working ref n r z.0 ∙ p.working.cached r m (put_in table.graph ref list r z.0 g) z.1)
+                (put_some x.cache ref n r q);
           };
           frozen = λ f q. frozen_cache (p.frozen f q) ref (unneeded f q) (λ k ne. put_other x.cache ref n k ne);
         };

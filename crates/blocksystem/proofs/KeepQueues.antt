@@ -7,11 +7,13 @@ use Rattle.base.proofs.Maps.{del_other, del_some, in_del, in_put_same, put_other
 use Rattle.base.proofs.Tests.{never}
 use Rattle.base.specs.Maps.{Map, del}
 use Rattle.blockcache.specs.LetGo.{AwaitsRead, LetNodeGo, LetTableGo}
-use Rattle.blockcache.specs.Upstream.{IdleOp, In, PageInIndirectionTableReq, PageInNodeReq, Ready, ReceiveLoc, Variables, WriteBackNodeResp, loading_indirection_table, ready, unready}
+use Rattle.blockcache.specs.Upstream.{IdleOp, In, PageInIndirectionTableReq, PageInNodeReq, Ready, ReceiveLoc, Variables, WriteBackNodeResp}
+use Rattle.blockcache.specs.Upstream.{loading_indirection_table, ready, unready}
 use Rattle.blockcache.specs.UpstreamInv.{Inv}
 use Rattle.blockdisk.proofs.Moves.{next_vars}
-use Rattle.blockdisk.specs.Upstream.{Dop, Variables as DVariables, no_disk_op, req_read_indirection_table, req_read_node, req_write_indirection_table, req_write_node}
-use Rattle.blockdisk.specs.Upstream.{resp_read_indirection_table, resp_read_node, resp_write_indirection_table, resp_write_node, set_write_nodes}
+use Rattle.blockdisk.specs.Upstream.{Dop, Variables as DVariables, no_disk_op, req_read_indirection_table, req_read_node}
+use Rattle.blockdisk.specs.Upstream.{req_write_indirection_table, req_write_node, resp_read_indirection_table, resp_read_node}
+use Rattle.blockdisk.specs.Upstream.{resp_write_indirection_table, resp_write_node, set_write_nodes}
 use Rattle.disklayout.specs.declared.Location.{Location}
 use Rattle.sectortype.specs.Abstract.{IndirectionTable}
 use Rattle.sectortype.specs.declared.Node.{Node}
@@ -39,17 +41,26 @@ with_queues v tr nr tw nw =
     }
 
 module _ (d : ℕ) (v : DVariables) (t : PictureMaps) (tr nr tw nw : Map Location)
-    (a : Fewer tr v.req_read_indirection_tables) (b : Fewer nr v.req_read_nodes) (c : Fewer tw v.req_write_indirection_tables) (e : Fewer nw v.req_write_nodes) where
+    (a : Fewer tr v.req_read_indirection_tables) (b : Fewer nr v.req_read_nodes) (c : Fewer tw v.req_write_indirection_tables)
+    (e : Fewer nw v.req_write_nodes) where
   kept_less : {l : Location} {pic : Map Node} → KeptOn d v l pic → KeptOn d (with_queues v tr nr tw nw) l pic
   kept_less k = kept_fewer k c e
 
   phase_less : (s : Variables) → StillQueued v tr nr s → InPhase s v t → InPhase s (with_queues v tr nr tw nw) t
   phase_less (ready x) still p =
       record {
-        persistent = let o = p.persistent in record { place_is = o.place_is; stored = o.stored; no_reads = none_fewer tr v.req_read_indirection_tables a o.no_reads };
-        frozen_place = let o = p.frozen_place in record { place_is = o.place_is; stored = o.stored; writes = λ id k q. o.writes id k (c id k q) };
-        writes = let o = p.writes in record { awaited = λ id k q. o.awaited id k (e id k q); persistent_apart = o.persistent_apart; frozen_apart = o.frozen_apart };
-        reads = record { awaited = λ id k q. p.reads.awaited id k (b id k q); queued = λ id q. still id q (p.reads.queued id q); uncached = p.reads.uncached };
+        persistent = let o = p.persistent in
+            record { place_is = o.place_is; stored = o.stored; no_reads = none_fewer tr v.req_read_indirection_tables a o.no_reads };
+        frozen_place = let o = p.frozen_place in
+            record { place_is = o.place_is; stored = o.stored; writes = λ id k q. o.writes id k (c id k q) };
+        writes = let o = p.writes in
+            record { awaited = λ id k q. o.awaited id k (e id k q); persistent_apart = o.persistent_apart; frozen_apart = o.frozen_apart };
+        reads = record {
+          awaited = λ id k q. p.reads.awaited id k (b id k q);
+          queued = λ id q. still id q
+              (p.reads.queued id q);
+          uncached = p.reads.uncached;
+        };
         working = p.working;
         frozen = p.frozen;
       }
@@ -96,9 +107,11 @@ module _ (v : DVariables) (id : ℕ) where
   still_node n (loading_indirection_table at read) free = λ j e q. q
   still_node n unready free = tt
 
-  still_table : (t : Option IndirectionTable) (s : Variables) → (AwaitsRead s (resp_read_indirection_table id t) → ⊥) → StillQueued v (del tr id) nr s
+  still_table : (t : Option IndirectionTable) (s : Variables) → (AwaitsRead s (resp_read_indirection_table id t) → ⊥) →
+      StillQueued v (del tr id) nr s
   still_table t (ready x) free = λ j i q. q
-  still_table t (loading_indirection_table at read) free = λ j e q. in_del tr id j (λ z. free (inr (id, t, refl, (at, read, refl, rw z at e)))) q
+  still_table t (loading_indirection_table at read) free =
+      λ j e q. in_del tr id j (λ z. free (inr (id, t, refl, (at, read, refl, rw z at e)))) q
   still_table t unready free = tt
 
   still_all : (s : Variables) → StillQueued v tr nr s
@@ -107,7 +120,8 @@ module _ (v : DVariables) (id : ℕ) where
   still_all unready = tt
 
 -- NoOp, with no disk operation or an answer; of a read, one that is not awaited
-pub keep_idle : (d : ℕ) (s : Variables) (v : DVariables) (t : PictureMaps) → Whole d s v t → (dop : Dop) → IdleOp s dop → (AwaitsRead s dop → ⊥) → Whole d s (next_vars v dop) t
+pub keep_idle : (d : ℕ) (s : Variables) (v : DVariables) (t : PictureMaps) → Whole d s v t → (dop : Dop) → IdleOp s dop →
+    (AwaitsRead s dop → ⊥) → Whole d s (next_vars v dop) t
 keep_idle d s v t w (req_read_indirection_table id l) i free = absurd i
 keep_idle d s v t w (req_read_node id l) i free = absurd i
 keep_idle d s v t w (req_write_indirection_table id l x) i free = absurd i
@@ -130,7 +144,8 @@ keep_idle d s v t w no_disk_op i free = w
 
 pub record Survives (v v' : DVariables) : Type 0 where
   pub idle : UnreadyOk v'
-  pub tables : (k : Location) (t : IndirectionTable) → v.indirection_tables k ≡ some t → NoneAt v.req_write_indirection_tables k.addr → v'.indirection_tables k ≡ some t
+  pub tables : (k : Location) (t : IndirectionTable) → v.indirection_tables k ≡ some t → NoneAt v.req_write_indirection_tables k.addr →
+      v'.indirection_tables k ≡ some t
   pub nodes : (k : Location) (n : Node) → v.nodes k ≡ some n → NoneAt v.req_write_nodes k.addr → v'.nodes k ≡ some n
 
 pub keep_crash : (d : ℕ) (s : Variables) (v v' : DVariables) (t : PictureMaps) → Whole d s v t → Survives v v' → Whole d unready v' t
@@ -177,8 +192,10 @@ keep_receive d s' v t t' l w i u n =
       };
     })
 
-pub keep_table_read : (d : ℕ) (at : Location) (read : Option ℕ) (s' : Variables) (v : DVariables) (t : PictureMaps) (id : ℕ) (loc : Location) →
-    Whole d (loading_indirection_table at read) v t → Inv d s' → PageInIndirectionTableReq at read s' id loc → Whole d s' (next_vars v (req_read_indirection_table id loc)) t
+pub keep_table_read : (d : ℕ) (at : Location) (read : Option ℕ) (s' : Variables) (v : DVariables) (t : PictureMaps) (id : ℕ)
+    (loc : Location) →
+    Whole d (loading_indirection_table at read) v t → Inv d s' → PageInIndirectionTableReq at read s' id loc →
+    Whole d s' (next_vars v (req_read_indirection_table id loc)) t
 keep_table_read d at read s' v t id loc w i u =
     rw u.next
     (record {
@@ -256,7 +273,8 @@ keep_read_req d x y v t id ref loc w i u =
               (put_some v.req_read_nodes id loc j q);
           queued = λ j q. in_put_both x.outstanding_block_reads v.req_read_nodes id ref loc j (p.reads.queued j) q;
           uncached = λ j r q.
-              ⊎_elim (λ (z : (j ≡ id) × (ref ≡ r)). rw (← z.1) (u.allocated, u.not_cached)) (λ z. p.reads.uncached j r z.1) (put_some x.outstanding_block_reads id ref j q);
+              ⊎_elim (λ (z : (j ≡ id) × (ref ≡ r)). rw (← z.1) (u.allocated, u.not_cached)) (λ z. p.reads.uncached j r z.1)
+              (put_some x.outstanding_block_reads id ref j q);
         };
         working = p.working;
         frozen = p.frozen;
@@ -291,8 +309,10 @@ keep_let_node_go d x y v t id n w i u =
     })
 
 -- a table's
-pub keep_let_table_go : (d : ℕ) (at : Location) (read : Option ℕ) (s' : Variables) (v : DVariables) (t : PictureMaps) (id : ℕ) (x : Option IndirectionTable) →
-    Whole d (loading_indirection_table at read) v t → Inv d s' → LetTableGo at read s' id → Whole d s' (next_vars v (resp_read_indirection_table id x)) t
+pub keep_let_table_go : (d : ℕ) (at : Location) (read : Option ℕ) (s' : Variables) (v : DVariables) (t : PictureMaps) (id : ℕ)
+    (x : Option IndirectionTable) →
+    Whole d (loading_indirection_table at read) v t → Inv d s' → LetTableGo at read s' id →
+    Whole d s' (next_vars v (resp_read_indirection_table id x)) t
 keep_let_table_go d at read s' v t id x w i u =
     rw u.next
     (record {

@@ -8,11 +8,13 @@ use Rattle.blockcache.proofs.InvReads.{loaded, loaded_fixed}
 use Rattle.base.proofs.Maps.{del_some, not_both, put_some, some_of}
 use Rattle.base.proofs.Tests.{clash, never}
 use Rattle.base.specs.Maps.{Map, del, is_some}
-use Rattle.blockcache.specs.Upstream.{CleanUp, Freeze, PageInIndirectionTableResp, Ready, WriteBackIndirectionTableReq, WriteBackIndirectionTableResp, loading_indirection_table, ready}
+use Rattle.blockcache.specs.Upstream.{CleanUp, Freeze, PageInIndirectionTableResp, Ready, WriteBackIndirectionTableReq}
+use Rattle.blockcache.specs.Upstream.{WriteBackIndirectionTableResp, loading_indirection_table, ready}
 use Rattle.blockcache.specs.UpstreamInv.{Inv}
 use Rattle.blockdisk.proofs.Moves.{next_vars}
 use Rattle.blockdisk.proofs.Reading.{replacing_other, replacing_same}
-use Rattle.blockdisk.specs.Upstream.{AckReadIndirectionTable, Imap, Variables as DVariables, req_write_indirection_table, resp_read_indirection_table, resp_write_indirection_table}
+use Rattle.blockdisk.specs.Upstream.{AckReadIndirectionTable, Imap, Variables as DVariables, req_write_indirection_table}
+use Rattle.blockdisk.specs.Upstream.{resp_read_indirection_table, resp_write_indirection_table}
 use Rattle.disklayout.proofs.Places.{table_overlap_iff}
 use Rattle.disklayout.specs.Device.{device_of}
 use Rattle.disklayout.specs.declared.Location.{Location}
@@ -24,9 +26,16 @@ use Rattle.blocksystem.proofs.Laws.{fewer_del, frozen_none, kept_fewer, kept_key
 -- NO FROZEN PLACE
 
 -- while none is set and no write of it is outstanding, none is named
-no_place : {tables : Imap IndirectionTable} {queue : Map Location} {awaited : Option ℕ} {f : Option IndirectionTable} (loc : Option Location) →
+no_place : {tables : Imap IndirectionTable} {queue : Map Location} {awaited : Option ℕ} {f : Option IndirectionTable}
+    (loc : Option Location) →
     awaited ≡ none → TableWritesAwaited queue awaited loc → FrozenPlaceOk tables queue none awaited none f
-no_place {awaited = awaited} loc e h = record { place_is = sym (frozen_none awaited); stored = λ l g q. never q; writes = λ j k q. never (sym e ∙ (h j k q).0) }
+no_place {awaited =
+    awaited} loc e h = record {
+      place_is = sym (frozen_none awaited);
+      stored = λ l g q. never q;
+      writes = λ j k q. never
+          (sym e ∙ (h j k q).0);
+    }
 
 -- FREEZE
 
@@ -68,7 +77,8 @@ keep_freeze d x y v t blank w i u =
 -- CLEANUP
 
 abbrev pub cleaned_maps : PictureMaps → Location → Map Node → PictureMaps
-cleaned_maps t l p = record { place = l; picture = t.second_picture; second = none; second_picture = p; working = t.working; frozen = t.frozen }
+cleaned_maps t l p =
+    record { place = l; picture = t.second_picture; second = none; second_picture = p; working = t.working; frozen = t.frozen }
 
 -- with no write of it outstanding, a frozen place that is set is named
 pub frozen_named_lem : (d : ℕ) (x : Ready) (v : DVariables) (t : PictureMaps) (l : Location) → Whole d (ready x) v t →
@@ -102,7 +112,8 @@ keep_clean_up d x y v t blank w i u =
 -- THE FROZEN TABLE WRITTEN
 
 pub keep_table_write : (d : ℕ) (x y : Ready) (v : DVariables) (t : PictureMaps) (id : ℕ) (loc : Location) (f : IndirectionTable) →
-    Whole d (ready x) v t → Inv d (ready y) → WriteBackIndirectionTableReq d x y id loc f → (loc.addr ≡ x.persistent_indirection_table_loc.addr → ⊥) →
+    Whole d (ready x) v t → Inv d (ready y) → WriteBackIndirectionTableReq d x y id loc f →
+    (loc.addr ≡ x.persistent_indirection_table_loc.addr → ⊥) →
     Whole d (ready y) (next_vars v (req_write_indirection_table id loc f)) t
 keep_table_write d x y v t id loc f w i u apart =
     let p = w.phase in
@@ -126,7 +137,8 @@ keep_table_write d x y v t id loc f w i u apart =
               let h : some f ≡ some g = sym u.frozen ∙ b in
               rw (← e) (replacing_same v.indirection_tables loc f ∙ h);
           writes = λ j k q.
-              ⊎_elim (λ (z : (j ≡ id) × (loc ≡ k)). (ap some (sym z.0), ap some z.1)) (λ z. never (sym u.no_loc ∙ (p.frozen_place.writes j k z.1).1))
+              ⊎_elim (λ (z : (j ≡ id) × (loc ≡ k)). (ap some (sym z.0), ap some z.1))
+              (λ z. never (sym u.no_loc ∙ (p.frozen_place.writes j k z.1).1))
               (put_some v.req_write_indirection_tables id loc j q);
         };
         writes = record {
@@ -141,10 +153,12 @@ keep_table_write d x y v t id loc f w i u apart =
     })
 
 abbrev pub named_maps : PictureMaps → Location → PictureMaps
-named_maps t l = record { place = t.place; picture = t.picture; second = some l; second_picture = t.frozen; working = t.working; frozen = t.frozen }
+named_maps t l =
+    record { place = t.place; picture = t.picture; second = some l; second_picture = t.frozen; working = t.working; frozen = t.frozen }
 
 pub keep_table_resp : (d : ℕ) (x y : Ready) (v : DVariables) (t : PictureMaps) (id : ℕ) (loc : Location) →
-    Whole d (ready x) v t → Inv d (ready y) → WriteBackIndirectionTableResp x y id loc → Whole d (ready y) (next_vars v (resp_write_indirection_table id)) (named_maps t loc)
+    Whole d (ready x) v t → Inv d (ready y) → WriteBackIndirectionTableResp x y id loc →
+    Whole d (ready y) (next_vars v (resp_write_indirection_table id)) (named_maps t loc)
 keep_table_resp d x y v t id loc w i u =
     rw u.next
     (record {
@@ -196,8 +210,10 @@ keep_table_resp d x y v t id loc w i u =
 
 -- THE TABLE PAGED IN
 
-pub keep_table_page_in : (d : ℕ) (at : Location) (read : Option ℕ) (y : Ready) (v v' : DVariables) (t : PictureMaps) (id : ℕ) (brought : Option IndirectionTable) →
-    Whole d (loading_indirection_table at read) v t → Inv d (ready y) → PageInIndirectionTableResp d at read y id brought → AckReadIndirectionTable v v' id brought →
+pub keep_table_page_in : (d : ℕ) (at : Location) (read : Option ℕ) (y : Ready) (v v' : DVariables) (t : PictureMaps) (id : ℕ)
+    (brought : Option IndirectionTable) →
+    Whole d (loading_indirection_table at read) v t → Inv d (ready y) → PageInIndirectionTableResp d at read y id brought →
+    AckReadIndirectionTable v v' id brought →
     Whole d (ready y) (next_vars v (resp_read_indirection_table id brought)) t
 keep_table_page_in d at read y v v' t id brought w i u a =
     let p = w.phase in
@@ -218,8 +234,18 @@ keep_table_page_in d at read y v v' t id brought w i u a =
               e.0 (cc);
         };
         frozen_place = record { place_is = p.no_second; stored = λ l f q. never q; writes = λ j k q. absurd (p.no_table_writes j k q) };
-        writes = record { awaited = λ j k q. absurd (p.no_node_writes j k q); persistent_apart = λ j z q. never q; frozen_apart = λ l f q. never q };
-        reads = record { awaited = λ j k q. absurd (p.no_node_reads j k q); queued = λ j q. absurd (false≢true q); uncached = λ j r q. never q };
+        writes = record {
+          awaited = λ j k q. absurd
+              (p.no_node_writes j k q);
+          persistent_apart = λ j z q. never q;
+          frozen_apart = λ l f q. never q;
+        };
+        reads = record {
+          awaited = λ j k q. absurd (p.no_node_reads j k q);
+          queued = λ j q. absurd
+              (false≢true q);
+          uncached = λ j r q. never q;
+        };
         working = record {
           pictured = rw p.working
               (record {

@@ -23,7 +23,8 @@ use Rattle.blocksystem.proofs.Laws.{kept_node_write, stored_elsewhere}
 abbrev assign_frozen : Option IndirectionTable → ℕ → Location → Option IndirectionTable
 assign_frozen f ref loc = map (λ t. assign_ref_to_location t ref loc) f
 
-module _ (d : ℕ) (x y : Ready) (v : DVariables) (t : PictureMaps) (id ref : ℕ) (loc : Location) (n : Node) (w : Whole d (ready x) v t) (u : WriteBackNodeReq d x y id loc n ref) where
+module _ (d : ℕ) (x y : Ready) (v : DVariables) (t : PictureMaps) (id ref : ℕ) (loc : Location) (n : Node) (w : Whole d (ready x) v t)
+    (u : WriteBackNodeReq d x y id loc n ref) where
   abbrev p : ReadyOk x v t
   p = w.phase
 
@@ -40,7 +41,8 @@ module _ (d : ℕ) (x y : Ready) (v : DVariables) (t : PictureMaps) (id ref : �
   was f q = (map-eq-some_iff (λ t. assign_ref_to_location t ref loc) x.frozen_indirection_table).0 q
 
   -- a frozen table whose place is set has all its locations
-  unmoved : (l : Location) (f : IndirectionTable) → x.frozen_indirection_table_loc ≡ some l → assign_frozen x.frozen_indirection_table ref loc ≡ some f → x.frozen_indirection_table ≡ some f
+  unmoved : (l : Location) (f : IndirectionTable) → x.frozen_indirection_table_loc ≡ some l →
+      assign_frozen x.frozen_indirection_table ref loc ≡ some f → x.frozen_indirection_table ≡ some f
   unmoved l f a q =
       let g = was f q in
       let c = w.inv.places.frozen_loc l a in
@@ -50,7 +52,8 @@ module _ (d : ℕ) (x y : Ready) (v : DVariables) (t : PictureMaps) (id ref : �
       g.1 ∙ ap some (sym full ∙ g.2)
 
   -- a table that may get the new location, and its picture
-  assign_pictured : (pic : Map Node) (f : IndirectionTable) → NoAddr f.locs loc.addr → (In ref f.graph → f.locs ref ≡ none → pic ref ≡ some n) → Pictured v.nodes f pic →
+  assign_pictured : (pic : Map Node) (f : IndirectionTable) → NoAddr f.locs loc.addr →
+      (In ref f.graph → f.locs ref ≡ none → pic ref ≡ some n) → Pictured v.nodes f pic →
       Pictured (replacing v.nodes loc n) (assign_ref_to_location f ref loc) pic
   assign_pictured pic f free here old =
       record {
@@ -81,9 +84,11 @@ module _ (d : ℕ) (x y : Ready) (v : DVariables) (t : PictureMaps) (id ref : �
       let same : (w.second l q).table ≡ c.table = cc in
       rw same (u.free.frozen c.table c.is)
 
-  new_apart : (locs : Map Location) → NoAddr locs loc.addr → WritesApart x.outstanding_block_writes locs → WritesApart (put x.outstanding_block_writes id new) locs
+  new_apart : (locs : Map Location) → NoAddr locs loc.addr → WritesApart x.outstanding_block_writes locs →
+      WritesApart (put x.outstanding_block_writes id new) locs
   new_apart locs free old j z q =
-      ⊎_elim (λ h. let e : loc ≡ z.loc = ap (λ (o : OutstandingWrite). o.loc) h.1 in rw (← e) free) (λ h. old j z h.1) (put_some x.outstanding_block_writes id new j q)
+      ⊎_elim (λ h. let e : loc ≡ z.loc = ap (λ (o : OutstandingWrite). o.loc) h.1 in rw (← e) free) (λ h. old j z h.1)
+      (put_some x.outstanding_block_writes id new j q)
 
   pub keep_write_req : Inv d (ready y) → Whole d (ready y) (next_vars v (req_write_node id loc n)) t
   keep_write_req i =
@@ -95,7 +100,12 @@ module _ (d : ℕ) (x y : Ready) (v : DVariables) (t : PictureMaps) (id ref : �
         apart = w.apart;
         phase = record {
           persistent = p.persistent;
-          frozen_place = record { place_is = p.frozen_place.place_is; stored = λ l f a q. p.frozen_place.stored l f a (unmoved l f a q); writes = p.frozen_place.writes };
+          frozen_place = record {
+            place_is = p.frozen_place.place_is;
+            stored = λ l f a q. p.frozen_place.stored l f a
+                (unmoved l f a q);
+            writes = p.frozen_place.writes;
+          };
           writes = record {
             awaited = λ j k q.
                 ⊎_elim
@@ -114,7 +124,8 @@ module _ (d : ℕ) (x y : Ready) (v : DVariables) (t : PictureMaps) (id ref : �
             uncached = rw (assign_graph x.ephemeral_indirection_table ref loc) p.reads.uncached;
           };
           working = record {
-            pictured = assign_pictured t.working x.ephemeral_indirection_table u.free.ephemeral (λ g e. p.working.cached ref n g u.cached) p.working.pictured;
+            pictured = assign_pictured t.working x.ephemeral_indirection_table u.free.ephemeral
+                (λ g e. p.working.cached ref n g u.cached) p.working.pictured;
             cached = rw (assign_graph x.ephemeral_indirection_table ref loc) p.working.cached;
           };
           frozen = λ f q.
@@ -122,7 +133,8 @@ module _ (d : ℕ) (x y : Ready) (v : DVariables) (t : PictureMaps) (id ref : �
               let o = p.frozen g.0 g.1 in
               rw (← g.2)
               (record {
-                pictured = assign_pictured t.frozen g.0 (u.free.frozen g.0 g.1) (λ a e. let c = o.cached ref a e in c.2 ∙ sym c.1 ∙ u.cached) o.pictured;
+                pictured = assign_pictured t.frozen g.0 (u.free.frozen g.0 g.1) (λ a e. let c = o.cached ref a e in
+                    c.2 ∙ sym c.1 ∙ u.cached) o.pictured;
                 cached = λ k a e. o.cached k (rw (assign_graph g.0 ref loc) at a) (assign_none g.0 ref loc k e);
               });
         };

@@ -32,7 +32,8 @@ module _ {A B : Type 0} (a : Map A) (b : Map B) (same : SameKeys a b) (k : ℕ) 
   same_none e = (none_iff (a k)).0 (same k ∙ ap is_some e)
 
 -- a key of one map that is one of another, after both get a key
-pub in_put_both : {A B : Type 0} (a : Map A) (b : Map B) (k : ℕ) (v : A) (w : B) (j : ℕ) → (is_some (a j) ≡ true → is_some (b j) ≡ true) → is_some (put a k v j) ≡ true → is_some (put b k w j) ≡ true
+pub in_put_both : {A B : Type 0} (a : Map A) (b : Map B) (k : ℕ) (v : A) (w : B) (j : ℕ) → (is_some (a j) ≡ true → is_some (b j) ≡ true) →
+    is_some (put a k v j) ≡ true → is_some (put b k w j) ≡ true
 unfolding put
 in_put_both a b k v w j h i = split (eqb j k) (λ e. rw e) (λ e. rw e (h (rw e at i)))
 
@@ -66,28 +67,33 @@ none_fewer a b f n id k e = n id k (f id k e)
 -- WHAT IS STORED ON THE DISK
 
 -- a write to another address
-pub stored_elsewhere : {nodes : Imap Node} {l : Location} {p : Option Node} (k : Location) (n : Node) → StoredPictured nodes l p → (l.addr ≡ k.addr → ⊥) →
+pub stored_elsewhere : {nodes : Imap Node} {l : Location} {p : Option Node} (k : Location) (n : Node) → StoredPictured nodes l p →
+    (l.addr ≡ k.addr → ⊥) →
     StoredPictured (replacing nodes k n) l p
 stored_elsewhere {nodes} {l} k n s ne = record { node = s.node; stored = replacing_other nodes k n l ne ∙ s.stored; pictured = s.pictured }
 
 -- a write to an address that no location has
-pub located_write : (nodes : Imap Node) (k : Location) (n : Node) (locs : Map Location) (pic : Map Node) → Located nodes locs pic → NoAddr locs k.addr → Located (replacing nodes k n) locs pic
+pub located_write : (nodes : Imap Node) (k : Location) (n : Node) (locs : Map Location) (pic : Map Node) → Located nodes locs pic →
+    NoAddr locs k.addr → Located (replacing nodes k n) locs pic
 located_write nodes k n locs pic h free ref l e = stored_elsewhere k n (h ref l e) (free ref l e)
 
 -- A NAMED PLACE
 
-module _ {d : ℕ} {tables : Imap IndirectionTable} {nodes : Imap Node} {tw nw : Map Location} {l : Location} {pic : Map Node} (h : Kept d tables nodes tw nw l pic) where
+module _ {d : ℕ} {tables : Imap IndirectionTable} {nodes : Imap Node} {tw nw : Map Location} {l : Location} {pic : Map Node}
+    (h : Kept d tables nodes tw nw l pic) where
   pub kept_keys : SameKeys pic h.table.locs
   kept_keys ref =
       split (is_some (h.table.locs ref))
       (λ e. let d = some_of h.table.locs ref e in e' (h.located ref d.0 d.1) e)
       (λ e. rw (e, h.no_more ref ((none_iff (h.table.locs ref)).0 e)))
     where
-      e' : {k : Location} → StoredPictured nodes k (pic ref) → is_some (h.table.locs ref) ≡ true → is_some (pic ref) ≡ is_some (h.table.locs ref)
+      e' : {k : Location} → StoredPictured nodes k (pic ref) → is_some (h.table.locs ref) ≡ true →
+          is_some (pic ref) ≡ is_some (h.table.locs ref)
       e' s e = rw (e, s.pictured)
 
   -- a node written to an address that no location of its table has
-  pub kept_node_write : (id : ℕ) (k : Location) (n : Node) → NoAddr h.table.locs k.addr → Kept d tables (replacing nodes k n) tw (put nw id k) l pic
+  pub kept_node_write : (id : ℕ) (k : Location) (n : Node) → NoAddr h.table.locs k.addr →
+      Kept d tables (replacing nodes k n) tw (put nw id k) l pic
   kept_node_write id k n free =
       record {
         table = h.table;
@@ -99,11 +105,13 @@ module _ {d : ℕ} {tables : Imap IndirectionTable} {nodes : Imap Node} {tw nw :
         lists = h.lists;
         none_at_place = h.none_at_place;
         none_at_nodes = λ ref m e j q p a.
-            ⊎_elim (λ (x : (j ≡ id) × (k ≡ q)). free ref m e (sym (ap (λ y. y.addr) x.1 ∙ a))) (λ x. h.none_at_nodes ref m e j q x.1 a) (put_some nw id k j p);
+            ⊎_elim (λ (x : (j ≡ id) × (k ≡ q)). free ref m e (sym (ap (λ y. y.addr) x.1 ∙ a))) (λ x. h.none_at_nodes ref m e j q x.1 a)
+            (put_some nw id k j p);
       }
 
   -- a table written in another area
-  pub kept_table_write : (id : ℕ) (k : Location) (t : IndirectionTable) → (k.addr ≡ l.addr → ⊥) → Kept d (replacing tables k t) nodes (put tw id k) nw l pic
+  pub kept_table_write : (id : ℕ) (k : Location) (t : IndirectionTable) → (k.addr ≡ l.addr → ⊥) →
+      Kept d (replacing tables k t) nodes (put tw id k) nw l pic
   kept_table_write id k t apart =
       record {
         table = h.table;
@@ -113,7 +121,8 @@ module _ {d : ℕ} {tables : Imap IndirectionTable} {nodes : Imap Node} {tw nw :
         complete = h.complete;
         distinct = h.distinct;
         lists = h.lists;
-        none_at_place = λ j q p a. ⊎_elim (λ (x : (j ≡ id) × (k ≡ q)). apart (ap (λ y. y.addr) x.1 ∙ a)) (λ x. h.none_at_place j q x.1 a) (put_some tw id k j p);
+        none_at_place = λ j q p a. ⊎_elim (λ (x : (j ≡ id) × (k ≡ q)). apart (ap (λ y. y.addr) x.1 ∙ a)) (λ x. h.none_at_place j q x.1 a)
+            (put_some tw id k j p);
         none_at_nodes = h.none_at_nodes;
       }
 
@@ -140,7 +149,8 @@ module _ {d : ℕ} {tables : Imap IndirectionTable} {nodes : Imap Node} {tw nw :
       record {
         table = h.table;
         stored = still_t l h.table h.stored h.none_at_place;
-        located = λ ref k e. let s = h.located ref k e in record { node = s.node; stored = still_n k s.node s.stored (h.none_at_nodes ref k e); pictured = s.pictured };
+        located = λ ref k e. let s = h.located ref k e in
+            record { node = s.node; stored = still_n k s.node s.stored (h.none_at_nodes ref k e); pictured = s.pictured };
         no_more = h.no_more;
         complete = h.complete;
         distinct = h.distinct;

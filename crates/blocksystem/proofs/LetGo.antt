@@ -47,7 +47,8 @@ module _ (d : ℕ) (q : Call) (o : Records) (c : CacheState) (s : DiskState) whe
       (handed_back d 19 q o c s, joined_let_go_next e),
     )),
     (λ (n, (s', g)). (joined_zero d 19 q o c s).1 (
-      (let_go_accepted (settings_of d s) c q).1 (((or_iff (outside_limits (settings_of d s) c 19 q) false).0 n.cache).0, (s'.machine, g.machine)),
+      (let_go_accepted (settings_of d s) c q).1
+          (((or_iff (outside_limits (settings_of d s) c 19 q) false).0 n.cache).0, (s'.machine, g.machine)),
       disk_answer d 19 q o s refl ∙ (disk_accepted d s (disk_call 19 q)).1 (n.disk refl, (s'.disk, g.disk)),
       refl,
     )),

@@ -42,7 +42,8 @@ use Rattle.queue.specs.Queue.{entry_of, has_of, remove_of}
 use Rattle.queue.specs.declared.Requests.{Requests}
 use Rattle.sectortype.proofs.Maps.{locs_some}
 use Rattle.blocksystem.proofs.Invariant.{Invariant}
-use Rattle.blocksystem.proofs.WaitLaws.{accepted_of, cache_left, disk_form_lem, disk_left, disk_takes, kept, let_go_accepts, read_queued, whole, within}
+use Rattle.blocksystem.proofs.WaitLaws.{accepted_of, cache_left, disk_form_lem, disk_left, disk_takes, kept, let_go_accepts, read_queued}
+use Rattle.blocksystem.proofs.WaitLaws.{whole, within}
 use Rattle.blocksystem.specs.Joined.{disk_call, joined_answer, settings_of}
 use Rattle.blocksystem.specs.Run.{State, after_step}
 use Rattle.blocksystem.specs.Waits.{Asks, loc_read, ref_read}
@@ -103,9 +104,11 @@ module _ (d : ℕ) (s : State) (v : Invariant d s) (id : ℕ) (awaits : awaits_r
     pub node_freed : has_of s1.disk.queues.nodereads id ≡ false
     node_freed = rw queue_after (remove_gone queue (node_queue_form_lem d queue (disk_form_lem d s v).nodereads) id queued)
 
-    module _ (new : ℕ) (fresh : has_of s1.disk.queues.nodereads new ≡ false) (p : Call) (u : Records) (b : Asks p (ReqReadNodeOp new (loc_read s id))) (r : p.reference ≡ ref_read s id) where
+    module _ (new : ℕ) (fresh : has_of s1.disk.queues.nodereads new ≡ false) (p : Call) (u : Records)
+        (b : Asks p (ReqReadNodeOp new (loc_read s id))) (r : p.reference ≡ ref_read s id) where
       -- as upstream says it: allocated, located there, not cached, and no other read of it
-      page_in : PageInNodeReq (ready_vars c1) (set_reads (ready_vars c1) (put (ready_vars c1).outstanding_block_reads new p.reference)) new (loc_read s id) p.reference
+      page_in : PageInNodeReq (ready_vars c1)
+          (set_reads (ready_vars c1) (put (ready_vars c1).outstanding_block_reads new p.reference)) new (loc_read s id) p.reference
       page_in =
           let w = whole d s v ok in
           let h = w.phase.reads.uncached id (ref_read s id) (reads_at reading id known) in
@@ -126,16 +129,21 @@ module _ (d : ℕ) (s : State) (v : Invariant d s) (id : ℕ) (awaits : awaits_r
       cache_pages_in =
           let x = ready_vars c1 in
           let v1 = kept d s v q o in
-          let unread = split (has_of s1.cache.outstanding.reads new) (λ t. clash (read_queued d s1 v1 (rw cache_after ok) new t) fresh) (λ t. t) in
-          let room = lt-leb 16 (remove_of reading id).count (remove_room reading (reads_requests c ((cache_form_iff d c).0 v.cache_form_lem).0) id known) in
+          let unread = split (has_of s1.cache.outstanding.reads new) (λ t. clash (read_queued d s1 v1 (rw cache_after ok) new t) fresh)
+          (λ t. t) in
+          let room = lt-leb 16 (remove_of reading id).count
+          (remove_room reading (reads_requests c ((cache_form_iff d c).0 v.cache_form_lem).0) id known) in
           let limits = within d s1 v1 6 p page_in_node_req_step b.limits refl in
           let op : call_op p ≡ req_read_node new (loc_read s id) = rw b.disk refl in
           let id_of : dop_id p.dop ≡ new = rw b.disk refl in
           let y = set_reads x (put x.outstanding_block_reads new p.reference) in
           rw cache_after
           ((cache_accepted (settings_of d s1.disk) c1 6 p refl).1 (
-            (or_iff (outside_limits (settings_of d s1.disk) c1 6 p) (read_narrowed c1 p)).1
-                (rw cache_after at limits, (or_iff (has_of (remove_of reading id) (dop_id p.dop)) (leb 16 (remove_of reading id).count)).1 (rw id_of (rw cache_after at unread), room)),
+            (or_iff (outside_limits (settings_of d s1.disk) c1 6 p) (read_narrowed c1 p)).1 (
+              rw cache_after at limits,
+              (or_iff (has_of (remove_of reading id) (dop_id p.dop))
+                  (leb 16 (remove_of reading id).count)).1 (rw id_of (rw cache_after at unread), room),
+            ),
             (page_in_node_req_step, refl, (ready y, (b.internal, (new, loc_read s id, op, (x, ready_is c1 ok, (y, refl, page_in)))))),
           ))
 
@@ -143,7 +151,8 @@ module _ (d : ℕ) (s : State) (v : Invariant d s) (id : ℕ) (awaits : awaits_r
       disk_pages_in =
           let q1 = s1.disk.queues.nodereads in
           let f = node_queue_form_lem d queue (disk_form_lem d s v).nodereads in
-          let at = queued_node_place d queue (disk_form_lem d s v).nodereads id (loc_read s id) (places_at queue id queued ∙ ap some node_place_lem) in
+          let at = queued_node_place d queue (disk_form_lem d s v).nodereads id (loc_read s id)
+          (places_at queue id queued ∙ ap some node_place_lem) in
           disk_takes d s1 (kept d s v q o) 6 p b.limits
           (rw b.disk
           ((request_iff q1 new (node_allowed d (loc_read s id))).1

@@ -282,7 +282,8 @@ module _ (d : ℕ) (s : State) (q : Call) (o : Records) where
   unfolding joined joined_answer disk_asked
   any_records = refl
 
-  pub list_empty : ((list_asked d s q []).answer ≡ (asked d s 20 q o).answer) × ((list_asked d s q []).place ≡ 0) × (after_list d s q [] ≡ s)
+  pub list_empty : ((list_asked d s q []).answer ≡ (asked d s 20 q o).answer) × ((list_asked d s q []).place ≡ 0)
+      × (after_list d s q [] ≡ s)
   unfolding after_singles
   list_empty =
       let a = list_answered d s q [] in

@@ -16,7 +16,8 @@ use Rattle.blocksystem.specs.Joined.{joined, joined_answer, settings_of}
 use Rattle.blocksystem.proofs.Operations.{list_keeps}
 use Rattle.blocksystem.specs.Run.{JoinedCall, State, accepts_step, after, after_step, choose, moved, operations, step}
 
-step_call_form : (d : ℕ) (s : State) (n : ℕ) (q : Call) (o : Records) → PicturesForm s.pictures → PicturesForm (after_step d s n q o).pictures
+step_call_form : (d : ℕ) (s : State) (n : ℕ) (q : Call) (o : Records) → PicturesForm s.pictures →
+    PicturesForm (after_step d s n q o).pictures
 unfolding joined
 step_call_form d s n q o f =
     split (accepts_step d s n q o)

@@ -154,7 +154,8 @@ abbrev is_write : ℕ → Bool
 is_write k = eqb k table_write_req || eqb k node_write_req
 
 -- every other one leaves the contents as they are
-op_same : (v : DVariables) (op : DiskOp) (n : Node) (t : Table) → is_write (dop_kind op) ≡ false → SameContents v (next_vars v (op_of op n t))
+op_same : (v : DVariables) (op : DiskOp) (n : Node) (t : Table) → is_write (dop_kind op) ≡ false →
+    SameContents v (next_vars v (op_of op n t))
 op_same v (ReqReadIndirectionTableOp id l) n t h = record { tables = refl; nodes = refl }
 op_same v (ReqReadNodeOp id l) n t h = record { tables = refl; nodes = refl }
 op_same v (ReqWriteIndirectionTableOp id l) n t h = absurd (false≢true (sym h))
@@ -219,7 +220,8 @@ queued_ready : (v : DVariables) (op : DiskOp) (n : Node) (t : Table) → is_writ
 queued_ready v (ReqReadIndirectionTableOp id l) n t w m p h = absurd (false≢true w)
 queued_ready v (ReqReadNodeOp id l) n t w m p h = absurd (false≢true w)
 queued_ready v (ReqWriteIndirectionTableOp id l) n t w m p h =
-    table_queued (next_vars v (req_write_indirection_table id l (indirection_table t))) id l (put_same v.req_write_indirection_tables id l) m p h
+    table_queued (next_vars v (req_write_indirection_table id l (indirection_table t))) id l
+    (put_same v.req_write_indirection_tables id l) m p h
 queued_ready v (ReqWriteNodeOp id l) n t w m p h =
     node_queued (next_vars v (req_write_node id l n)) id l (put_same v.req_write_nodes id l) m p h
 queued_ready v (RespReadIndirectionTableOp id b) n t w m p h = absurd (false≢true w)

@@ -16,7 +16,8 @@ use Rattle.blockdisk.proofs.Reading.{stored_table_place, upstream_some}
 use Rattle.blockdisk.specs.Ops.{op_rows}
 use Rattle.blockdisk.specs.Upstream.{disk_vars}
 use Rattle.blockdisk.specs.declared.DiskOp.{DiskOp}
-use Rattle.blockdisk.specs.declared.DiskOp.TheVariants.{NoDiskOp, ReqReadIndirectionTableOp, ReqReadNodeOp, ReqWriteIndirectionTableOp, ReqWriteNodeOp, RespReadIndirectionTableOp, RespReadNodeOp}
+use Rattle.blockdisk.specs.declared.DiskOp.TheVariants.{NoDiskOp, ReqReadIndirectionTableOp, ReqReadNodeOp, ReqWriteIndirectionTableOp}
+use Rattle.blockdisk.specs.declared.DiskOp.TheVariants.{ReqWriteNodeOp, RespReadIndirectionTableOp, RespReadNodeOp}
 use Rattle.blockdisk.specs.declared.DiskOp.TheVariants.{RespWriteIndirectionTableOp, RespWriteNodeOp}
 use Rattle.blockdisk.specs.declared.DiskState.{DiskState}
 use Rattle.disklayout.specs.declared.Location.{Location}
@@ -43,7 +44,8 @@ module _ (d : ℕ) (s : State) (v : Invariant d s) (l : Location) (pic : ℕ →
   unfolding disk_graph
   graph_pictured ref =
       split (is_some (k.table.locs ref))
-      (λ e. let m = some_of k.table.locs ref e in let z = k.located ref m.0 m.1 in rw (k.complete.keys ref, m.1) (z.stored ∙ sym z.pictured))
+      (λ e. let m = some_of k.table.locs ref e in let z = k.located ref m.0 m.1 in
+      rw (k.complete.keys ref, m.1) (z.stored ∙ sym z.pictured))
       (λ e. rw (k.complete.keys ref, e) (sym (k.no_more ref ((none_iff (k.table.locs ref)).0 e))))
 
   graph_keys : (ref : ℕ) → is_some (disk_graph k.table nodes ref) ≡ is_some (k.table.graph ref)
@@ -75,7 +77,8 @@ module _ (d : ℕ) (s : State) (v : Invariant d s) (l : Location) (pic : ℕ →
       }
 
 -- a whole graph is stored at a named place ..
-pub named_whole : (d : ℕ) (s : State) → Invariant d s → (l : Location) → is_named s.pictures l ≡ true → whole_graph d s.disk.records l ≡ true
+pub named_whole : (d : ℕ) (s : State) → Invariant d s → (l : Location) → is_named s.pictures l ≡ true →
+    whole_graph d s.disk.records l ≡ true
 named_whole d s v l h =
     let (m, which, there, p) = (is_named_iff s.pictures l).0 h in
     (wf_succs_iff d s.disk ((disk_form_iff d s.disk).0 v.disk_form_lem) s.cache l).1

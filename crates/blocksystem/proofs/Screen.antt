@@ -24,7 +24,8 @@ use Rattle.blocksystem.specs.Screen.{ReadyShown, differs, reads_differing}
 
 module _ (d : ℕ) (s : State) (v : Invariant d s) where
   -- what the invariant says of a Ready cache
-  in_ready : is_ready s.cache ≡ true → InvReady d (ready_vars s.cache) × ReadyOk (ready_vars s.cache) (disk_vars d s.disk) (picture_maps s.pictures)
+  in_ready : is_ready s.cache ≡ true → InvReady d (ready_vars s.cache)
+      × ReadyOk (ready_vars s.cache) (disk_vars d s.disk) (picture_maps s.pictures)
   in_ready t =
       let e = ready_is s.cache t in
       (subst (Inv d) e v.whole.inv, subst (λ m. InPhase m (disk_vars d s.disk) (picture_maps s.pictures)) e v.whole.phase)
@@ -51,7 +52,8 @@ module _ (d : ℕ) (s : State) (v : Invariant d s) where
         keys = ok.working.pictured.refs;
         shown = λ ref a.
             record {
-              found = ⊎_elim inl (λ at. let l = some_of (locs_of s.cache.tables.ephemeral) ref at in inr (rw l.1 (ap is_some (on_disk_lem ref l.0 l.1).stored)))
+              found = ⊎_elim inl (λ at. let l = some_of (locs_of s.cache.tables.ephemeral) ref at in
+                  inr (rw l.1 (ap is_some (on_disk_lem ref l.0 l.1).stored)))
                   (inv.ephemeral.consistent ref a);
               in_cache = λ n. ok.working.cached ref n a;
               on_disk_lem = on_disk_lem ref;
@@ -59,5 +61,6 @@ module _ (d : ℕ) (s : State) (v : Invariant d s) where
       })
 
 -- along a list
-pub none_differ : (d : ℕ) (calls : List JoinedCall) (s : State) → Invariant d s → starts_named d s calls ≡ true → reads_differing d s calls ≡ 0
+pub none_differ : (d : ℕ) (calls : List JoinedCall) (s : State) → Invariant d s → starts_named d s calls ≡ true →
+    reads_differing d s calls ≡ 0
 none_differ d calls s v n = (each_same d calls s).1 (run_every d (CallSame d) (λ s k v. call_same d s v k) calls s v n)

@@ -41,7 +41,8 @@ use Rattle.blocksystem.specs.Screen.{differs, is_pictured, reads_differing, step
 -- WHAT IS THE PICTURE'S
 
 -- the test is equality with the node that the picture has of the reference
-pub pictured_iff : (picture : Nodes) (ref : ℕ) (n : Node) → nodes_form picture ≡ true → node_form n ≡ true → (is_pictured picture ref n ≡ true) ↔ (nodes_map picture ref ≡ some n)
+pub pictured_iff : (picture : Nodes) (ref : ℕ) (n : Node) → nodes_form picture ≡ true → node_form n ≡ true →
+    (is_pictured picture ref n ≡ true) ↔ (nodes_map picture ref ≡ some n)
 pictured_iff picture ref n f g = (
   (λ e. let h = (and_iff (slot_at picture ref).present (same_node n (slot_at picture ref).node)).0 e in
       let there = nodes_at picture ref h.0 in
@@ -66,7 +67,8 @@ pub record HandsOutPictured (d : ℕ) (s : State) (q : Call) (o : Records) : Typ
 
 module _ (d : ℕ) (s : State) (q : Call) (o : Records) where
   -- an accepted read: the cache is Ready, and hands out its node of an allocated reference
-  pub read_cached : (asked d s 17 q o).answer ≡ 0 → (is_ready s.cache ≡ true) × ReadStep (ready_vars s.cache) q.reference (asked d s 17 q o).node
+  pub read_cached : (asked d s 17 q o).answer ≡ 0 → (is_ready s.cache ≡ true)
+      × ReadStep (ready_vars s.cache) q.reference (asked d s 17 q o).node
   unfolding joined
   read_cached e =
       let z = (joined_zero d 17 q o s.cache s.disk).0 e in
@@ -106,7 +108,8 @@ pub not_counted : (d : ℕ) (s : State) (k : JoinedCall) → PicturesForm s.pict
 not_counted d s (step n q o) f h =
     split (is_read n)
     (λ r. let e : n ≡ 17 = eqb-true n 17 r in
-    rw e (split (accepts_step d s 17 q o) (λ t. let z = eqb-true _ _ t in (same_iff d s q o f z).1 (h q o (ap (λ m. step m q o) e) z)) (λ t. rw t)))
+    rw e (split (accepts_step d s 17 q o) (λ t. let z = eqb-true _ _ t in (same_iff d s q o f z).1 (h q o (ap (λ m. step m q o) e) z))
+    (λ t. rw t)))
     (λ r. split (accepts_step d s n q o) (λ t. rw (t, r)) (λ t. rw t))
 not_counted d s choose f h = refl
 not_counted d s (operations q l) f h = refl
@@ -126,16 +129,20 @@ each_same d (k ∷ ks) s =
     )
 
 -- what it is for the count to be 0, from any state whose pictures are in their form ..
-pub reads_iff : (d : ℕ) (s : State) (calls : List JoinedCall) → PicturesForm s.pictures → (reads_differing d s calls ≡ 0) ↔ EveryReadPictured d s calls
+pub reads_iff : (d : ℕ) (s : State) (calls : List JoinedCall) → PicturesForm s.pictures →
+    (reads_differing d s calls ≡ 0) ↔ EveryReadPictured d s calls
 reads_iff d s calls f =
     let each = each_same d calls s in
     let cuts = every_iff d (CallSame d) calls s in (
-      (λ z front back q o e t. (same_iff d (after d s front) q o (run_form d front s f) t).0 (cuts.0 (each.0 z) front back (step 17 q o) e)),
-      (λ h. each.1 (cuts.1 (λ front back k e. not_counted d (after d s front) k (run_form d front s f) (λ q o i. h front back q o (e ∙ ap (λ j. front ++ (j ∷ back)) i))))),
+      (λ z front back q o e t. (same_iff d (after d s front) q o (run_form d front s f) t).0
+          (cuts.0 (each.0 z) front back (step 17 q o) e)),
+      (λ h. each.1 (cuts.1 (λ front back k e. not_counted d (after d s front) k (run_form d front s f)
+          (λ q o i. h front back q o (e ∙ ap (λ j. front ++ (j ∷ back)) i))))),
     )
 
 -- .. so from a newly formatted device, along any list, whatever place its starts are given
-pub run_reads_iff : (d : ℕ) (x : Contents) (r : ℕ) (calls : List JoinedCall) → (reads_differing d (start d x r) calls ≡ 0) ↔ EveryReadPictured d (start d x r) calls
+pub run_reads_iff : (d : ℕ) (x : Contents) (r : ℕ) (calls : List JoinedCall) →
+    (reads_differing d (start d x r) calls ≡ 0) ↔ EveryReadPictured d (start d x r) calls
 run_reads_iff d x r calls = reads_iff d (start d x r) calls (first_forms d x)
 
 -- of one call it is 1 or 0, and of a list cut in two the sum
@@ -143,7 +150,8 @@ pub count_one : (d : ℕ) (s : State) (k : JoinedCall) → reads_differing d s (
 unfolding reads_differing
 count_one d s k = omega arith
 
-pub count_cut : (d : ℕ) (front back : List JoinedCall) (s : State) → reads_differing d s (front ++ back) ≡ reads_differing d s front + reads_differing d (after d s front) back
+pub count_cut : (d : ℕ) (front back : List JoinedCall) (s : State) →
+    reads_differing d s (front ++ back) ≡ reads_differing d s front + reads_differing d (after d s front) back
 unfolding after reads_differing
 count_cut d [] back s = let n = reads_differing d s back in omega arith
 count_cut d (k ∷ ks) back s = let h = count_cut d ks back (moved d s k) in omega arith

@@ -35,9 +35,11 @@ pub record ShownOf (cached : Option Node) (loc : Option Location) (nodes : Imap 
 
 pub record ReadyShownOf (x : Ready) (nodes : Imap Node) (pic : Map Node) : Type 0 where
   pub keys : SameKeys pic x.ephemeral_indirection_table.graph
-  pub shown : (ref : ℕ) → In ref x.ephemeral_indirection_table.graph → ShownOf (x.cache ref) (x.ephemeral_indirection_table.locs ref) nodes (pic ref)
+  pub shown : (ref : ℕ) → In ref x.ephemeral_indirection_table.graph →
+      ShownOf (x.cache ref) (x.ephemeral_indirection_table.locs ref) nodes (pic ref)
 
-module _ (d : ℕ) (s : State) (cache_form_lem : cache_form d s.cache ≡ true) (disk_form_lem : disk_form d s.disk ≡ true) (form : nodes_form s.pictures.working ≡ true) (ref : ℕ) where
+module _ (d : ℕ) (s : State) (cache_form_lem : cache_form d s.cache ≡ true) (disk_form_lem : disk_form d s.disk ≡ true)
+    (form : nodes_form s.pictures.working ≡ true) (ref : ℕ) where
   abbrev nodes : Imap Node
   nodes = (disk_vars d s.disk).nodes
 
@@ -45,11 +47,14 @@ module _ (d : ℕ) (s : State) (cache_form_lem : cache_form d s.cache ≡ true) 
   locs = locs_of s.cache.tables.ephemeral
 
   -- the cached node, if there is one
-  cached_iff : (n : Node) → nodes_map s.cache.nodes ref ≡ some n → (is_pictured s.pictures.working ref n ≡ true) ↔ (nodes_map s.pictures.working ref ≡ some n)
-  cached_iff n e = pictured_iff s.pictures.working ref n form (nodes_form_at s.cache.nodes ((cache_form_iff d s.cache).0 cache_form_lem).0.nodes ref n e)
+  cached_iff : (n : Node) → nodes_map s.cache.nodes ref ≡ some n →
+      (is_pictured s.pictures.working ref n ≡ true) ↔ (nodes_map s.pictures.working ref ≡ some n)
+  cached_iff n e =
+      pictured_iff s.pictures.working ref n form (nodes_form_at s.cache.nodes ((cache_form_iff d s.cache).0 cache_form_lem).0.nodes ref n e)
 
   -- what is stored at a location, if there is something
-  stored_iff : (l : Location) (n : Node) → nodes l ≡ some n → (is_pictured s.pictures.working ref n ≡ true) ↔ (nodes_map s.pictures.working ref ≡ some n)
+  stored_iff : (l : Location) (n : Node) → nodes l ≡ some n →
+      (is_pictured s.pictures.working ref n ≡ true) ↔ (nodes_map s.pictures.working ref ≡ some n)
   stored_iff l n e =
       let f = (disk_form_iff d s.disk).0 disk_form_lem in
       pictured_iff s.pictures.working ref n form (stored_node_form d s.disk.records f.on f.form l n e)
@@ -61,14 +66,22 @@ module _ (d : ℕ) (s : State) (cache_form_lem : cache_form d s.cache ≡ true) 
   shown_there : Shown d s ref → ShownOf (nodes_map s.cache.nodes ref) (locs ref) nodes (nodes_map s.pictures.working ref)
   shown_there h =
       record {
-        found = ⊎_elim (λ t. inl (in_nodes s.cache.nodes ref ∙ t)) (λ t. inr (ap is_some ((record_iff (stored_record d s ref).node).0 (t, refl))))
+        found =
+            ⊎_elim (λ t. inl (in_nodes s.cache.nodes ref ∙ t))
+            (λ t. inr (ap is_some ((record_iff (stored_record d s ref).node).0 (t, refl))))
             (or_cases (cache_slot s ref).present (stored_record d s ref).present h.found);
         in_cache = λ n e. let c = nodes_some s.cache.nodes ref e in (cached_iff n e).0 (rw c.1 at (h.cached c.0));
         on_disk_lem = λ l e.
             let c = locs_some s.cache.tables.ephemeral ref e in
-            let y = (and_iff (stored_record d s ref).present (is_pictured s.pictures.working ref (stored_record d s ref).node)).0 (h.located c.0) in
+            let y = (and_iff (stored_record d s ref).present (is_pictured s.pictures.working ref (stored_record d s ref).node)).0
+            (h.located c.0) in
             let there : nodes l ≡ some (stored_record d s ref).node = rw e at ((record_iff (stored_record d s ref).node).0 (y.0, refl)) in
-            record { node = (stored_record d s ref).node; stored = there; pictured = (stored_iff l (stored_record d s ref).node there).0 y.1 };
+            record {
+              node = (stored_record d s ref).node;
+              stored = there;
+              pictured = (stored_iff l
+                  (stored_record d s ref).node there).0 y.1;
+            };
       }
 
   shown_back : ShownOf (nodes_map s.cache.nodes ref) (locs ref) nodes (nodes_map s.pictures.working ref) → Shown d s ref
@@ -77,7 +90,8 @@ module _ (d : ℕ) (s : State) (cache_form_lem : cache_form d s.cache ≡ true) 
         found = ⊎_elim (λ t. or_inl (stored_record d s ref).present (sym (in_nodes s.cache.nodes ref) ∙ t))
             (λ t. let x = (some_iff (at nodes (locs ref))).0 t in or_inr (cache_slot s ref).present ((record_iff x.0).1 x.1).0)
             h.found;
-        cached = λ t. let e = nodes_at s.cache.nodes ref t in (cached_iff (cache_slot s ref).node e).1 (h.in_cache (cache_slot s ref).node e);
+        cached = λ t. let e = nodes_at s.cache.nodes ref t in
+            (cached_iff (cache_slot s ref).node e).1 (h.in_cache (cache_slot s ref).node e);
         located = λ t.
             let l = (ephemeral_entry s ref).loc in
             let e = locs_at s.cache.tables.ephemeral ref t in

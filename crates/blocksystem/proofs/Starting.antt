@@ -35,11 +35,13 @@ module _ (d : ℕ) (s : DiskState) (f : DiskForm d s) where
   -- what the test says of a table
   pub record Stored (t : Table) : Type 0 where
     pub complete : WFCompleteIndirectionTable d (indirection_table t)
-    pub node : (ref : ℕ) → (entry_at t ref).allocated ≡ true → node_agrees t (entry_at t ref) (read_node d s.records (entry_at t ref).loc) ≡ true
+    pub node : (ref : ℕ) → (entry_at t ref).allocated ≡ true →
+        node_agrees t (entry_at t ref) (read_node d s.records (entry_at t ref).loc) ≡ true
 
   module _ (t : Table) (tf : table_form t ≡ true) where
     -- the graph's node of a reference
-    graph_of_lem : (ref : ℕ) (l : Location) (n : Node) → (entry_at t ref).allocated ≡ true → locs_of t ref ≡ some l → nodes l ≡ some n → disk_graph (indirection_table t) nodes ref ≡ some n
+    graph_of_lem : (ref : ℕ) (l : Location) (n : Node) → (entry_at t ref).allocated ≡ true → locs_of t ref ≡ some l → nodes l ≡ some n →
+        disk_graph (indirection_table t) nodes ref ≡ some n
     unfolding disk_graph
     graph_of_lem ref l n a e h = rw (in_graph t ref, a, e) h
 
@@ -50,7 +52,8 @@ module _ (d : ℕ) (s : DiskState) (f : DiskForm d s) where
       located ref a = sym (in_locs t ref) ∙ sym (h.complete.keys ref) ∙ in_graph t ref ∙ a
 
       agrees : (ref : ℕ) (a : (entry_at t ref).allocated ≡ true) →
-          (nodes (entry_at t ref).loc ≡ some (read_node d s.records (entry_at t ref).loc).node) × SameSuccs (entry_at t ref).succs (read_node d s.records (entry_at t ref).loc).node
+          (nodes (entry_at t ref).loc ≡ some (read_node d s.records (entry_at t ref).loc).node)
+          × SameSuccs (entry_at t ref).succs (read_node d s.records (entry_at t ref).loc).node
           × ((r : ℕ) → has_succ (read_node d s.records (entry_at t ref).loc).node.succs r ≡ true → In r (graph_of t))
       agrees ref a =
           let x = read_node d s.records (entry_at t ref).loc in
@@ -60,8 +63,11 @@ module _ (d : ℕ) (s : DiskState) (f : DiskForm d s) where
             (within_iff t x.node.succs).0 g.1,
           )
 
-      graph_node : (ref : ℕ) (a : (entry_at t ref).allocated ≡ true) → disk_graph (indirection_table t) nodes ref ≡ some (read_node d s.records (entry_at t ref).loc).node
-      graph_node ref a = graph_of_lem ref (entry_at t ref).loc (read_node d s.records (entry_at t ref).loc).node a (locs_at t ref (located ref a)) (agrees ref a).0
+      graph_node : (ref : ℕ) (a : (entry_at t ref).allocated ≡ true) →
+          disk_graph (indirection_table t) nodes ref ≡ some (read_node d s.records (entry_at t ref).loc).node
+      graph_node ref a =
+          graph_of_lem ref (entry_at t ref).loc (read_node d s.records (entry_at t ref).loc).node a (locs_at t ref (located ref a))
+          (agrees ref a).0
 
       in_disk_graph : (ref : ℕ) → In ref (disk_graph (indirection_table t) nodes) → In ref (graph_of t)
       unfolding disk_graph
@@ -101,15 +107,19 @@ module _ (d : ℕ) (s : DiskState) (f : DiskForm d s) where
       (λ e. let h = (and_iff (complete_test d t) (all_below (λ k. ref_agrees d s.records t (entry_at t k)) 64)).0 e in
           record {
             complete = (complete_test_iff d f.on t tf).0 h.0;
-            node = λ ref a. rw a at (all_at (λ k. ref_agrees d s.records t (entry_at t k)) 64 ref h.1 (graph_bounded t tf ref (entry_at t ref).succs (graph_at t ref a)));
+            node = λ ref a. rw a at (all_at (λ k. ref_agrees d s.records t (entry_at t k)) 64 ref h.1
+                (graph_bounded t tf ref (entry_at t ref).succs (graph_at t ref a)));
           }),
       (λ h. and_both ((complete_test_iff d f.on t tf).1 h.complete)
-          (all_of (λ k. ref_agrees d s.records t (entry_at t k)) 64 (λ k b. split (entry_at t k).allocated (λ a. rw a (h.node k a)) (λ a. rw a)))),
+          (all_of (λ k. ref_agrees d s.records t (entry_at t k)) 64
+          (λ k b. split (entry_at t k).allocated (λ a. rw a (h.node k a)) (λ a. rw a)))),
     )
 
     -- what upstream's predicates say of the table
-    pub stored_of : WFCompleteIndirectionTable d (indirection_table t) → ((ref : ℕ) (loc : Location) → locs_of t ref ≡ some loc → is_some (nodes loc) ≡ true) →
-        SuccessorsAgree (graph_of t) (disk_graph (indirection_table t) nodes) → NoDanglingPointers (disk_graph (indirection_table t) nodes) → Stored t
+    pub stored_of : WFCompleteIndirectionTable d (indirection_table t) →
+        ((ref : ℕ) (loc : Location) → locs_of t ref ≡ some loc → is_some (nodes loc) ≡ true) →
+        SuccessorsAgree (graph_of t) (disk_graph (indirection_table t) nodes) →
+        NoDanglingPointers (disk_graph (indirection_table t) nodes) → Stored t
     stored_of c w g p =
         record {
           complete = c;
@@ -160,4 +170,5 @@ module _ (d : ℕ) (s : DiskState) (f : DiskForm d s) where
             let up = upstream_of d s.records l t u.1 in
             let z = u.2 in
             rw (r.0, r.1)
-            ((test_iff t tf).1 (stored_of t tf (rw z w.whole.complete) (λ ref loc e. w.whole.stored ref loc (rw (← z) e)) (rw (← z, up) at w.agree) (rw up at w.closed)))
+            ((test_iff t tf).1 (stored_of t tf (rw z w.whole.complete) (λ ref loc e. w.whole.stored ref loc (rw (← z) e))
+            (rw (← z, up) at w.agree) (rw up at w.closed)))

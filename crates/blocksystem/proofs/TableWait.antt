@@ -35,12 +35,14 @@ use Rattle.queue.proofs.Laws.{remove_gone, remove_room}
 use Rattle.queue.specs.Queue.{entry_of, has_of, remove_of}
 use Rattle.queue.specs.declared.Requests.{Requests}
 use Rattle.blocksystem.proofs.Invariant.{Invariant}
-use Rattle.blocksystem.proofs.WaitLaws.{accepted_of, cache_left, disk_form_lem, disk_left, disk_takes, kept, let_go_accepts, load_queued, whole_loading, within}
+use Rattle.blocksystem.proofs.WaitLaws.{accepted_of, cache_left, disk_form_lem, disk_left, disk_takes, kept, let_go_accepts, load_queued}
+use Rattle.blocksystem.proofs.WaitLaws.{whole_loading, within}
 use Rattle.blocksystem.specs.Joined.{disk_call, joined_answer, settings_of}
 use Rattle.blocksystem.specs.Run.{State, after_step}
 use Rattle.blocksystem.specs.Waits.{Asks, place_read}
 
-module _ (d : ℕ) (s : State) (v : Invariant d s) (id : ℕ) (awaits : awaits_read s.cache (RespReadIndirectionTableOp id Nothing) ≡ true) where
+module _ (d : ℕ) (s : State) (v : Invariant d s) (id : ℕ)
+    (awaits : awaits_read s.cache (RespReadIndirectionTableOp id Nothing) ≡ true) where
   abbrev c : CacheState
   c = s.cache
 
@@ -77,12 +79,14 @@ module _ (d : ℕ) (s : State) (v : Invariant d s) (id : ℕ) (awaits : awaits_r
         cache_left d s v q o (RespReadIndirectionTableOp id Nothing) a awaits disk_lets_go ∙ e
 
     queue_after : s1.disk.queues.tablereads ≡ remove_of queue id
-    queue_after = ap (λ (z : DiskState). z.queues.tablereads) (disk_left d s v q o (RespReadIndirectionTableOp id Nothing) a awaits disk_lets_go)
+    queue_after =
+        ap (λ (z : DiskState). z.queues.tablereads) (disk_left d s v q o (RespReadIndirectionTableOp id Nothing) a awaits disk_lets_go)
 
     pub table_freed : has_of s1.disk.queues.tablereads id ≡ false
     table_freed = rw queue_after (remove_gone queue (table_queue_form_lem d queue (disk_form_lem d s v).tablereads) id queued)
 
-    module _ (new : ℕ) (fresh : has_of s1.disk.queues.tablereads new ≡ false) (p : Call) (u : Records) (b : Asks p (ReqReadIndirectionTableOp new (place_read s))) where
+    module _ (new : ℕ) (fresh : has_of s1.disk.queues.tablereads new ≡ false) (p : Call) (u : Records)
+        (b : Asks p (ReqReadIndirectionTableOp new (place_read s))) where
       cache_pages_in : answer (cache_rows (settings_of d s1.disk) s1.cache 8 p) ≡ 0
       unfolding narrowed step_of steps
       cache_pages_in =
@@ -95,14 +99,18 @@ module _ (d : ℕ) (s : State) (v : Invariant d s) (id : ℕ) (awaits : awaits_r
             (
               page_in_indirection_table_req_step,
               refl,
-              (loading_indirection_table l (some new), (b.internal, (new, l, op, (l, none, loading_is c1 loading, record { no_read = refl; place = refl; next = refl })))),
+              (
+                loading_indirection_table l (some new),
+                (b.internal, (new, l, op, (l, none, loading_is c1 loading, record { no_read = refl; place = refl; next = refl }))),
+              ),
             ),
           ))
 
       disk_pages_in : answer (disk_rows d s1.disk (disk_call 8 p)) ≡ 0
       disk_pages_in =
           let f = table_queue_form_lem d queue (disk_form_lem d s v).tablereads in
-          let at = queued_table_place d queue (disk_form_lem d s v).tablereads id (place_read s) (places_at queue id queued ∙ ap some load_place) in
+          let at = queued_table_place d queue (disk_form_lem d s v).tablereads id (place_read s)
+          (places_at queue id queued ∙ ap some load_place) in
           disk_takes d s1 (kept d s v q o) 8 p b.limits
           (rw b.disk
           ((request_iff s1.disk.queues.tablereads new (table_allowed d (place_read s))).1

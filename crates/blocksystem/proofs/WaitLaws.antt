@@ -47,7 +47,8 @@ use Rattle.blocksystem.specs.Waits.{Asks}
 -- A STEP THAT IS NEITHER START NOR CRASH: accepted where cache and disk accept it
 
 module _ (d : ℕ) (s : State) (n : ℕ) (q : Call) (o : Records) (no_crash : is_crash n ≡ false) (no_start : is_start n ≡ false) where
-  pub accepted_of : answer (cache_rows (settings_of d s.disk) s.cache n q) ≡ 0 → answer (disk_rows d s.disk (disk_call n q)) ≡ 0 → joined_answer d n q o s.cache s.disk ≡ 0
+  pub accepted_of : answer (cache_rows (settings_of d s.disk) s.cache n q) ≡ 0 → answer (disk_rows d s.disk (disk_call n q)) ≡ 0 →
+      joined_answer d n q o s.cache s.disk ≡ 0
   unfolding answer
   accepted_of a b = (joined_zero d n q o s.cache s.disk).1 (a, disk_answer d n q o s.disk no_crash ∙ b, rw no_start)
 
@@ -62,11 +63,15 @@ module _ (d : ℕ) (s : State) (v : Invariant d s) where
   disk_form_lem = (disk_form_iff d s.disk).0 v.disk_form_lem
 
   -- the cache and a call within the limits
-  pub within : (n : ℕ) (q : Call) (k : Step) → call_form q ≡ true → step_of n ≡ some k → outside_limits (settings_of d s.disk) s.cache n q ≡ false
-  within n q k f e = (limits_iff (settings_of d s.disk) s.cache n q).1 (and_both (and_both (and_both v.made_device disk_form_lem.rule) v.cache_form_lem) f, (k, e))
+  pub within : (n : ℕ) (q : Call) (k : Step) → call_form q ≡ true → step_of n ≡ some k →
+      outside_limits (settings_of d s.disk) s.cache n q ≡ false
+  within n q k f e =
+      (limits_iff (settings_of d s.disk) s.cache n q).1
+      (and_both (and_both (and_both v.made_device disk_form_lem.rule) v.cache_form_lem) f, (k, e))
 
   -- an operation of the disk, whose rows are clear
-  pub disk_takes : (n : ℕ) (q : Call) → call_form q ≡ true → Clear (op_rows d s.disk (disk_call n q).op q.node q.table) → answer (disk_rows d s.disk (disk_call n q)) ≡ 0
+  pub disk_takes : (n : ℕ) (q : Call) → call_form q ≡ true → Clear (op_rows d s.disk (disk_call n q).op q.node q.table) →
+      answer (disk_rows d s.disk (disk_call n q)) ≡ 0
   disk_takes n q f k =
       let g = (and_iff (leb q.reference 63 && node_form q.node) (table_form q.table)).0 f in
       (disk_accepted_iff d s.disk (disk_call n q)).1
@@ -83,10 +88,12 @@ module _ (d : ℕ) (s : State) (v : Invariant d s) where
     whole = rw (ready_is s.cache ok) at v.whole
 
     pub read_queued : (id : ℕ) → has_of s.cache.outstanding.reads id ≡ true → has_of s.disk.queues.nodereads id ≡ true
-    read_queued id known = sym (places_has s.disk.queues.nodereads id) ∙ whole.phase.reads.queued id (reads_has s.cache.outstanding.reads id ∙ known)
+    read_queued id known =
+        sym (places_has s.disk.queues.nodereads id) ∙ whole.phase.reads.queued id (reads_has s.cache.outstanding.reads id ∙ known)
 
   -- in another phase none is queued
-  read_awaited : (id : ℕ) → has_of s.disk.queues.nodereads id ≡ true → (is_ready s.cache ≡ true) × (has_of s.cache.outstanding.reads id ≡ true)
+  read_awaited : (id : ℕ) → has_of s.disk.queues.nodereads id ≡ true → (is_ready s.cache ≡ true)
+      × (has_of s.cache.outstanding.reads id ≡ true)
   read_awaited id q = go s.cache.phase v.whole.phase
     where
       reading : Requests
@@ -95,7 +102,8 @@ module _ (d : ℕ) (s : State) (v : Invariant d s) where
       at : places s.disk.queues.nodereads id ≡ some (entry_of s.disk.queues.nodereads id).loc
       at = places_at s.disk.queues.nodereads id q
 
-      go : (p : Phase) → InPhase (vars_in p s.cache) (disk_vars d s.disk) (picture_maps s.pictures) → (ready_phase p ≡ true) × (has_of reading id ≡ true)
+      go : (p : Phase) → InPhase (vars_in p s.cache) (disk_vars d s.disk) (picture_maps s.pictures) → (ready_phase p ≡ true)
+          × (has_of reading id ≡ true)
       go PhaseUnready h = absurd (h.no_node_reads id (entry_of s.disk.queues.nodereads id).loc at)
       go PhaseLoading h = absurd (h.no_node_reads id (entry_of s.disk.queues.nodereads id).loc at)
       go PhaseReady h =
@@ -111,19 +119,23 @@ module _ (d : ℕ) (s : State) (v : Invariant d s) where
   -- A TABLE'S READ, IN LOADING
 
   module _ (loading : loading_phase s.cache.phase ≡ true) where
-    pub whole_loading : Whole d (loading_indirection_table s.cache.places.persistent (awaited_id s.cache.awaited)) (disk_vars d s.disk) (picture_maps s.pictures)
+    pub whole_loading : Whole d (loading_indirection_table s.cache.places.persistent (awaited_id s.cache.awaited)) (disk_vars d s.disk)
+        (picture_maps s.pictures)
     whole_loading = rw (loading_is s.cache loading) at v.whole
 
     pub load_queued : (id : ℕ) → awaits_table s.cache.awaited id ≡ true → has_of s.disk.queues.tablereads id ≡ true
-    load_queued id waits = sym (places_has s.disk.queues.tablereads id) ∙ whole_loading.phase.queued id ((awaits_iff s.cache.awaited id).0 waits)
+    load_queued id waits =
+        sym (places_has s.disk.queues.tablereads id) ∙ whole_loading.phase.queued id ((awaits_iff s.cache.awaited id).0 waits)
 
-  load_awaited : (id : ℕ) → has_of s.disk.queues.tablereads id ≡ true → (loading_phase s.cache.phase ≡ true) × (awaits_table s.cache.awaited id ≡ true)
+  load_awaited : (id : ℕ) → has_of s.disk.queues.tablereads id ≡ true → (loading_phase s.cache.phase ≡ true)
+      × (awaits_table s.cache.awaited id ≡ true)
   load_awaited id q = go s.cache.phase v.whole.phase
     where
       at : places s.disk.queues.tablereads id ≡ some (entry_of s.disk.queues.tablereads id).loc
       at = places_at s.disk.queues.tablereads id q
 
-      go : (p : Phase) → InPhase (vars_in p s.cache) (disk_vars d s.disk) (picture_maps s.pictures) → (loading_phase p ≡ true) × (awaits_table s.cache.awaited id ≡ true)
+      go : (p : Phase) → InPhase (vars_in p s.cache) (disk_vars d s.disk) (picture_maps s.pictures) → (loading_phase p ≡ true)
+          × (awaits_table s.cache.awaited id ≡ true)
       go PhaseUnready h = absurd (h.no_table_reads id (entry_of s.disk.queues.tablereads id).loc at)
       go PhaseLoading h = (refl, (awaits_iff s.cache.awaited id).1 (h.table_reads id (entry_of s.disk.queues.tablereads id).loc at).0)
       go PhaseReady h = absurd (h.persistent.no_reads id (entry_of s.disk.queues.tablereads id).loc at)
@@ -142,7 +154,8 @@ module _ (d : ℕ) (s : State) (v : Invariant d s) (q : Call) (o : Records) (op 
   unfolding step_of steps
   cache_zero =
       let g = settings_of d s.disk in
-      (let_go_awaited g s.cache q).1 (within d s v 19 q let_go_step a.limits refl, a.internal, (awaits_read_iff g s.cache q).0 (rw a.disk awaits))
+      (let_go_awaited g s.cache q).1
+      (within d s v 19 q let_go_step a.limits refl, a.internal, (awaits_read_iff g s.cache q).0 (rw a.disk awaits))
 
   disk_zero : answer (disk_rows d s.disk (disk_call 19 q)) ≡ 0
   disk_zero = disk_takes d s v 19 q a.limits (rw a.disk disk)

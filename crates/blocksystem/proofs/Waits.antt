@@ -12,7 +12,8 @@ use Rattle.blockcache.specs.declared.Call.{Call}
 use Rattle.blockcache.specs.declared.VersionOp.TheVariants.{StatesInternalOp}
 use Rattle.blockdisk.specs.declared.Brought.TheVariants.{Nothing}
 use Rattle.blockdisk.specs.declared.DiskOp.{DiskOp}
-use Rattle.blockdisk.specs.declared.DiskOp.TheVariants.{ReqReadIndirectionTableOp, ReqReadNodeOp, RespReadIndirectionTableOp, RespReadNodeOp}
+use Rattle.blockdisk.specs.declared.DiskOp.TheVariants.{ReqReadIndirectionTableOp, ReqReadNodeOp, RespReadIndirectionTableOp}
+use Rattle.blockdisk.specs.declared.DiskOp.TheVariants.{RespReadNodeOp}
 use Rattle.blockdisk.specs.declared.Records.{Records}
 use Rattle.sectortype.proofs.Forms.{empty_table_form, zero_node_form}
 use Rattle.sectortype.specs.Form.{empty_table, zero_node}
@@ -34,14 +35,16 @@ waits_end d s v =
             place = node_place_lem d s v id e;
             let_go = λ q o a. accepts_of d s 19 q o refl refl (let_go_node d s v id e q o a);
             freed = node_freed d s v id e;
-            again = λ q o a new fresh p u b r. accepts_of d (after_step d s 19 q o) 6 p u refl refl (page_in_node d s v id e q o a new fresh p u b r);
+            again = λ q o a new fresh p u b r. accepts_of d (after_step d s 19 q o) 6 p u refl refl
+                (page_in_node d s v id e q o a new fresh p u b r);
           };
       table = λ id e.
           record {
             place = load_place d s v id e;
             let_go = λ q o a. accepts_of d s 19 q o refl refl (let_go_table d s v id e q o a);
             freed = table_freed d s v id e;
-            again = λ q o a new fresh p u b. accepts_of d (after_step d s 19 q o) 8 p u refl refl (page_in_table d s v id e q o a new fresh p u b);
+            again = λ q o a new fresh p u b. accepts_of d (after_step d s 19 q o) 8 p u refl refl
+                (page_in_table d s v id e q o a new fresh p u b);
           };
     }
 
@@ -52,22 +55,31 @@ plain r op = record { reference = r; vop = StatesInternalOp; dop = op; node = ze
 
 pub plain_asks : (r : ℕ) (op : DiskOp) → r < 64 → Asks (plain r op) op
 plain_asks r op small =
-    record { internal = refl; disk = refl; limits = and_both (and_both (le-leb r 63 (let b = small in omega arith)) zero_node_form) empty_table_form }
+    record {
+      internal = refl;
+      disk = refl;
+      limits = and_both
+          (and_both (le-leb r 63 (let b = small in omega arith)) zero_node_form) empty_table_form;
+    }
 
 module _ (d : ℕ) (s : State) (v : Invariant d s) (id : ℕ) (o u : Records) where
   pub read_again : awaits_read s.cache (RespReadNodeOp id Nothing) ≡ true →
-      accepts_step d (after_step d s 19 (plain 0 (RespReadNodeOp id Nothing)) o) 6 (plain (ref_read s id) (ReqReadNodeOp id (loc_read s id))) u ≡ true
+      accepts_step d (after_step d s 19 (plain 0 (RespReadNodeOp id Nothing)) o) 6
+      (plain (ref_read s id) (ReqReadNodeOp id (loc_read s id))) u ≡ true
   read_again e =
       let w = (waits_end d s v).node id e in
       let q = plain 0 (RespReadNodeOp id Nothing) in
       let a = plain_asks 0 (RespReadNodeOp id Nothing) (omega arith) in
       w.again q o a id (w.freed q o a) (plain (ref_read s id) (ReqReadNodeOp id (loc_read s id))) u
-      (plain_asks (ref_read s id) (ReqReadNodeOp id (loc_read s id)) (read_reference (settings_of d s.disk) s.cache q v.cache_form_lem)) refl
+      (plain_asks (ref_read s id) (ReqReadNodeOp id (loc_read s id))
+      (read_reference (settings_of d s.disk) s.cache q v.cache_form_lem)) refl
 
   pub load_again : awaits_read s.cache (RespReadIndirectionTableOp id Nothing) ≡ true →
-      accepts_step d (after_step d s 19 (plain 0 (RespReadIndirectionTableOp id Nothing)) o) 8 (plain 0 (ReqReadIndirectionTableOp id (place_read s))) u ≡ true
+      accepts_step d (after_step d s 19 (plain 0 (RespReadIndirectionTableOp id Nothing)) o) 8
+      (plain 0 (ReqReadIndirectionTableOp id (place_read s))) u ≡ true
   load_again e =
       let w = (waits_end d s v).table id e in
       let q = plain 0 (RespReadIndirectionTableOp id Nothing) in
       let a = plain_asks 0 (RespReadIndirectionTableOp id Nothing) (omega arith) in
-      w.again q o a id (w.freed q o a) (plain 0 (ReqReadIndirectionTableOp id (place_read s))) u (plain_asks 0 (ReqReadIndirectionTableOp id (place_read s)) (omega arith))
+      w.again q o a id (w.freed q o a) (plain 0 (ReqReadIndirectionTableOp id (place_read s))) u
+      (plain_asks 0 (ReqReadIndirectionTableOp id (place_read s)) (omega arith))

@@ -34,12 +34,14 @@ module _ (d n : ℕ) (q : Call) (o : Records) (c : CacheState) (s : DiskState) w
 
   -- upstream allows the step of this number to end in s'
   abbrev pub MachineTo : Variables → Type 0
-  MachineTo s' = (step : MStep) × (step_of n ≡ some step) × Machine d (system_vars d c s) s' (joined_op n q) (joined_vop n q) q.reference q.node step
+  MachineTo s' =
+      (step : MStep) × (step_of n ≡ some step) × Machine d (system_vars d c s) s' (joined_op n q) (joined_vop n q) q.reference q.node step
 
   -- some next state; of a crash one with the disk that is offered
   pub record SystemAllows : Type 0 where
     pub machine : is_crash n ≡ false → (s' : Variables) × MachineTo s'
-    pub crash : is_crash n ≡ true → (m : MVariables) × Crash (system_vars d c s) (record { machine = m; disk = disk_vars d (crashed s o) }) q.vop
+    pub crash : is_crash n ≡ true → (m : MVariables)
+        × Crash (system_vars d c s) (record { machine = m; disk = disk_vars d (crashed s o) }) q.vop
 
   abbrev pub handed_back : Variables
   handed_back = system_vars d (joined d n q o c s).cache (joined d n q o c s).disk

@@ -2,8 +2,9 @@
 -- answers as the full store's does, and every other step is refused with 29, after 1.
 use Rattle.std.specs.Prelude.{ℕ, Bool, ◌||◌, cond, not, List, [], ◌∷◌, eqb}
 use Rattle.base.specs.Refusals.{Row, ◌when◌, answer}
-use Rattle.blockcache.specs.Steps.{crash_step, evict_step, let_go_step, no_op_step, number_of, page_in_indirection_table_req_step, page_in_indirection_table_resp_step}
-use Rattle.blockcache.specs.Steps.{page_in_node_req_step, page_in_node_resp_step, read_step, receive_loc_step}
+use Rattle.blockcache.specs.Steps.{crash_step, evict_step, let_go_step, no_op_step, number_of, page_in_indirection_table_req_step}
+use Rattle.blockcache.specs.Steps.{page_in_indirection_table_resp_step, page_in_node_req_step, page_in_node_resp_step, read_step}
+use Rattle.blockcache.specs.Steps.{receive_loc_step}
 use Rattle.blockcache.specs.declared.CacheState.{CacheState}
 use Rattle.blockcache.specs.declared.Call.{Call}
 use Rattle.blockdisk.specs.declared.DiskState.{DiskState}

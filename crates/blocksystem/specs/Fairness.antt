@@ -60,11 +60,13 @@ module _ (d : ℕ) where
   abbrev pub LowestAfterLoad : State → Type 0
   LowestAfterLoad s =
       (q : Call) (o : Records) → (asked d s 9 q o).answer ≡ 0 →
-      ((choice d (after_step d s 9 q o)).answer ≡ 0) × ((choice d (after_step d s 9 q o)).block ≡ first_below (free d (after_step d s 9 q o)) 128)
+      ((choice d (after_step d s 9 q o)).answer ≡ 0)
+      × ((choice d (after_step d s 9 q o)).block ≡ first_below (free d (after_step d s 9 q o)) 128)
 
   -- right after a block is given, step 1 refuses its address with neither 6 nor 7, at any length from 1 to the block size
   abbrev pub GivenUsable : State → Type 0
   GivenUsable s =
-      (choice d s).answer ≡ 0 → (q : Call) (o : Records) (id len : ℕ) → q.dop ≡ ReqWriteNodeOp id (record { addr = (choice d s).addr; len = len }) →
+      (choice d s).answer ≡ 0 → (q : Call) (o : Records) (id len : ℕ) →
+      q.dop ≡ ReqWriteNodeOp id (record { addr = (choice d s).addr; len = len }) →
       1 ≤ len → len ≤ node_block_size (device_of d) →
       ((asked d (after_choice d s) 1 q o).answer ≡ 6 → ⊥) × ((asked d (after_choice d s) 1 q o).answer ≡ 7 → ⊥)

@@ -78,7 +78,8 @@ module _ (d : ℕ) where
 
   -- the condition of number k holds: in the rows of the cache, of the disk or of a start
   unfoldable pub conditions : State → ℕ → Call → Records → ℕ → Bool
-  conditions s n q o k = holds k (cache_rows (settings_of d s.disk) s.cache n q) || holds k (disk_side s n q o) || holds k (start_rows d n q s.disk)
+  conditions s n q o k =
+      holds k (cache_rows (settings_of d s.disk) s.cache n q) || holds k (disk_side s n q o) || holds k (start_rows d n q s.disk)
 
   -- it is answered as documents 01 and 02 fix
   pub record StepAnswered (s : State) (n : ℕ) (q : Call) (o : Records) : Type 0 where

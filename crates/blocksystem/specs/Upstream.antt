@@ -6,7 +6,8 @@ use Rattle.base.specs.Maps.{Map, empty, is_some}
 use Rattle.blockcache.specs.Abstract.{cache_vars}
 use Rattle.blockcache.specs.NextStep.{NextStep as MNextStep}
 use Rattle.blockcache.specs.Steps.{Step as MStep}
-use Rattle.blockcache.specs.Upstream.{In, Init as MInit, OutstandingWrite, Ready, SameSuccs, Variables as MVariables, WFCompleteIndirectionTable, loading_indirection_table, ready, unready}
+use Rattle.blockcache.specs.Upstream.{In, Init as MInit, OutstandingWrite, Ready, SameSuccs, Variables as MVariables}
+use Rattle.blockcache.specs.Upstream.{WFCompleteIndirectionTable, loading_indirection_table, ready, unready}
 use Rattle.blockcache.specs.declared.CacheState.{CacheState}
 use Rattle.blockcache.specs.declared.VersionOp.{VersionOp}
 use Rattle.blockcache.specs.declared.VersionOp.TheVariants.{CrashOp, SendPersistentLocOp}

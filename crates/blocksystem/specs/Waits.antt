@@ -6,7 +6,8 @@ use Rattle.blockcache.specs.declared.Call.{Call}
 use Rattle.blockcache.specs.declared.VersionOp.TheVariants.{StatesInternalOp}
 use Rattle.blockdisk.specs.declared.Brought.TheVariants.{Nothing}
 use Rattle.blockdisk.specs.declared.DiskOp.{DiskOp}
-use Rattle.blockdisk.specs.declared.DiskOp.TheVariants.{ReqReadIndirectionTableOp, ReqReadNodeOp, RespReadIndirectionTableOp, RespReadNodeOp}
+use Rattle.blockdisk.specs.declared.DiskOp.TheVariants.{ReqReadIndirectionTableOp, ReqReadNodeOp, RespReadIndirectionTableOp}
+use Rattle.blockdisk.specs.declared.DiskOp.TheVariants.{RespReadNodeOp}
 use Rattle.blockdisk.specs.declared.Records.{Records}
 use Rattle.disklayout.specs.declared.Location.{Location}
 use Rattle.queue.specs.Queue.{entry_of, has_of}
@@ -42,11 +43,13 @@ module _ (d : ℕ) (s : State) where
     -- step 19 with nothing brought is accepted
     pub let_go : (q : Call) (o : Records) → Asks q (RespReadNodeOp id Nothing) → accepts_step d s 19 q o ≡ true
     -- afterwards the id is free ..
-    pub freed : (q : Call) (o : Records) → Asks q (RespReadNodeOp id Nothing) → has_of (after_step d s 19 q o).disk.queues.nodereads id ≡ false
+    pub freed : (q : Call) (o : Records) → Asks q (RespReadNodeOp id Nothing) →
+        has_of (after_step d s 19 q o).disk.queues.nodereads id ≡ false
     -- .. and step 6 of that reference at its location is accepted, under any id that is not outstanding
     pub again : (q : Call) (o : Records) → Asks q (RespReadNodeOp id Nothing) →
         (new : ℕ) → has_of (after_step d s 19 q o).disk.queues.nodereads new ≡ false →
-        (p : Call) (u : Records) → Asks p (ReqReadNodeOp new (loc_read s id)) → p.reference ≡ ref_read s id → accepts_step d (after_step d s 19 q o) 6 p u ≡ true
+        (p : Call) (u : Records) → Asks p (ReqReadNodeOp new (loc_read s id)) → p.reference ≡ ref_read s id →
+        accepts_step d (after_step d s 19 q o) 6 p u ≡ true
 
   -- A TABLE'S READ
 
@@ -54,11 +57,13 @@ module _ (d : ℕ) (s : State) where
     -- the disk reads at the place being loaded
     pub place : (entry_of s.disk.queues.tablereads id).loc ≡ place_read s
     pub let_go : (q : Call) (o : Records) → Asks q (RespReadIndirectionTableOp id Nothing) → accepts_step d s 19 q o ≡ true
-    pub freed : (q : Call) (o : Records) → Asks q (RespReadIndirectionTableOp id Nothing) → has_of (after_step d s 19 q o).disk.queues.tablereads id ≡ false
+    pub freed : (q : Call) (o : Records) → Asks q (RespReadIndirectionTableOp id Nothing) →
+        has_of (after_step d s 19 q o).disk.queues.tablereads id ≡ false
     -- step 8 at that place is accepted
     pub again : (q : Call) (o : Records) → Asks q (RespReadIndirectionTableOp id Nothing) →
         (new : ℕ) → has_of (after_step d s 19 q o).disk.queues.tablereads new ≡ false →
-        (p : Call) (u : Records) → Asks p (ReqReadIndirectionTableOp new (place_read s)) → accepts_step d (after_step d s 19 q o) 8 p u ≡ true
+        (p : Call) (u : Records) → Asks p (ReqReadIndirectionTableOp new (place_read s)) →
+        accepts_step d (after_step d s 19 q o) 8 p u ≡ true
 
   -- EVERY READ
 

@@ -2,7 +2,8 @@
 ghost use Rattle.std.specs.Prelude.{◌≡◌};
 ghost use Rattle.blockcache.specs.Next.{loaded as Next·loaded};
 ghost use Rattle.blockcache.specs.Step.{past_gate};
-ghost use Rattle.blockcache.specs.Steps.{crash_step, page_in_indirection_table_req_step, page_in_indirection_table_resp_step, receive_loc_step};
+ghost use Rattle.blockcache.specs.Steps.{crash_step, page_in_indirection_table_req_step, page_in_indirection_table_resp_step};
+ghost use Rattle.blockcache.specs.Steps.{receive_loc_step};
 
 use crate::Cache;
 use crate::answers::{answered, awaits_table};

@@ -4,7 +4,8 @@ ghost use Rattle.base.specs.Refusals.{answer};
 ghost use Rattle.blockcache.specs.Next.{node_set};
 ghost use Rattle.blockcache.specs.Rows.{own_rows};
 ghost use Rattle.blockcache.specs.Step.{answered, past_gate};
-ghost use Rattle.blockcache.specs.Steps.{alloc_step, clean_up_step, dirty_step, evict_step, freeze_step, no_op_step, read_step, unalloc_step};
+ghost use Rattle.blockcache.specs.Steps.{alloc_step, clean_up_step, dirty_step, evict_step, freeze_step, no_op_step, read_step};
+ghost use Rattle.blockcache.specs.Steps.{unalloc_step};
 
 use crate::Cache;
 use crate::answers::{answered, awaits_table, first_of, is_ready};

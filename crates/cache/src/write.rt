@@ -4,7 +4,8 @@ ghost use Rattle.base.specs.Refusals.{answer};
 ghost use Rattle.blockcache.specs.Next.{assigned};
 ghost use Rattle.blockcache.specs.Rows.{own_rows};
 ghost use Rattle.blockcache.specs.Step.{past_gate};
-ghost use Rattle.blockcache.specs.Steps.{write_back_indirection_table_req_step, write_back_indirection_table_resp_step, write_back_node_req_step, write_back_node_resp_step};
+ghost use Rattle.blockcache.specs.Steps.{write_back_indirection_table_req_step, write_back_indirection_table_resp_step};
+ghost use Rattle.blockcache.specs.Steps.{write_back_node_req_step, write_back_node_resp_step};
 
 use crate::Cache;
 use crate::answers::{answered, awaits_table, first_of};

@@ -1,6 +1,7 @@
 // A crash: the records offered afterwards must be possible ones; nothing is outstanding then.
 ghost use Rattle.std.specs.Prelude.{◌≡◌};
-ghost use Rattle.blockdisk.specs.Crash.{same_table_record, same_node_record, kept_table, kept_node, tables_kept, nodes_kept, records_kept, empty_queues, disk_crash};
+ghost use Rattle.blockdisk.specs.Crash.{same_table_record, same_node_record, kept_table, kept_node, tables_kept, nodes_kept, records_kept};
+ghost use Rattle.blockdisk.specs.Crash.{empty_queues, disk_crash};
 
 use crate::Disk;
 use crate::form::records_ok;

@@ -12,8 +12,9 @@ use Rattle.disklayout.specs.declared.Location.{Location}
 use Rattle.disklayout.specs.Calls.{number_if, place_kind}
 use Rattle.disklayout.specs.Device.{device_of, devices}
 use Rattle.disklayout.specs.Blocks.{first_node_addr, node_blocks_end, node_block_of}
-use Rattle.disklayout.specs.Layout.{indirection_table1_addr, indirection_table2_addr, journal_end_addr, journal_start_addr, valid_indirection_table_addr, valid_indirection_table_location, valid_node_addr}
-use Rattle.disklayout.specs.Layout.{valid_node_location, valid_journal_location, valid_superblock1_location, valid_superblock2_location, overlap}
+use Rattle.disklayout.specs.Layout.{indirection_table1_addr, indirection_table2_addr, journal_end_addr, journal_start_addr}
+use Rattle.disklayout.specs.Layout.{valid_indirection_table_addr, valid_indirection_table_location, valid_node_addr, valid_node_location}
+use Rattle.disklayout.specs.Layout.{valid_journal_location, valid_superblock1_location, valid_superblock2_location, overlap}
 use Rattle.disklayout.specs.Kinds.{kind_of, kind_number}
 use Rattle.disklayout.specs.Journal.{journal_front_location, journal_back_location, journal_pos_add}
 
@@ -45,7 +46,8 @@ ask (journal_place l) = says (valid_journal_location (device_of 0) l)
 ask (overlaps l k) = says (overlap l k)
 ask (front s n) = at (journal_front_location (device_of 0) s n)
 ask (back s n) = at (journal_back_location (device_of 0) s n)
-ask (pos_add s n) = let r = number_if 0 (ltb (journal_pos_add (device_of 0) s n) (2 ^ 64)) (journal_pos_add (device_of 0) s n) in returns r.answer r.value
+ask (pos_add s n) =
+    let r = number_if 0 (ltb (journal_pos_add (device_of 0) s n) (2 ^ 64)) (journal_pos_add (device_of 0) s n) in returns r.answer r.value
 ask (kind_on d l) = let r = place_kind d (kind_of (device_of d) l) in returns r.answer (kind_number r.kind)
 ask (block_on d a) = block (node_block_of (device_of d) a)
 

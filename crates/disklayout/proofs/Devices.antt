@@ -25,7 +25,8 @@ good w =
 
 pub good_iff : (w : Device) → (good w ≡ true) ↔ Good w
 unfolding good
-good_iff w = ((λ e. let h = simp tests at e in record { sized = h.0.0; past = h.0.1; fits = h.1 }), (λ g. simp tests ((g.sized, g.past), g.fits)))
+good_iff w =
+    ((λ e. let h = simp tests at e in record { sized = h.0.0; past = h.0.1; fits = h.1 }), (λ g. simp tests ((g.sized, g.past), g.fits)))
 
 -- the test over the table
 pub table_good : all_below (λ d. good (device_of d)) (length devices) ≡ true

@@ -13,8 +13,9 @@ use Rattle.disklayout.specs.declared.Location.{Location}
 use Rattle.disklayout.specs.Device.{Good}
 use Rattle.disklayout.specs.Layout.{num_journal_blocks, indirection_table_max_length, node_block_size, min_node_block_index}
 use Rattle.disklayout.specs.Layout.{indirection_table1_addr, indirection_table2_addr, journal_start_addr, journal_end_addr}
-use Rattle.disklayout.specs.Layout.{valid_indirection_table_addr, valid_node_addr, valid_journal_location, valid_indirection_table_location, valid_node_location}
-use Rattle.disklayout.specs.Layout.{same_loc, superblock1_location, superblock2_location, valid_superblock1_location, valid_superblock2_location, overlap, location_sub}
+use Rattle.disklayout.specs.Layout.{valid_indirection_table_addr, valid_node_addr, valid_journal_location, valid_indirection_table_location}
+use Rattle.disklayout.specs.Layout.{valid_node_location, same_loc, superblock1_location, superblock2_location, valid_superblock1_location}
+use Rattle.disklayout.specs.Layout.{valid_superblock2_location, overlap, location_sub}
 
 -- a test that cannot pass fails
 pub refuted : {b : Bool} → (b ≡ true → ⊥) → b ≡ false
@@ -22,7 +23,8 @@ refuted {b} h = split b (λ t. absurd (h t)) (λ f. f)
 
 -- ADDRESSES
 
-pub table_addr_iff : (w : Device) (a : ℕ) → (valid_indirection_table_addr w a ≡ true) ↔ ((a ≡ indirection_table1_addr w) ⊎ (a ≡ indirection_table2_addr w))
+pub table_addr_iff : (w : Device) (a : ℕ) →
+    (valid_indirection_table_addr w a ≡ true) ↔ ((a ≡ indirection_table1_addr w) ⊎ (a ≡ indirection_table2_addr w))
 unfolding valid_indirection_table_addr
 table_addr_iff w a = (
   (λ e. ⊎_elim (λ t. inl (eqb-true a (indirection_table1_addr w) t)) (λ t. inr (eqb-true a (indirection_table2_addr w) t))
@@ -58,7 +60,8 @@ journal_iff w l = (
 )
 
 -- upstream's index test says that the place begins before the journal's end
-pub index_iff : (w : Device) (a : ℕ) → journal_start_addr ≤ a → ((a - journal_start_addr) / 4096 < num_journal_blocks w) ↔ (a < journal_end_addr w)
+pub index_iff : (w : Device) (a : ℕ) → journal_start_addr ≤ a →
+    ((a - journal_start_addr) / 4096 < num_journal_blocks w) ↔ (a < journal_end_addr w)
 index_iff w a h = (
   (λ i. omega (arith, (div-lt_iff_lt-mul {k = 4096} {x = a - 8192} {y = w.journal} (omega arith)).0 i)),
   (λ i. (div-lt_iff_lt-mul {k = 4096} {x = a - 8192} {y = w.journal} (omega arith)).1 (omega arith)),
@@ -82,13 +85,17 @@ pub record NodeLoc (w : Device) (l : Location) : Type 0 where
 
 pub node_iff : (w : Device) (l : Location) → (valid_node_location w l ≡ true) ↔ NodeLoc w l
 unfolding valid_node_location
-node_iff w l =
-    ((λ e. let h = simp (node_addr_iff, tests) at e in record { there = h.0; short = h.1 }), (λ n. simp (node_addr_iff, tests) (n.there, n.short)))
+node_iff w l = (
+  (λ e. let h = simp (node_addr_iff, tests) at e in record { there = h.0; short = h.1 }),
+  (λ n. simp (node_addr_iff, tests) (n.there, n.short)),
+)
 
 -- a location is its address and its length
 pub same_loc_iff : (l k : Location) → (same_loc l k ≡ true) ↔ (l ≡ k)
-same_loc_iff l k =
-    ((λ e. let h = simp tests at e in λ i. record { addr = h.0 i; len = h.1 i }), (λ e. rw e (and_both (eq-eqb k.addr k.addr refl) (eq-eqb k.len k.len refl))))
+same_loc_iff l k = (
+  (λ e. let h = simp tests at e in λ i. record { addr = h.0 i; len = h.1 i }),
+  (λ e. rw e (and_both (eq-eqb k.addr k.addr refl) (eq-eqb k.len k.len refl))),
+)
 
 pub superblock1_iff : (l : Location) → (valid_superblock1_location l ≡ true) ↔ (l ≡ superblock1_location)
 unfolding valid_superblock1_location
@@ -126,7 +133,8 @@ sub_iff l k = ((λ e. let h = simp tests at e in record { begins = h.0; ends = h
 
 -- the code's test of a journal place
 pub journal_short : (w : Device) (l : Location) → Good w →
-    (eqb (l.addr % 4096) 0 && eqb (l.len % 4096) 0 && leb journal_start_addr l.addr && ltb l.addr (journal_end_addr w) && leb (l.addr + l.len) (journal_end_addr w + 0))
+    (eqb (l.addr % 4096) 0 && eqb (l.len % 4096) 0 && leb journal_start_addr l.addr && ltb l.addr (journal_end_addr w) && leb
+    (l.addr + l.len) (journal_end_addr w + 0))
     ≡ valid_journal_location w l
 journal_short w l g =
     bool_ext _ _

@@ -4,7 +4,8 @@ use mathlib.Core.Bool.{true, false, ◌&&◌, not, and-false}
 use mathlib.Core.Logic.{◌↔◌}
 use mathlib.Core.Option.{some}
 use Prim.Native.Nat.{ℕ, ◌+◌, ◌-◌, ◌*◌, ◌/◌, ◌^◌, ◌<◌, ◌≤◌}
-use native.Mathlib.Nat.{div-add-mod', mul_comm, add-mul, le-div_iff_mul-le, mul-add-div, mul-div_cancel, mul-le-mul_right, add-mul-mod_self_right, mul-mod_right}
+use native.Mathlib.Nat.{div-add-mod', mul_comm, add-mul, le-div_iff_mul-le, mul-add-div, mul-div_cancel, mul-le-mul_right}
+use native.Mathlib.Nat.{add-mul-mod_self_right, mul-mod_right}
 use native.Mathlib.Omega.{arith}
 use lib.Dec.{eqb, ltb}
 use borrow.Author.Tests.{lt-ltb, le-ltb, ltb-true, ltb-false}
@@ -86,7 +87,8 @@ module _ (w : Device) (g : Good w) where
 
   -- it is told by a quotient: the three cases
   pub block_found : (a : ℕ) → valid_node_addr w a ≡ true → a / w.block - w.first < 128 →
-      ◌≡◌ {A = NumberOption} (record { answer = 0; exists = true; value = a / w.block - w.first }) (number_option_when true (node_block_of w a))
+      ◌≡◌ {A = NumberOption} (record { answer = 0; exists = true; value = a / w.block - w.first })
+      (number_option_when true (node_block_of w a))
   unfolding node_block_of
   block_found a v h = rw (v, lt-ltb (a / w.block - w.first) 128 h)
 
@@ -148,7 +150,8 @@ module _ (w : Device) (g : Good w) where
       )
 
   -- places of two blocks overlap exactly if the blocks are one
-  pub node_places_overlap_iff : (j k : ℕ) (l m : Location) → node_place_in w j l ≡ true → node_place_in w k m ≡ true → (overlap l m ≡ true) ↔ (j ≡ k)
+  pub node_places_overlap_iff : (j k : ℕ) (l m : Location) → node_place_in w j l ≡ true → node_place_in w k m ≡ true →
+      (overlap l m ≡ true) ↔ (j ≡ k)
   node_places_overlap_iff j k l m p q =
       let a = (node_place_in_iff j l).0 p in
       let b = (node_place_in_iff k m).0 q in

@@ -17,8 +17,10 @@ use Rattle.disklayout.specs.Blocks.{first_node_addr}
 use Rattle.disklayout.specs.Calls.{place_kind, flag}
 use Rattle.disklayout.specs.Device.{Good, made, device_of}
 use Rattle.disklayout.specs.Kinds.{kind_of, kind_at_node, kind_number, validities, none_holds, kth_holds}
-use Rattle.disklayout.specs.Layout.{journal_start_addr, node_block_size, superblock1_location, superblock2_location, valid_superblock_location, valid_location, same_loc, overlap}
-use Rattle.disklayout.specs.Layout.{valid_superblock1_location, valid_superblock2_location, valid_journal_location, valid_indirection_table_location, valid_node_addr, valid_node_location}
+use Rattle.disklayout.specs.Layout.{journal_start_addr, node_block_size, superblock1_location, superblock2_location}
+use Rattle.disklayout.specs.Layout.{valid_superblock_location, valid_location, same_loc, overlap, valid_superblock1_location}
+use Rattle.disklayout.specs.Layout.{valid_superblock2_location, valid_journal_location, valid_indirection_table_location, valid_node_addr}
+use Rattle.disklayout.specs.Layout.{valid_node_location}
 use Rattle.disklayout.proofs.Devices.{device_good}
 use Rattle.disklayout.proofs.Facts.{refuted, node_addr_iff, superblock1_iff, superblock2_iff}
 use Rattle.disklayout.proofs.Zones.{valid_as, zones_apart, zones_exclude, below_journal, past_first, past_superblocks, before_nodes}
@@ -39,7 +41,8 @@ kth_one bs one (suc m) (suc n) p q = ap suc (one m n p q)
 
 -- the first of five that holds has its number
 first_holds : (a b c d e : Bool) →
-    kth_holds (a ∷ b ∷ c ∷ d ∷ e ∷ []) (kind_number (cond a Superblock1 (cond b Superblock2 (cond c Journal (cond d Table (cond e Node None)))))) ≡ true
+    kth_holds (a ∷ b ∷ c ∷ d ∷ e ∷ [])
+    (kind_number (cond a Superblock1 (cond b Superblock2 (cond c Journal (cond d Table (cond e Node None)))))) ≡ true
 unfolding kind_number
 first_holds true b c d e = refl
 first_holds false true c d e = refl
@@ -52,15 +55,19 @@ module _ (w : Device) (g : Good w) (l : Location) where
   -- THE KIND OF A PLACE IS NUMBER k EXACTLY WHEN THE k-TH OF UPSTREAM'S FIVE PREDICATES HOLDS OF IT, 0 EXACTLY WHEN NONE DOES
   pub kind_iff : (k : ℕ) → (kind_number (kind_of w l) ≡ k) ↔ (kth_holds (validities w l) k ≡ true)
   unfolding kind_of
-  kind_iff k = ((λ e. rw (← e) first), (λ h. kth_one (validities w l) (λ i j. zones_exclude w g i j l) (kind_number (kind_of w l)) k first h))
+  kind_iff k =
+      ((λ e. rw (← e) first), (λ h. kth_one (validities w l) (λ i j. zones_exclude w g i j l) (kind_number (kind_of w l)) k first h))
     where
       first : kth_holds (validities w l) (kind_number (kind_of w l)) ≡ true
-      first = first_holds (valid_superblock1_location l) (valid_superblock2_location l) (valid_journal_location w l) (valid_indirection_table_location w l) (valid_node_location w l)
+      first =
+          first_holds (valid_superblock1_location l) (valid_superblock2_location l) (valid_journal_location w l)
+          (valid_indirection_table_location w l) (valid_node_location w l)
 
   -- the same as an equation of two tests
   pub kind_test : (k : ℕ) → eqb (kind_number (kind_of w l)) k ≡ kth_holds (validities w l) k
   kind_test k =
-      bool_ext _ _ (λ e. (kind_iff k).0 (eqb-true (kind_number (kind_of w l)) k e)) (λ h. eq-eqb (kind_number (kind_of w l)) k ((kind_iff k).1 h))
+      bool_ext _ _ (λ e. (kind_iff k).0 (eqb-true (kind_number (kind_of w l)) k e))
+      (λ h. eq-eqb (kind_number (kind_of w l)) k ((kind_iff k).1 h))
 
   -- so a place of one kind is of no other
   pub kinds_exclude : (j k : ℕ) → eqb j k ≡ false → kth_holds (validities w l) j ≡ true → kth_holds (validities w l) k ≡ false
@@ -125,7 +132,9 @@ module _ (w : Device) (g : Good w) where
   -- upstream's two predicates over several kinds: of any, and of one superblock or the other
   pub valid_iff_kind : (l : Location) → not (eqb (kind_number (kind_of w l)) 0) ≡ valid_location w l
   unfolding valid_location
-  valid_iff_kind l = rw (kind_test w g l 0) (some_of (valid_superblock1_location l) (valid_superblock2_location l) (valid_journal_location w l) (valid_indirection_table_location w l) (valid_node_location w l))
+  valid_iff_kind l =
+      rw (kind_test w g l 0) (some_of (valid_superblock1_location l) (valid_superblock2_location l) (valid_journal_location w l)
+      (valid_indirection_table_location w l) (valid_node_location w l))
     where
       some_of : (a b c d e : Bool) → not (none_holds (a ∷ b ∷ c ∷ d ∷ e ∷ [])) ≡ (a || b || c || d || e)
       some_of true b c d e = refl
@@ -135,31 +144,41 @@ module _ (w : Device) (g : Good w) where
       some_of false false false false true = refl
       some_of false false false false false = refl
 
-  pub superblock_kinds : (l : Location) → (eqb (kind_number (kind_of w l)) 1 || eqb (kind_number (kind_of w l)) 2) ≡ valid_superblock_location l
+  pub superblock_kinds : (l : Location) →
+      (eqb (kind_number (kind_of w l)) 1 || eqb (kind_number (kind_of w l)) 2) ≡ valid_superblock_location l
   unfolding valid_superblock_location valid_superblock1_location valid_superblock2_location
   superblock_kinds l = rw (kind_test w g l 1, kind_test w g l 2)
 
   -- places of two kinds do not overlap
-  pub kinds_apart : (l m : Location) (j k : ℕ) → kind_number (kind_of w l) ≡ suc j → kind_number (kind_of w m) ≡ suc k → eqb j k ≡ false → overlap l m ≡ false
+  pub kinds_apart : (l m : Location) (j k : ℕ) → kind_number (kind_of w l) ≡ suc j → kind_number (kind_of w m) ≡ suc k → eqb j k ≡ false →
+      overlap l m ≡ false
   kinds_apart l m j k p q e = zones_apart w g j k e l m ((kind_iff w g l (suc j)).0 p) ((kind_iff w g m (suc k)).0 q)
 
   -- THE CODE'S BRANCHES: by its address a place can be of some kinds only
 
   module _ (l : Location) where
-    pub kind_low : l.addr < journal_start_addr → kind_of w l ≡ cond (valid_superblock1_location l) Superblock1 (cond (valid_superblock2_location l) Superblock2 None)
+    pub kind_low : l.addr < journal_start_addr →
+        kind_of w l ≡ cond (valid_superblock1_location l) Superblock1 (cond (valid_superblock2_location l) Superblock2 None)
     unfolding kind_of
     kind_low h = rw (below_journal w g l h 2 (omega arith), below_journal w g l h 3 (omega arith), below_journal w g l h 4 (omega arith))
 
     pub kind_high : first_node_addr w ≤ l.addr → kind_of w l ≡ cond (valid_node_location w l) Node None
     unfolding kind_of
-    kind_high h = rw (past_first w g l h 0 (omega arith), past_first w g l h 1 (omega arith), past_first w g l h 2 (omega arith), past_first w g l h 3 (omega arith))
+    kind_high h =
+        rw (
+          past_first w g l h 0 (omega arith),
+          past_first w g l h 1 (omega arith),
+          past_first w g l h 2 (omega arith),
+          past_first w g l h 3 (omega arith),
+        )
 
     -- at a node address the length decides
     pub kind_at_node_lem : valid_node_addr w l.addr ≡ true → kind_of w l ≡ kind_at_node w l.len
     unfolding valid_node_location
     kind_at_node_lem v = rw (kind_high ((node_addr_iff w l.addr).0 v).high, v)
 
-    pub kind_between : journal_start_addr ≤ l.addr → l.addr < first_node_addr w → kind_of w l ≡ cond (valid_journal_location w l) Journal (cond (valid_indirection_table_location w l) Table None)
+    pub kind_between : journal_start_addr ≤ l.addr → l.addr < first_node_addr w →
+        kind_of w l ≡ cond (valid_journal_location w l) Journal (cond (valid_indirection_table_location w l) Table None)
     unfolding kind_of
     kind_between h k = rw (past_superblocks w g l h 0 (omega arith), past_superblocks w g l h 1 (omega arith), before_nodes w l k)
 
@@ -169,22 +188,27 @@ unfolding kind_number
 at_node_number w n = split (leb n (node_block_size w)) (λ t. rw t) (λ f. rw f)
 
 -- what ValidSuperblockLocation ensures
-pub superblock_cases : (l : Location) → valid_superblock_location l ≡ true → (valid_superblock1_location l ≡ true) ⊎ (valid_superblock2_location l ≡ true)
+pub superblock_cases : (l : Location) → valid_superblock_location l ≡ true →
+    (valid_superblock1_location l ≡ true) ⊎ (valid_superblock2_location l ≡ true)
 unfolding valid_superblock_location valid_superblock1_location valid_superblock2_location
 superblock_cases l e = or_cases (same_loc l superblock1_location) (same_loc l superblock2_location) e
 
 -- ON A DEVICE: the answer is the kind of the k-th predicate exactly where the device is made and the predicate holds
-pub kind_told : (d : ℕ) (l : Location) (k : ℕ) {p : PlaceKind} {b : Bool} → p ≡ place_kind d (kind_of (device_of d) l) → b ≡ eqb (kind_number p.kind) (suc k) →
+pub kind_told : (d : ℕ) (l : Location) (k : ℕ) {p : PlaceKind} {b : Bool} → p ≡ place_kind d (kind_of (device_of d) l) →
+    b ≡ eqb (kind_number p.kind) (suc k) →
     b ≡ (made d && valid_as k (device_of d) l)
 unfolding kind_number
 kind_told d l k e f =
-    rw (f, e) (split (made d) (λ t. rw t (kind_test (device_of d) (device_good d) l (suc k))) (λ t. rw t (ne_eqb 0 (suc k) (λ (z : 0 ≡ suc k). omega arith))))
+    rw (f, e) (split (made d) (λ t. rw t (kind_test (device_of d) (device_good d) l (suc k)))
+    (λ t. rw t (ne_eqb 0 (suc k) (λ (z : 0 ≡ suc k). omega arith))))
 
 -- so whoever asked one of the five questions asks for the kind
-pub table_told : (d : ℕ) (l : Location) {p : PlaceKind} {b : Bool} → p ≡ place_kind d (kind_of (device_of d) l) → b ≡ eqb (kind_number p.kind) 4 →
+pub table_told : (d : ℕ) (l : Location) {p : PlaceKind} {b : Bool} → p ≡ place_kind d (kind_of (device_of d) l) →
+    b ≡ eqb (kind_number p.kind) 4 →
     b ≡ (flag d (valid_indirection_table_location (device_of d) l)).yes
 table_told d l = kind_told d l 3
 
-pub node_told : (d : ℕ) (l : Location) {p : PlaceKind} {b : Bool} → p ≡ place_kind d (kind_of (device_of d) l) → b ≡ eqb (kind_number p.kind) 5 →
+pub node_told : (d : ℕ) (l : Location) {p : PlaceKind} {b : Bool} → p ≡ place_kind d (kind_of (device_of d) l) →
+    b ≡ eqb (kind_number p.kind) 5 →
     b ≡ (flag d (valid_node_location (device_of d) l)).yes
 node_told d l = kind_told d l 4

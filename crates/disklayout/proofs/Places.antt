@@ -22,7 +22,8 @@ apart b x y p q h =
 
 module _ (w : Device) (l k : Location) where
   -- two valid table places overlap exactly if they have one address
-  pub table_overlap_iff : valid_indirection_table_location w l ≡ true → valid_indirection_table_location w k ≡ true → (overlap l k ≡ true) ↔ (l.addr ≡ k.addr)
+  pub table_overlap_iff : valid_indirection_table_location w l ≡ true → valid_indirection_table_location w k ≡ true →
+      (overlap l k ≡ true) ↔ (l.addr ≡ k.addr)
   table_overlap_iff p q = ((λ e. meet ((overlap_iff l k).0 e)), (λ e. (overlap_iff l k).1 (overlapping e)))
     where
       t : TableLoc w l
@@ -52,6 +53,7 @@ module _ (w : Device) (l k : Location) where
       (λ g. omega (arith, ltb-false l.addr k.addr f, ltb-false k.addr l.addr g)))
 
   -- and where neither is empty, exactly those
-  pub node_overlap_iff : valid_node_location w l ≡ true → valid_node_location w k ≡ true → (l.len ≡ 0 → ⊥) → (k.len ≡ 0 → ⊥) → (overlap l k ≡ true) ↔ (l.addr ≡ k.addr)
+  pub node_overlap_iff : valid_node_location w l ≡ true → valid_node_location w k ≡ true → (l.len ≡ 0 → ⊥) → (k.len ≡ 0 → ⊥) →
+      (overlap l k ≡ true) ↔ (l.addr ≡ k.addr)
   node_overlap_iff p q a b =
       (node_overlap_same p q, (λ e. (overlap_iff l k).1 (record { left = omega arith; right = omega arith })))

@@ -16,8 +16,9 @@ use Rattle.disklayout.specs.declared.PlaceOption.{PlaceOption}
 use Rattle.disklayout.specs.Calls.{number_when, place_option_when, zero_loc}
 use Rattle.disklayout.specs.Device.{Good}
 use Rattle.disklayout.specs.Layout.{journal_start_addr, journal_end_addr, valid_journal_location}
-use Rattle.disklayout.specs.Journal.{journal_point, journal_range_requires, journal_range_location, loc_contained_in_circular_journal_range, loc_disjoint_from_circular_journal_range}
-use Rattle.disklayout.specs.Journal.{journal_pos_add, journal_front_location, journal_back_location, journal_block_idx}
+use Rattle.disklayout.specs.Journal.{journal_point, journal_range_requires, journal_range_location, loc_contained_in_circular_journal_range}
+use Rattle.disklayout.specs.Journal.{loc_disjoint_from_circular_journal_range, journal_pos_add, journal_front_location}
+use Rattle.disklayout.specs.Journal.{journal_back_location, journal_block_idx}
 use Rattle.disklayout.proofs.Facts.{journal_iff, index_iff}
 
 -- WHAT UPSTREAM ENSURES
@@ -59,7 +60,8 @@ module _ (w : Device) (g : Good w) where
       (λ t. let q : journal_range_location w s (w.journal - s) ≡ l = some_one (rw (f, t) at e) in
       rw (← q) (range_valid s (w.journal - s) (simp tests (h, omega arith)))))
 
-  pub back_valid : (s n : ℕ) (l : Location) → s < w.journal → n ≤ w.journal → journal_back_location w s n ≡ some l → valid_journal_location w l ≡ true
+  pub back_valid : (s n : ℕ) (l : Location) → s < w.journal → n ≤ w.journal → journal_back_location w s n ≡ some l →
+      valid_journal_location w l ≡ true
   back_valid s n l h k e =
       split (eqb n 0) (λ t. never (rw t at e))
       (λ f. split (leb n (w.journal - s)) (λ t. never (rw (f, t) at e))
@@ -94,7 +96,8 @@ module _ (w : Device) (s n : ℕ) where
   past h = rw (le-leb w.journal (s + n) (omega arith)) (omega arith)
 
   pub pos_past : s < 2 ^ 64 → w.journal ≤ s → n ≤ 18446744073709551615 - (s - w.journal) →
-      ◌≡◌ {A = Number} (record { answer = 0; value = s - w.journal + n }) (number_when (ltb (journal_pos_add w s n) (2 ^ 64)) (journal_pos_add w s n))
+      ◌≡◌ {A = Number} (record { answer = 0; value = s - w.journal + n })
+      (number_when (ltb (journal_pos_add w s n) (2 ^ 64)) (journal_pos_add w s n))
   pos_past b h k = fits_answered (journal_pos_add w s n) (s - w.journal + n) (past h) (omega arith)
 
   pub pos_refused : w.journal ≤ s → 18446744073709551615 - (s - w.journal) < n →
@@ -106,7 +109,8 @@ module _ (w : Device) (s n : ℕ) where
   pos_below b k = fits_answered (journal_pos_add w s n) (s + n) (rw (lt-leb w.journal (s + n) (omega arith))) (omega arith)
 
   pub pos_round : n < 2 ^ 64 → s < w.journal → w.journal - s ≤ n →
-      ◌≡◌ {A = Number} (record { answer = 0; value = n - (w.journal - s) }) (number_when (ltb (journal_pos_add w s n) (2 ^ 64)) (journal_pos_add w s n))
+      ◌≡◌ {A = Number} (record { answer = 0; value = n - (w.journal - s) })
+      (number_when (ltb (journal_pos_add w s n) (2 ^ 64)) (journal_pos_add w s n))
   pos_round b h k =
       fits_answered (journal_pos_add w s n) (n - (w.journal - s)) (rw (le-leb w.journal (s + n) (omega arith)) (omega arith)) (omega arith)
 
@@ -123,16 +127,19 @@ module _ (w : Device) (s n : ℕ) where
   pub front_none : n ≡ 0 → nowhere ≡ place_option_when true (journal_front_location w s n)
   front_none e = rw (eq-eqb n 0 e)
 
-  pub front_whole : (l : Location) → (n ≡ 0 → ⊥) → n ≤ w.journal - s → l ≡ journal_range_location w s n → here l ≡ place_option_when true (journal_front_location w s n)
+  pub front_whole : (l : Location) → (n ≡ 0 → ⊥) → n ≤ w.journal - s → l ≡ journal_range_location w s n →
+      here l ≡ place_option_when true (journal_front_location w s n)
   front_whole l z h e = rw (e, ne_eqb n 0 z, le-leb n (w.journal - s) h)
 
-  pub front_part_lem : (l : Location) → (n ≡ 0 → ⊥) → w.journal - s < n → l ≡ journal_range_location w s (w.journal - s) → here l ≡ place_option_when true (journal_front_location w s n)
+  pub front_part_lem : (l : Location) → (n ≡ 0 → ⊥) → w.journal - s < n → l ≡ journal_range_location w s (w.journal - s) →
+      here l ≡ place_option_when true (journal_front_location w s n)
   front_part_lem l z h e = rw (e, ne_eqb n 0 z, lt-leb n (w.journal - s) h)
 
   pub back_none : n ≤ w.journal - s → nowhere ≡ place_option_when true (journal_back_location w s n)
   back_none h = split (eqb n 0) (λ t. rw t) (λ f. rw (f, le-leb n (w.journal - s) h))
 
-  pub back_part_lem : (l : Location) → w.journal - s < n → l ≡ journal_range_location w 0 (n - (w.journal - s)) → here l ≡ place_option_when true (journal_back_location w s n)
+  pub back_part_lem : (l : Location) → w.journal - s < n → l ≡ journal_range_location w 0 (n - (w.journal - s)) →
+      here l ≡ place_option_when true (journal_back_location w s n)
   back_part_lem l h e = rw (e, ne_eqb n 0 (λ (z : n ≡ 0). omega arith), lt-leb n (w.journal - s) h)
 
 -- CIRCULAR RANGES
@@ -145,7 +152,8 @@ module _ (w : Device) (l : Location) (s n : ℕ) where
   contained_whole h k = rw (le-leb (s + n) w.journal (omega arith))
 
   pub contained_round : s < w.journal → w.journal - s < n →
-      ((leb (journal_point w s) l.addr && leb (l.addr + l.len) (journal_end_addr w)) || (leb journal_start_addr l.addr && leb (l.addr + l.len) (journal_point w (n - (w.journal - s)))))
+      ((leb (journal_point w s) l.addr && leb (l.addr + l.len) (journal_end_addr w)) ||
+      (leb journal_start_addr l.addr && leb (l.addr + l.len) (journal_point w (n - (w.journal - s)))))
       ≡ loc_contained_in_circular_journal_range w l s n
   unfolding loc_contained_in_circular_journal_range
   contained_round h k = let e : s + n - w.journal ≡ n - (w.journal - s) = omega arith in rw (lt-leb (s + n) w.journal (omega arith), e)
@@ -156,7 +164,8 @@ module _ (w : Device) (l : Location) (s n : ℕ) where
   disjoint_whole h k = rw (le-leb (s + n) w.journal (omega arith))
 
   pub disjoint_round : s < w.journal → w.journal - s < n →
-      ((leb (l.addr + l.len) journal_start_addr || leb (journal_end_addr w) l.addr) || (leb (journal_point w (n - (w.journal - s))) l.addr && leb (l.addr + l.len) (journal_point w s)))
+      ((leb (l.addr + l.len) journal_start_addr || leb (journal_end_addr w) l.addr) ||
+      (leb (journal_point w (n - (w.journal - s))) l.addr && leb (l.addr + l.len) (journal_point w s)))
       ≡ loc_disjoint_from_circular_journal_range w l s n
   unfolding loc_disjoint_from_circular_journal_range
   disjoint_round h k = let e : s + n - w.journal ≡ n - (w.journal - s) = omega arith in rw (lt-leb (s + n) w.journal (omega arith), e)

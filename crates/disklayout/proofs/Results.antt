@@ -17,7 +17,8 @@ pub made_iff : (d : ℕ) → (made d ≡ true) ↔ (d ≤ 2)
 made_iff d = (leb-true d 2, le-leb d 2)
 
 -- an option that is handed on where ok holds
-pub option_handed : (ok : Bool) (o : Option ℕ) → cond ok (number_option_when true o) (number_option_when false none) ≡ number_option_when ok o
+pub option_handed : (ok : Bool) (o : Option ℕ) →
+    cond ok (number_option_when true o) (number_option_when false none) ≡ number_option_when ok o
 option_handed true o = refl
 option_handed false o = refl
 

@@ -27,7 +27,8 @@ module _ (w : Device) where
   pub running_addr_lem : (k : ℕ) → running_addr w k ≡ node_block_addr w k
   unfolding running_addr
   running_addr_lem zero = omega arith
-  running_addr_lem (suc k) = let e : running_addr w k ≡ node_block_addr w k = running_addr_lem k in rw (← add-one k, add-mul k 1 w.block) (omega arith)
+  running_addr_lem (suc k) =
+      let e : running_addr w k ≡ node_block_addr w k = running_addr_lem k in rw (← add-one k, add-mul k 1 w.block) (omega arith)
 
   pub running_first : first_node_addr w ≡ running_addr w 0
   unfolding running_addr
@@ -57,7 +58,8 @@ module _ (w : Device) where
   -- where the running address is past a, no later block has it
   pub missed_past : (a k : ℕ) → Missed a k → a < running_addr w k → Missed a 128
   missed_past a k m h j b e =
-      split (ltb j k) (λ t. m j (ltb-true j k t) e) (λ f. let r : running_addr w k ≤ running_addr w j = running_rises k j (ltb-false j k f) in omega arith)
+      split (ltb j k) (λ t. m j (ltb-true j k t) e)
+      (λ f. let r : running_addr w k ≤ running_addr w j = running_rises k j (ltb-false j k f) in omega arith)
 
 module _ (w : Device) (g : Good w) where
   -- NO RUNNING ADDRESS OF A WALK OVER THE 128 BLOCKS PASSES 64 BITS, NOR DOES THE LAST SUM, THEIR END
@@ -97,14 +99,19 @@ module _ (d : ℕ) where
   pub walk_first : {first : Number} → first ≡ number d (first_node_addr (device_of d)) → first.value ≡ running_on d 0
   walk_first e = rw (e, running_first (device_of d))
 
-  pub walk_next : (k : ℕ) {a : ℕ} {size : Number} → a ≡ running_on d k → size ≡ number d (node_block_size (device_of d)) → a + size.value ≡ running_on d (k + 1)
+  pub walk_next : (k : ℕ) {a : ℕ} {size : Number} → a ≡ running_on d k → size ≡ number d (node_block_size (device_of d)) →
+      a + size.value ≡ running_on d (k + 1)
   walk_next k e f = rw (e, f) (split (made d) (λ t. rw t (running_next (device_of d) k)) (λ t. rw t))
 
-  pub walk_fits : (k : ℕ) {a : ℕ} {size : Number} → k < 128 → a ≡ running_on d k → size ≡ number d (node_block_size (device_of d)) → a + size.value < 2 ^ 64
-  walk_fits k h e f = rw (walk_next k e f) (split (made d) (λ t. rw t (running_fits (device_of d) (device_good d) (k + 1) (omega arith))) (λ t. rw t (omega arith)))
+  pub walk_fits : (k : ℕ) {a : ℕ} {size : Number} → k < 128 → a ≡ running_on d k → size ≡ number d (node_block_size (device_of d)) →
+      a + size.value < 2 ^ 64
+  walk_fits k h e f =
+      rw (walk_next k e f) (split (made d) (λ t. rw t (running_fits (device_of d) (device_good d) (k + 1) (omega arith)))
+      (λ t. rw t (omega arith)))
 
   -- and judges the places of each block by their address and length
-  pub place_on : (k : ℕ) (l : Location) {a : ℕ} {may : Flag} → k < 128 → a ≡ running_on d k → may ≡ flag d (node_place_length (device_of d) l.len) →
+  pub place_on : (k : ℕ) (l : Location) {a : ℕ} {may : Flag} → k < 128 → a ≡ running_on d k →
+      may ≡ flag d (node_place_length (device_of d) l.len) →
       (eqb l.addr a && may.yes) ≡ (flag d (node_place_in (device_of d) k l)).yes
   place_on k l h e f =
       rw (e, f) (split (made d) (λ t. rw t (place_at (device_of d) (device_good d) k l h)) (λ t. rw (t, and-false (eqb l.addr 0))))

@@ -15,7 +15,8 @@ use Rattle.base.proofs.Tests.{split, never, tests}
 use Rattle.disklayout.specs.declared.Device.{Device}
 use Rattle.disklayout.specs.declared.Location.{Location}
 use Rattle.disklayout.specs.Device.{Good, device_of, devices}
-use Rattle.disklayout.specs.Layout.{indirection_table1_addr, indirection_table2_addr, valid_indirection_table_location, other_indirection_table_addr, overlap}
+use Rattle.disklayout.specs.Layout.{indirection_table1_addr, indirection_table2_addr, valid_indirection_table_location}
+use Rattle.disklayout.specs.Layout.{other_indirection_table_addr, overlap}
 use Rattle.disklayout.specs.Blocks.{first_node_addr, table_area_addr, table_area_of, table_place_in}
 use Rattle.disklayout.proofs.Devices.{row_past}
 use Rattle.disklayout.proofs.Facts.{table_iff}
@@ -47,7 +48,10 @@ module _ (w : Device) where
   area_second : (a : ℕ) → 0 < w.table → a ≡ table_area_addr w 1 → table_area_of w a ≡ some 1
   unfolding table_area_of
   area_second a t e =
-      rw (ne_eqb a (indirection_table1_addr w) (λ (x : a ≡ indirection_table1_addr w). omega arith), eq-eqb a (indirection_table2_addr w) (omega arith))
+      rw (
+        ne_eqb a (indirection_table1_addr w) (λ (x : a ≡ indirection_table1_addr w). omega arith),
+        eq-eqb a (indirection_table2_addr w) (omega arith),
+      )
 
   area_addr : (a k : ℕ) → table_area_of w a ≡ some k → (k < 2) × (a ≡ table_area_addr w k)
   unfolding table_area_of
@@ -80,7 +84,8 @@ module _ (w : Device) where
   )
 
   -- and its address says which
-  pub table_place_in_of : (k : ℕ) (l : Location) → valid_indirection_table_location w l ≡ true → (table_place_in w k l ≡ true) ↔ (table_area_of w l.addr ≡ some k)
+  pub table_place_in_of : (k : ℕ) (l : Location) → valid_indirection_table_location w l ≡ true →
+      (table_place_in w k l ≡ true) ↔ (table_area_of w l.addr ≡ some k)
   table_place_in_of k l v =
       let u = (table_iff w l).0 v in
       let t : 0 < w.table = omega (arith, u.some_bytes, u.short) in (
@@ -89,21 +94,28 @@ module _ (w : Device) where
       )
 
   -- places of two areas overlap exactly if the areas are one
-  pub table_places_overlap_iff : (j k : ℕ) (l m : Location) → table_place_in w j l ≡ true → table_place_in w k m ≡ true → (overlap l m ≡ true) ↔ (j ≡ k)
+  pub table_places_overlap_iff : (j k : ℕ) (l m : Location) → table_place_in w j l ≡ true → table_place_in w k m ≡ true →
+      (overlap l m ≡ true) ↔ (j ≡ k)
   table_places_overlap_iff j k l m p q =
       let a = (table_place_in_iff j l).0 p in
       let b = (table_place_in_iff k m).0 q in
       let o = table_overlap_iff w l m a.2 b.2 in
       let x = (table_place_in_of j l a.2).0 p in
-      let y = (table_place_in_of k m b.2).0 q in
-      ((λ e. let z : some j ≡ some k = sym x ∙ ap (table_area_of w) (o.0 e) ∙ y in cc), (λ e. o.1 (a.1 ∙ ap (table_area_addr w) e ∙ sym b.1)))
+      let y = (table_place_in_of k m b.2).0 q in (
+        (λ e. let z : some j ≡ some k = sym x ∙ ap (table_area_of w) (o.0 e) ∙ y in cc),
+        (λ e. o.1 (a.1 ∙ ap (table_area_addr w) e ∙ sym b.1)),
+      )
 
   -- the other area's address, for an area's address
   pub other_area : 0 < w.table → (k : ℕ) → k < 2 → other_indirection_table_addr w (table_area_addr w k) ≡ table_area_addr w (1 - k)
   other_area t k h =
       ⊎_elim
       (λ z. rw (z, eq-eqb (table_area_addr w 0) (indirection_table1_addr w) (omega arith)) (omega arith))
-      (λ z. rw (z, ne_eqb (table_area_addr w 1) (indirection_table1_addr w) (λ (x : table_area_addr w 1 ≡ indirection_table1_addr w). omega arith)) (omega arith))
+      (λ z. rw (
+        z,
+        ne_eqb (table_area_addr w 1) (indirection_table1_addr w)
+            (λ (x : table_area_addr w 1 ≡ indirection_table1_addr w). omega arith),
+      ) (omega arith))
       (two_cases k h)
 
   -- each address but area 1's gets area 1's, one of neither area too

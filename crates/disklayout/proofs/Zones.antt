@@ -18,7 +18,8 @@ use Rattle.disklayout.specs.Device.{Good}
 use Rattle.disklayout.specs.Kinds.{validities}
 use Rattle.disklayout.specs.Layout.{indirection_table_max_length, indirection_table1_addr, indirection_table2_addr, journal_start_addr}
 use Rattle.disklayout.specs.Layout.{valid_node_location, overlap}
-use Rattle.disklayout.proofs.Facts.{JournalLoc, journal_iff, index_iff, TableLoc, table_iff, NodeLoc, node_iff, superblock1_iff, superblock2_iff, refuted, no_overlap}
+use Rattle.disklayout.proofs.Facts.{JournalLoc, journal_iff, index_iff, TableLoc, table_iff, NodeLoc, node_iff, superblock1_iff}
+use Rattle.disklayout.proofs.Facts.{superblock2_iff, refuted, no_overlap}
 
 -- upstream's validity of each kind, by its place in the list
 abbrev pub valid_as : ℕ → Device → Location → Bool
@@ -72,7 +73,8 @@ module _ (w : Device) (g : Good w) where
   in_zone (suc (suc (suc (suc (suc n))))) l v = absurd (false≢true v)
 
   -- of two kinds the lower lies before the higher
-  lower : (i j : ℕ) → i < j → (l k : Location) → valid_as i w l ≡ true → valid_as j w k ≡ true → (l.addr < k.addr) × (l.addr + l.len ≤ k.addr)
+  lower : (i j : ℕ) → i < j → (l k : Location) → valid_as i w l ≡ true → valid_as j w k ≡ true → (l.addr < k.addr)
+      × (l.addr + l.len ≤ k.addr)
   lower i j h l k p q =
       let a = in_zone i l p in
       let b = in_zone j k q in
@@ -89,7 +91,8 @@ module _ (w : Device) (g : Good w) where
   -- places of two kinds do not overlap
   pub zones_apart : (i j : ℕ) → eqb i j ≡ false → (l k : Location) → valid_as i w l ≡ true → valid_as j w k ≡ true → overlap l k ≡ false
   zones_apart i j e l k p q =
-      no_overlap l k (λ o. ordered i j e (λ h. let b = lower i j h l k p q in omega arith) (λ h. let b = lower j i h k l q p in omega arith))
+      no_overlap l k (λ o. ordered i j e (λ h. let b = lower i j h l k p q in omega arith) (λ h. let b = lower j i h k l q p in
+      omega arith))
 
   -- a place of one kind is of no other
   pub zones_exclude : (i j : ℕ) (l : Location) → valid_as i w l ≡ true → valid_as j w l ≡ true → i ≡ j

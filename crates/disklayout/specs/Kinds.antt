@@ -4,7 +4,8 @@ use Rattle.disklayout.specs.declared.Device.{Device}
 use Rattle.disklayout.specs.declared.Kind.{Kind}
 use Rattle.disklayout.specs.declared.Kind.TheVariants.{Superblock1, Superblock2, Journal, Table, Node, None}
 use Rattle.disklayout.specs.declared.Location.{Location}
-use Rattle.disklayout.specs.Layout.{node_block_size, valid_superblock1_location, valid_superblock2_location, valid_journal_location, valid_indirection_table_location, valid_node_location}
+use Rattle.disklayout.specs.Layout.{node_block_size, valid_superblock1_location, valid_superblock2_location, valid_journal_location}
+use Rattle.disklayout.specs.Layout.{valid_indirection_table_location, valid_node_location}
 
 -- the first kind whose predicate holds, or none; on a good row at most one predicate does
 unfoldable pub kind_of : Device → Location → Kind

@@ -5,7 +5,8 @@ ghost use Rattle.base.specs.Refusals.{answer};
 ghost use Rattle.disklayout.specs.Calls.{number};
 ghost use Rattle.disklayout.specs.Device.{device_of};
 ghost use Rattle.disklayout.specs.Layout.{journal_start_addr};
-ghost use Rattle.journalrange.specs.Parts.{journal_length, part_rows, front_rows, back_rows, part_of, front_part, back_part, cut, front_bytes, back_bytes, part_ptr};
+ghost use Rattle.journalrange.specs.Parts.{journal_length, part_rows, front_rows, back_rows, part_of, front_part, back_part, cut};
+ghost use Rattle.journalrange.specs.Parts.{front_bytes, back_bytes, part_ptr};
 
 use disklayout::{Number, PlaceOption};
 use journalrange::Part;

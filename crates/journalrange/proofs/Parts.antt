@@ -61,10 +61,12 @@ module _ (w : Device) (g : Good w) (s n : ℕ) (l : Location) where
 
 -- and so on a device's row, where upstream's `requires` holds
 module _ (d s n : ℕ) where
-  pub device_front_in_area : journal_front_requires (device_of d) s ≡ true → (l : Location) → journal_front_location (device_of d) s n ≡ some l → InArea (device_of d) l
+  pub device_front_in_area : journal_front_requires (device_of d) s ≡ true → (l : Location) →
+      journal_front_location (device_of d) s n ≡ some l → InArea (device_of d) l
   device_front_in_area e l q = front_in_area (device_of d) (device_good d) s n l (simp tests at e) q
 
-  pub device_back_in_area : journal_back_requires (device_of d) s n ≡ true → (l : Location) → journal_back_location (device_of d) s n ≡ some l → InArea (device_of d) l
+  pub device_back_in_area : journal_back_requires (device_of d) s n ≡ true → (l : Location) →
+      journal_back_location (device_of d) s n ≡ some l → InArea (device_of d) l
   device_back_in_area e l q = let h = simp tests at e in back_in_area (device_of d) (device_good d) s n l h.0 h.1 q
 
 -- so what a call hands back lies within what was lent, however much that is
@@ -75,18 +77,21 @@ part_fits d pre o bytes h =
     (λ t. let a = (accepted d pre bytes).0 (eqb-true (answer (part_rows d pre bytes)) 0 t) in rw (t, a.lent) (located o (h a.required)))
     (λ f. rw f (omega arith))
   where
-    located : (o : Option Location) → ((l : Location) → o ≡ some l → InArea (device_of d) l) → start_of o + len_of o ≤ journal_length (device_of d)
+    located : (o : Option Location) → ((l : Location) → o ≡ some l → InArea (device_of d) l) →
+        start_of o + len_of o ≤ journal_length (device_of d)
     located none h = omega arith
     located (some l) h = (h l refl).ends
 
 module _ (d bytes s n : ℕ) where
   pub front_fits : (front_part d bytes s n).start + (front_part d bytes s n).len ≤ bytes
   unfolding front_part
-  front_fits = part_fits d (journal_front_requires (device_of d) s) (journal_front_location (device_of d) s n) bytes (device_front_in_area d s n)
+  front_fits =
+      part_fits d (journal_front_requires (device_of d) s) (journal_front_location (device_of d) s n) bytes (device_front_in_area d s n)
 
   pub back_fits : (back_part d bytes s n).start + (back_part d bytes s n).len ≤ bytes
   unfolding back_part
-  back_fits = part_fits d (journal_back_requires (device_of d) s n) (journal_back_location (device_of d) s n) bytes (device_back_in_area d s n)
+  back_fits =
+      part_fits d (journal_back_requires (device_of d) s n) (journal_back_location (device_of d) s n) bytes (device_back_in_area d s n)
 
 -- a refused part has start 0 and length 0, and so has one that doesn't exist
 abbrev pub Zeros : Part → Type 0
@@ -138,5 +143,7 @@ module _ (w : Device) (s n : ℕ) where
       (λ t. let h : n ≤ w.journal - s = leb-true n (w.journal - s) t in rw (f, t) (omega arith))
       (λ t. rw (f, t)))
 
-  pub front_blocks_lem : ((front_blocks w s n ≡ n) × (n ≤ num_journal_blocks w - s)) ⊎ ((front_blocks w s n ≡ num_journal_blocks w - s) × (num_journal_blocks w - s < n))
-  front_blocks_lem = split (leb n (w.journal - s)) (λ t. inl (rw t, leb-true n (w.journal - s) t)) (λ f. inr (rw f, leb-false n (w.journal - s) f))
+  pub front_blocks_lem : ((front_blocks w s n ≡ n) × (n ≤ num_journal_blocks w - s)) ⊎
+      ((front_blocks w s n ≡ num_journal_blocks w - s) × (num_journal_blocks w - s < n))
+  front_blocks_lem =
+      split (leb n (w.journal - s)) (λ t. inl (rw t, leb-true n (w.journal - s) t)) (λ f. inr (rw f, leb-false n (w.journal - s) f))

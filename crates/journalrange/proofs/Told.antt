@@ -23,7 +23,9 @@ use Rattle.journalrange.proofs.Parts.{InArea, accepted}
 pub length_ends : (d : ℕ) → (number d journal_start_addr).value ≤ (number d (journal_end_addr (device_of d))).value
 length_ends d = split (made d) (λ t. rw t (omega arith)) (λ f. rw f (omega arith))
 
-pub length_told : (d : ℕ) → (number d (journal_end_addr (device_of d))).value - (number d journal_start_addr).value ≡ (number d (journal_length (device_of d))).value
+pub length_told : (d : ℕ) →
+    (number d (journal_end_addr (device_of d))).value - (number d journal_start_addr).value ≡
+    (number d (journal_length (device_of d))).value
 length_told d = split (made d) (λ t. rw t (omega arith)) (λ f. rw f)
 
 -- THE NUMBER
@@ -48,22 +50,26 @@ module _ (d bytes located : ℕ) where
   pub number_refused : (eqb (journal d).answer 0 && eqb located 0) ≡ false → 1 ≡ answer (part_rows d (eqb located 0) bytes)
   number_refused e = number_one d bytes (eqb located 0) (rw asked at e)
 
-  pub number_wrong : (eqb (journal d).answer 0 && eqb located 0) ≡ true → (bytes ≡ (journal d).value → ⊥) → 23 ≡ answer (part_rows d (eqb located 0) bytes)
+  pub number_wrong : (eqb (journal d).answer 0 && eqb located 0) ≡ true → (bytes ≡ (journal d).value → ⊥) →
+      23 ≡ answer (part_rows d (eqb located 0) bytes)
   unfolding part_rows answer
   number_wrong e f = let m = rw asked at e in rw (m, ne_eqb bytes (journal_length (device_of d)) (rw (told m) at f))
 
-  pub number_zero : (eqb (journal d).answer 0 && eqb located 0) ≡ true → bytes ≡ (journal d).value → 0 ≡ answer (part_rows d (eqb located 0) bytes)
+  pub number_zero : (eqb (journal d).answer 0 && eqb located 0) ≡ true → bytes ≡ (journal d).value →
+      0 ≡ answer (part_rows d (eqb located 0) bytes)
   unfolding part_rows answer
   number_zero e f = let m = rw asked at e in rw (m, eq-eqb bytes (journal_length (device_of d)) (rw (told m) at f))
 
 -- THE PART
 
 -- the layout tells the journal's start where a number is 0
-pub start_told : (d : ℕ) (pre : Bool) (bytes : ℕ) → answer (part_rows d pre bytes) ≡ 0 → (number d journal_start_addr).value ≡ journal_start_addr
+pub start_told : (d : ℕ) (pre : Bool) (bytes : ℕ) → answer (part_rows d pre bytes) ≡ 0 →
+    (number d journal_start_addr).value ≡ journal_start_addr
 start_told d pre bytes e = rw (le-leb d 2 ((accepted d pre bytes).0 e).is_made)
 
 module _ (n : ℕ) (exists : Bool) (l : Location) where
-  pub part_there : (eqb n 0 && exists) ≡ true → ◌≡◌ {A = Part} (record { answer = 0; start = l.addr - journal_start_addr; len = l.len }) (part_of n (flagged exists l))
+  pub part_there : (eqb n 0 && exists) ≡ true →
+      ◌≡◌ {A = Part} (record { answer = 0; start = l.addr - journal_start_addr; len = l.len }) (part_of n (flagged exists l))
   part_there e = let h = (and_iff (eqb n 0) exists).0 e in let z : n ≡ 0 = eqb-true n 0 h.0 in rw (z, h.1)
 
   pub part_absent : (eqb n 0 && exists) ≡ false → ◌≡◌ {A = Part} (record { answer = n; start = 0; len = 0 }) (part_of n (flagged exists l))
@@ -74,7 +80,8 @@ module _ (n : ℕ) (exists : Bool) (l : Location) where
 module _ (d : ℕ) (pre : Bool) (o : Option Location) where
   -- the same part is told by it
   pub told_part : (bytes : ℕ) →
-      part_of (answer (part_rows d (eqb (place_option_if d pre o).answer 0) bytes)) (flagged (place_option_if d pre o).exists (place_option_if d pre o).loc)
+      part_of (answer (part_rows d (eqb (place_option_if d pre o).answer 0) bytes))
+      (flagged (place_option_if d pre o).exists (place_option_if d pre o).loc)
       ≡ part_of (answer (part_rows d pre bytes)) o
   told_part bytes =
       split (made d && pre) (λ t. let p : pre ≡ true = and_right (made d) pre t in rw (t, p, flagged_back o))
@@ -85,7 +92,8 @@ module _ (d : ℕ) (pre : Bool) (o : Option Location) where
       flagged_back (some l) = refl
 
   -- and its place begins at or past the journal's start
-  pub told_begins : (pre ≡ true → (l : Location) → o ≡ some l → InArea (device_of d) l) → (place_option_if d pre o).exists ≡ true → journal_start_addr ≤ (place_option_if d pre o).loc.addr
+  pub told_begins : (pre ≡ true → (l : Location) → o ≡ some l → InArea (device_of d) l) → (place_option_if d pre o).exists ≡ true →
+      journal_start_addr ≤ (place_option_if d pre o).loc.addr
   told_begins h e =
       let t : (made d && pre) ≡ true = and_left (made d && pre) (is_some o) e in
       let x = (some_iff o).0 (and_right (made d && pre) (is_some o) e) in rw (t, x.1) (h (and_right (made d) pre t) x.0 x.1).begins

@@ -41,7 +41,8 @@ module _ (w : Device) (s i : ℕ) (in_journal : s < num_journal_blocks w) (short
 pos_once : (w : Device) (s i j : ℕ) → s < num_journal_blocks w → i < num_journal_blocks w → j < num_journal_blocks w →
     range_block w s i ≡ range_block w s j → i ≡ j
 pos_once w s i j h k l e =
-    ⊎_elim (λ a. ⊎_elim (λ b. omega arith) (λ b. omega arith) (round w s j h l)) (λ a. ⊎_elim (λ b. omega arith) (λ b. omega arith) (round w s j h l))
+    ⊎_elim (λ a. ⊎_elim (λ b. omega arith) (λ b. omega arith) (round w s j h l))
+    (λ a. ⊎_elim (λ b. omega arith) (λ b. omega arith) (round w s j h l))
     (round w s i h k)
 
 -- ANY ROW
@@ -73,7 +74,9 @@ module _ (w : Device) (area : List ℕ) (s n : ℕ) (r : Ranged w area s n) wher
 
   front_length : length front ≡ front_blocks w s n * 4096
   unfolding front
-  front_length = length-take-le (front_blocks w s n * 4096) (drop (s * 4096) area) (simp length-drop (⊎_elim (λ a. omega arith) (λ a. omega arith) (front_blocks_lem w s n)))
+  front_length =
+      length-take-le (front_blocks w s n * 4096) (drop (s * 4096) area)
+      (simp length-drop (⊎_elim (λ a. omega arith) (λ a. omega arith) (front_blocks_lem w s n)))
 
   back_length : length back ≡ back_blocks w s n * 4096
   unfolding back
@@ -87,14 +90,16 @@ module _ (w : Device) (area : List ℕ) (s n : ℕ) (r : Ranged w area s n) wher
       let ahead : s + i < num_journal_blocks w = ⊎_elim (λ a. omega arith) (λ a. omega arith) (front_blocks_lem w s n) in
       block_first front back i whole ∙ block_part area (front_blocks w s n) s i h ∙ ap (block area) (sym (mod-eq_of_lt ahead))
 
-  back_block : (j : ℕ) → front_blocks w s n + j < n → block (front ++ back) (front_blocks w s n + j) ≡ block area (range_block w s (front_blocks w s n + j))
+  back_block : (j : ℕ) → front_blocks w s n + j < n →
+      block (front ++ back) (front_blocks w s n + j) ≡ block area (range_block w s (front_blocks w s n + j))
   unfolding back
   back_block j h =
       let i = front_blocks w s n + j in
       let full : front_blocks w s n ≡ num_journal_blocks w - s = ⊎_elim (λ a. omega arith) (λ a. a.0) (front_blocks_lem w s n) in
       let below : range_block w s i < num_journal_blocks w = mod-lt (s + i) (omega arith) in
       let position : 0 + j ≡ range_block w s i = ⊎_elim (λ a. omega arith) (λ a. omega arith) (round w s i r.in_journal (omega arith)) in
-      block_second front back (front_blocks w s n) j front_length ∙ block_part area (back_blocks w s n) 0 j (omega arith) ∙ ap (block area) position
+      block_second front back (front_blocks w s n) j front_length ∙ block_part area (back_blocks w s n) 0 j (omega arith)
+      ∙ ap (block area) position
 
   blocks : (i : ℕ) → i < n → block (front ++ back) i ≡ block area (range_block w s i)
   blocks i h =
@@ -131,7 +136,8 @@ module _ (w : Device) (area : List ℕ) (s n : ℕ) (r : Ranged w area s n) wher
       }
 
   -- the parts at upstream's locations, on any row
-  pub row_in_order : InOrder w area s n (cut area (part_of 0 (journal_front_location w s n))) (cut area (part_of 0 (journal_back_location w s n)))
+  pub row_in_order : InOrder w area s n (cut area (part_of 0 (journal_front_location w s n)))
+      (cut area (part_of 0 (journal_back_location w s n)))
   row_in_order = rw (front_is, back_is) in_row
 
 -- THE THEOREM: what the calls hand back, where both give 0. That the range is no longer than the journal is said by the back part's 0

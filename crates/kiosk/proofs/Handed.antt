@@ -10,8 +10,10 @@ use Rattle.journalrange.specs.Parts.{front_part, back_part, cut, front_bytes, ba
 use Rattle.journalrange.proofs.Parts.{front_fits, back_fits}
 use Rattle.kiosk.specs.Handed.{Tells}
 
-part_told : (p : Part) (area : List ℕ) (area_at : ℕ × ℕ) → p.start + p.len ≤ length area → Tells p.start p.len area area_at (cut area p) (part_ptr area_at p)
-part_told p area area_at fits = record { begins = refl; counts = length-take-le p.len (drop p.start area) (simp length-drop (omega arith)); bytes = refl }
+part_told : (p : Part) (area : List ℕ) (area_at : ℕ × ℕ) → p.start + p.len ≤ length area →
+    Tells p.start p.len area area_at (cut area p) (part_ptr area_at p)
+part_told p area area_at fits =
+    record { begins = refl; counts = length-take-le p.len (drop p.start area) (simp length-drop (omega arith)); bytes = refl }
 
 module _ (d s n : ℕ) (area : List ℕ) (area_at : ℕ × ℕ) where
   -- of `layout_front_start` and `layout_front_len`, and what `front` hands back of the area

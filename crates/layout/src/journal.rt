@@ -3,7 +3,8 @@ ghost use Rattle.std.specs.Prelude.{◌≡◌, true, ◌+◌, ◌*◌, ◌^◌, 
 ghost use Rattle.disklayout.specs.Calls.{number_when, number_if, flag_if, place_if, place_option_when, place_option_if};
 ghost use Rattle.disklayout.specs.Device.{Good, device_of};
 ghost use Rattle.disklayout.specs.Journal.{journal_point, journal_point_requires, journal_range_location, journal_range_requires};
-ghost use Rattle.disklayout.specs.Journal.{loc_contained_in_circular_journal_range, loc_disjoint_from_circular_journal_range, circular_requires};
+ghost use Rattle.disklayout.specs.Journal.{loc_contained_in_circular_journal_range, loc_disjoint_from_circular_journal_range};
+ghost use Rattle.disklayout.specs.Journal.{circular_requires};
 ghost use Rattle.disklayout.specs.Journal.{journal_pos_add, journal_block_idx, journal_block_idx_requires};
 ghost use Rattle.disklayout.specs.Journal.{journal_front_location, journal_front_requires, journal_back_location, journal_back_requires};
 

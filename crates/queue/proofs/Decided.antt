@@ -77,7 +77,8 @@ module _ (q p : Requests) (f : requests_form q ≡ true) (g : requests_form p �
       let x = behind q p f g same k agree b in
       let y = behind p q g f (sym same) k (λ j s. sym (agree j s)) x.0 in
       let e : (request_at q k).id ≡ (request_at p k).id = le_antisymm y.1 x.1 in
-      let u : some (request_at q k) ≡ some (request_at p k) = sym (map_at q f k b) ∙ ap (λ m. m (request_at q k).id) same ∙ ap (requests_map p) e ∙ map_at p g k x.0 in
+      let u : some (request_at q k) ≡ some (request_at p k) = sym (map_at q f k b) ∙ ap (λ m. m (request_at q k).id) same
+      ∙ ap (requests_map p) e ∙ map_at p g k x.0 in
       cc
 
   agree : (k j : ℕ) → j < k → j < q.count → request_at q j ≡ request_at p j

@@ -8,15 +8,18 @@ use native.Mathlib.Omega.{arith}
 use borrow.Author.Tests.{lt-leb, ltb-true}
 use lib.Dec.{eqb, ltb}
 use lib.ListN.{length}
-use Rattle.base.proofs.Lookup.{count_zero_iff as zero_iff_map, lookup_empty, lookup_insert as map_inserted, lookup_is_some, lookup_place, lookup_remove as map_removed, none_iff_lookup as none_iff_map}
+use Rattle.base.proofs.Lookup.{count_zero_iff as zero_iff_map, lookup_empty, lookup_insert as map_inserted, lookup_is_some, lookup_place}
+use Rattle.base.proofs.Lookup.{lookup_remove as map_removed, none_iff_lookup as none_iff_map}
 use Rattle.base.proofs.Maps.{del_same}
-use Rattle.base.proofs.QueueForm.{form_count as count_of_form, form_length as length_of_form, insert_form as form_inserted, remove_form as form_removed}
+use Rattle.base.proofs.QueueForm.{form_count as count_of_form, form_length as length_of_form, insert_form as form_inserted}
+use Rattle.base.proofs.QueueForm.{remove_form as form_removed}
 use Rattle.base.proofs.Scan.{first_found, first_passes}
 use Rattle.base.proofs.Tests.{and_left}
 use Rattle.base.specs.Maps.{del, empty, flagged, is_some, put}
 use Rattle.base.specs.Queue.{key_at}
 use Rattle.base.specs.Scan.{all_below, some_below}
-use Rattle.queue.specs.Queue.{any_request, blank, entry_of, find_of, has_of, id_of, insert_of, empty_requests, remove_of, request_at, requests_form, requests_map, zero_request}
+use Rattle.queue.specs.Queue.{any_request, blank, entry_of, find_of, has_of, id_of, insert_of, empty_requests, remove_of, request_at}
+use Rattle.queue.specs.Queue.{requests_form, requests_map, zero_request}
 use Rattle.queue.specs.declared.Request.{Request}
 use Rattle.queue.specs.declared.Requests.{Requests}
 
@@ -24,7 +27,8 @@ use Rattle.queue.specs.declared.Requests.{Requests}
 pub found_used : (q : Requests) (id : ℕ) → find_of q id < 16 → find_of q id < q.count
 unfolding find_of
 found_used q id b =
-    ltb-true _ _ (and_left (ltb (find_of q id) q.count) (eqb (request_at q (find_of q id)).id id) (first_passes (key_at id_of zero_request 16 q.count q.at id) 16 b))
+    ltb-true _ _ (and_left (ltb (find_of q id) q.count) (eqb (request_at q (find_of q id)).id id)
+    (first_passes (key_at id_of zero_request 16 q.count q.at id) 16 b))
 
 -- an id is in the queue exactly if the map has it, and then the request is the map's
 pub has_map : (q : Requests) (id : ℕ) → is_some (requests_map q id) ≡ has_of q id
@@ -58,7 +62,9 @@ module _ (q : Requests) (form : requests_form q ≡ true) where
   form_count = count_of_form id_of zero_request 16 any_request blank q.count q.at form
 
   -- a scan of the requests in use
-  pub scan_iff : (p : Request → Bool) → (some_below (λ k. ltb k q.count && p (request_at q k)) 16 ≡ false) ↔ ((id : ℕ) (w : Request) → requests_map q id ≡ some w → p w ≡ false)
+  pub scan_iff : (p : Request → Bool) →
+      (some_below (λ k. ltb k q.count && p (request_at q k)) 16 ≡ false) ↔
+      ((id : ℕ) (w : Request) → requests_map q id ≡ some w → p w ≡ false)
   unfolding requests_form requests_map
   scan_iff p = none_iff_map id_of zero_request 16 any_request blank q.count q.at form p
 
@@ -103,4 +109,5 @@ module _ (q : Requests) (form : requests_form q ≡ true) where
 
   -- and its id is not in it
   pub remove_gone : (id : ℕ) → has_of q id ≡ true → has_of (remove_of q id) id ≡ false
-  remove_gone id there = sym (has_map (remove_of q id) id) ∙ ap is_some (ap (λ m. m id) (remove_map id there) ∙ del_same (requests_map q) id)
+  remove_gone id there =
+      sym (has_map (remove_of q id) id) ∙ ap is_some (ap (λ m. m id) (remove_map id there) ∙ del_same (requests_map q) id)

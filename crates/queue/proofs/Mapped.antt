@@ -35,7 +35,8 @@ module _ {A : Type 0} (f : Request → A) where
     pub mapped_insert : (w : Request) → q.count < 16 → has_of q w.id ≡ false → mapped f (insert_of q w) ≡ put (mapped f q) w.id (f w)
     unfolding put
     mapped_insert w room new =
-        ap (λ (m : Map Request). λ id. map f (m id)) (insert_map q form w room new) ∙ fun_ext (λ j. split (eqb j w.id) (λ t. rw t) (λ t. rw t))
+        ap (λ (m : Map Request). λ id. map f (m id)) (insert_map q form w room new)
+        ∙ fun_ext (λ j. split (eqb j w.id) (λ t. rw t) (λ t. rw t))
 
     pub mapped_remove : (id : ℕ) → has_of q id ≡ true → mapped f (remove_of q id) ≡ del (mapped f q) id
     unfolding del
@@ -43,7 +44,8 @@ module _ {A : Type 0} (f : Request → A) where
         ap (λ (m : Map Request). λ id. map f (m id)) (remove_map q form id there) ∙ fun_ext (λ j. split (eqb j id) (λ t. rw t) (λ t. rw t))
 
     -- a test that no request in use passes
-    pub mapped_none_iff : (p : A → Bool) → (some_below (λ k. ltb k q.count && p (f (request_at q k))) 16 ≡ false) ↔ ((id : ℕ) (a : A) → mapped f q id ≡ some a → p a ≡ false)
+    pub mapped_none_iff : (p : A → Bool) →
+        (some_below (λ k. ltb k q.count && p (f (request_at q k))) 16 ≡ false) ↔ ((id : ℕ) (a : A) → mapped f q id ≡ some a → p a ≡ false)
     mapped_none_iff p = (
       (λ e id a h. let w = mapped_some q id h in rw w.2 at ((scan_iff q form (λ w. p (f w))).0 e id w.0 w.1)),
       (λ h. (scan_iff q form (λ w. p (f w))).1 (λ id w e. h id (f w) (mapped_of q id w e))),
@@ -52,5 +54,6 @@ module _ {A : Type 0} (f : Request → A) where
     pub mapped_empty_iff : (q.count ≡ 0) ↔ (mapped f q ≡ empty)
     mapped_empty_iff = (
       (λ e. fun_ext (λ id. rw ((count_iff q form).0 e id))),
-      (λ e. (count_iff q form).1 (λ id. (none_iff (requests_map q id)).0 (has_map q id ∙ sym (mapped_has q id) ∙ ap (λ m. is_some (m id)) e))),
+      (λ e. (count_iff q form).1 (λ id. (none_iff (requests_map q id)).0
+          (has_map q id ∙ sym (mapped_has q id) ∙ ap (λ m. is_some (m id)) e))),
     )

@@ -4,7 +4,8 @@
 
 ghost use Rattle.std.specs.Prelude.{get_or, take, [], ◌∷◌, ◌++◌, ◌≡◌, ◌<◌, ◌≤◌};
 ghost use Rattle.base.specs.Lists.{opened, closed};
-ghost use Rattle.queue.specs.Queue.{zero_request, request_form, requests_form, has_of, has_addr, find_of, place_of, entry_of, insert_of, remove_of, empty_requests};
+ghost use Rattle.queue.specs.Queue.{zero_request, request_form, requests_form, has_of, has_addr, find_of, place_of, entry_of, insert_of};
+ghost use Rattle.queue.specs.Queue.{remove_of, empty_requests};
 
 use disklayout::Location;
 

@@ -29,7 +29,8 @@ pub small_mod : (s : List ℕ) (n : ℕ) → small_of s 127 ≡ Value n → n % 
 unfolding small_of
 small_mod s n e = let h : n ≤ 127 = at_most_le 127 (number_of s) n e in let l : n < 128 = omega (arith, h) in mod-eq_of_lt l
 
-pub blocks_turn : (r : List ℕ) (at : ℕ) (o : Offer) {o' x : Offer} → at < length r → o' ≡ with_word o (take (find_of (drop (at + 1) r) 32) (drop (at + 1) r)) →
+pub blocks_turn : (r : List ℕ) (at : ℕ) (o : Offer) {o' x : Offer} → at < length r →
+    o' ≡ with_word o (take (find_of (drop (at + 1) r) 32) (drop (at + 1) r)) →
     blocks_from o (words_of (drop at r)) ≡ x → blocks_from o' (words_of (drop (at + 1 + find_of (drop (at + 1) r) 32) r)) ≡ x
 blocks_turn r at o b e h = rw e (rw (words_turn r at b) at h)
 

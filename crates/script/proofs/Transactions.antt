@@ -74,7 +74,8 @@ abbrev alloc_five : Operation
 alloc_five = record { alloc = true; reference = 5; node = record { contents = record { high = 2; low = 3 }; succs = zero_succs } }
 
 -- both are read, in the line's order
-pub two_read : operation_list_of two_operations ≡ record { ok = true; count = 2; at = dirty_zero ∷ alloc_five ∷ replicate 38 zero_operation }
+pub two_read : operation_list_of two_operations ≡ record
+    { ok = true; count = 2; at = dirty_zero ∷ alloc_five ∷ replicate 38 zero_operation }
 unfolding operation_list_of operation_read_of kind_read_of with_operation with_operation_word words_of words_from pieces_of pieces_from
     find_of first_below some_below starts_of all_below number_of value_of small_of sides_of contents_of list_of joined_of node_of
 two_read = refl
@@ -112,7 +113,8 @@ abbrev a_block : List ℕ
 a_block = 32 ∷ 98 ∷ 108 ∷ 111 ∷ 99 ∷ 107 ∷ 61 ∷ []
 
 -- op may stand on step 20 alone, and come again; another word may not come again there, and a crash's word not at all
-pub step_20_words : (fit_of op_twice (step_keys 20) ≡ true) × (fit_of op_twice (step_keys 18) ≡ false) × (fit_of op_twice (step_keys 19) ≡ false)
+pub step_20_words : (fit_of op_twice (step_keys 20) ≡ true) × (fit_of op_twice (step_keys 18) ≡ false)
+    × (fit_of op_twice (step_keys 19) ≡ false)
     × (fit_of id_twice (step_keys 20) ≡ false) × (fit_of a_block (step_keys 20) ≡ false)
 unfolding fit_of words_of words_from find_of first_below some_below starts_of all_below key_of rare_key_of keys_of
 step_20_words = (refl, refl, refl, refl, refl)

@@ -48,7 +48,9 @@ node_word_of w =
 
 -- node=
 unfoldable pub node_word : List ℕ → NodeWord
-node_word r = cond (eqb (length (word_of r (110 ∷ 111 ∷ 100 ∷ 101 ∷ 61 ∷ []))) 0) (node_from node.Nothing) (node_word_of (drop 5 (word_of r (110 ∷ 111 ∷ 100 ∷ 101 ∷ 61 ∷ []))))
+node_word r =
+    cond (eqb (length (word_of r (110 ∷ 111 ∷ 100 ∷ 101 ∷ 61 ∷ []))) 0) (node_from node.Nothing)
+    (node_word_of (drop 5 (word_of r (110 ∷ 111 ∷ 100 ∷ 101 ∷ 61 ∷ []))))
 
 abbrev pub table_from : TableSource → TableWord
 table_from s = record { ok = true; source = s; table = empty_table }
@@ -78,7 +80,9 @@ table_word_of w =
 
 -- table=
 unfoldable pub table_word : List ℕ → TableWord
-table_word r = cond (eqb (length (word_of r (116 ∷ 97 ∷ 98 ∷ 108 ∷ 101 ∷ 61 ∷ []))) 0) (table_from table.Nothing) (table_word_of (drop 6 (word_of r (116 ∷ 97 ∷ 98 ∷ 108 ∷ 101 ∷ 61 ∷ []))))
+table_word r =
+    cond (eqb (length (word_of r (116 ∷ 97 ∷ 98 ∷ 108 ∷ 101 ∷ 61 ∷ []))) 0) (table_from table.Nothing)
+    (table_word_of (drop 6 (word_of r (116 ∷ 97 ∷ 98 ∷ 108 ∷ 101 ∷ 61 ∷ []))))
 
 -- the words that a step line may have, by the step's number: table1, table2 and block are a crash's alone, op is step 20's alone
 abbrev pub step_keys : ℕ → Keys

@@ -1,6 +1,7 @@
 // The call that a request makes on a cache and a disk.
 ghost use Rattle.std.specs.Prelude.{◌≡◌};
-ghost use Rattle.script.specs.Calls.{some_node, nothing_node, stored_node, cached_node, node_value, some_table, nothing_table, stored_table, cache_table, table_value, bringing_of, call_of};
+ghost use Rattle.script.specs.Calls.{some_node, nothing_node, stored_node, cached_node, node_value, some_table, nothing_table};
+ghost use Rattle.script.specs.Calls.{stored_table, cache_table, table_value, bringing_of, call_of};
 
 use crate::request::{NodeSource, NodeWord, Request, TableSource, TableWord};
 use blockcache::{CacheState, Call};

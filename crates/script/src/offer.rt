@@ -1,6 +1,7 @@
 // The records that a crash line offers: what is stored, but where a word of the line says otherwise.
 ghost use Rattle.std.specs.Prelude.{◌≡◌, ◌<◌};
-ghost use Rattle.script.specs.Offers.{no_area, no_block, offered_table, area_read_of, block_read_of, refused_of, with_area, with_block, with_word, with_blocks, offered_of};
+ghost use Rattle.script.specs.Offers.{no_area, no_block, offered_table, area_read_of, block_read_of, refused_of, with_area, with_block};
+ghost use Rattle.script.specs.Offers.{with_word, with_blocks, offered_of};
 
 use blockdisk::{NodeRecord, Records, TableRecord};
 use disklayout::Location;

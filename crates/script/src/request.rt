@@ -1,6 +1,7 @@
 // What a step line asks for, before it is known what the cache and the disk hold.
 ghost use Rattle.std.specs.Prelude.{◌≡◌};
-ghost use Rattle.script.specs.Requests.{node_from, node_written, node_word_of, node_word, table_from, table_written, table_word_of, table_word};
+ghost use Rattle.script.specs.Requests.{node_from, node_written, node_word_of, node_word, table_from, table_written, table_word_of};
+ghost use Rattle.script.specs.Requests.{table_word};
 ghost use Rattle.script.specs.Requests.{no_operations, operations_of, request_from, request_of, small_from, step_keys, table_text_of};
 ghost use Rattle.words.specs.Numbers.{number_of};
 

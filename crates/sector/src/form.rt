@@ -2,7 +2,8 @@
 // zeros, and a count is the number of places in use.
 ghost use Rattle.std.specs.Prelude.{◌≡◌};
 ghost use Rattle.base.specs.Scan.{bit, count_below};
-ghost use Rattle.sectortype.specs.Form.{places_zero, succ_ok, succs_form, succs_zero, loc_zero, node_form, node_zero, entry_form, table_form, slot_form, nodes_form, allocated_at, present_at};
+ghost use Rattle.sectortype.specs.Form.{places_zero, succ_ok, succs_form, succs_zero, loc_zero, node_form, node_zero, entry_form};
+ghost use Rattle.sectortype.specs.Form.{table_form, slot_form, nodes_form, allocated_at, present_at};
 
 use crate::contents::contents_zero;
 use disklayout::Location;

@@ -1,6 +1,7 @@
 // A table's graph: lists as sets, references that are allocated, addresses that are held.
 ghost use Rattle.std.specs.Prelude.{◌||◌, not, ◌≡◌};
-ghost use Rattle.sectortype.specs.Graph.{has_succ, subset, same_set, within_at, within, graph_closed, holds_addr, apart_at, apart_from, distinct_addrs};
+ghost use Rattle.sectortype.specs.Graph.{has_succ, subset, same_set, within_at, within, graph_closed, holds_addr, apart_at, apart_from};
+ghost use Rattle.sectortype.specs.Graph.{distinct_addrs};
 
 use sectortype::{Entry, Succs, Table};
 

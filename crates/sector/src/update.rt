@@ -1,7 +1,8 @@
 // The empty records, and a table or a map of nodes with one place set. The count is taken anew, so that it is the count whatever it was.
 ghost use Rattle.std.specs.Prelude.{set, ◌≡◌};
 ghost use Rattle.disklayout.specs.Calls.{zero_loc};
-ghost use Rattle.sectortype.specs.Form.{zero_succs, leaf_node, zero_node, zero_entry, zero_slot, empty_table, empty_nodes, with_entry, with_slot};
+ghost use Rattle.sectortype.specs.Form.{zero_succs, leaf_node, zero_node, zero_entry, zero_slot, empty_table, empty_nodes, with_entry};
+ghost use Rattle.sectortype.specs.Form.{with_slot};
 
 use crate::contents::zero_contents;
 use crate::form::{count_allocated, count_present};

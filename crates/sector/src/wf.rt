@@ -1,6 +1,7 @@
 // Whether a table is well formed on a device (upstream's WFIndirectionTable and WFCompleteIndirectionTable).
 ghost use Rattle.std.specs.Prelude.{◌≡◌};
-ghost use Rattle.sectortype.specs.Graph.{loc_ok, locs_valid, locs_in_graph, locs_complete, wf_indirection_table, wf_complete_indirection_table};
+ghost use Rattle.sectortype.specs.Graph.{loc_ok, locs_valid, locs_in_graph, locs_complete, wf_indirection_table};
+ghost use Rattle.sectortype.specs.Graph.{wf_complete_indirection_table};
 
 use crate::graph::graph_closed;
 use layout::NODE_KIND;

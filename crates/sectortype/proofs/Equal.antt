@@ -17,10 +17,12 @@ use Rattle.disklayout.proofs.Facts.{same_loc_iff}
 use Rattle.disklayout.specs.declared.Location.{Location}
 use Rattle.disklayout.specs.Calls.{zero_loc}
 use Rattle.sectortype.proofs.HighLow.{contents_ext, contents_zero_is, same_contents_iff}
-use Rattle.sectortype.proofs.Forms.{empty_table_form, entry_at_form, entry_succs, nodes_of_slots, slot_at_form, succ_unused, succs_iff, table_iff, table_of_entries, zero_succs_form}
+use Rattle.sectortype.proofs.Forms.{empty_table_form, entry_at_form, entry_succs, nodes_of_slots, slot_at_form, succ_unused, succs_iff}
+use Rattle.sectortype.proofs.Forms.{table_iff, table_of_entries, zero_succs_form}
 use Rattle.sectortype.specs.Abstract.{graph_of, indirection_table, locs_of, nodes_map}
-use Rattle.sectortype.specs.Form.{allocated_at, default_entry, empty_table, entry_at, entry_form, loc_zero, node_form, node_zero, nodes_form}
-use Rattle.sectortype.specs.Form.{slot_at, slot_form, succ_at, succs_form, succs_zero, table_form, zero_entry, zero_node, zero_slot, zero_succs}
+use Rattle.sectortype.specs.Form.{allocated_at, default_entry, empty_table, entry_at, entry_form, loc_zero, node_form, node_zero}
+use Rattle.sectortype.specs.Form.{nodes_form, slot_at, slot_form, succ_at, succs_form, succs_zero, table_form, zero_entry, zero_node}
+use Rattle.sectortype.specs.Form.{zero_slot, zero_succs}
 use Rattle.sectortype.specs.HighLow.{contents_zero}
 use Rattle.sectortype.specs.Same.{same_bool, same_entry, same_node, same_succs, same_table}
 use Rattle.sectortype.specs.declared.Entry.{Entry}
@@ -44,7 +46,8 @@ entry_ext p q r s = λ i. record { allocated = p i; located = q i; loc = r i; su
 slot_ext : {a b : Slot} → a.present ≡ b.present → a.node ≡ b.node → a ≡ b
 slot_ext p q = λ i. record { present = p i; node = q i }
 
-succs_ext : (a b : Succs) → succs_form a ≡ true → succs_form b ≡ true → a.count ≡ b.count → ((k : ℕ) → k < 8 → succ_at a k ≡ succ_at b k) → a ≡ b
+succs_ext : (a b : Succs) → succs_form a ≡ true → succs_form b ≡ true → a.count ≡ b.count → ((k : ℕ) → k < 8 → succ_at a k ≡ succ_at b k) →
+    a ≡ b
 succs_ext a b f g n h =
     let u = (succs_iff a).0 f in
     let v = (succs_iff b).0 g in
@@ -61,8 +64,10 @@ same_bool_iff false false = ((λ e. refl), (λ e. refl))
 
 pub same_succs_iff : (a b : Succs) → succs_form a ≡ true → succs_form b ≡ true → (same_succs a b ≡ true) ↔ (a ≡ b)
 unfolding same_succs
-same_succs_iff a b f g =
-    ((λ e. let h = simp (and_iff, eqb_iff, all_iff) at e in succs_ext a b f g h.0 h.1), (λ e. rw e (simp (and_iff, eqb_iff, all_iff) (refl, λ k c. refl))))
+same_succs_iff a b f g = (
+  (λ e. let h = simp (and_iff, eqb_iff, all_iff) at e in succs_ext a b f g h.0 h.1),
+  (λ e. rw e (simp (and_iff, eqb_iff, all_iff) (refl, λ k c. refl))),
+)
 
 pub same_node_iff : (a b : Node) → node_form a ≡ true → node_form b ≡ true → (same_node a b ≡ true) ↔ (a ≡ b)
 same_node_iff a b f g = (
@@ -71,7 +76,8 @@ same_node_iff a b f g = (
 )
 
 -- two nodes are equal when high, low and list are
-pub node_equal_iff : (a b : Node) → (a ≡ b) ↔ ((a.contents.high ≡ b.contents.high) × ((a.contents.low ≡ b.contents.low) × (a.succs ≡ b.succs)))
+pub node_equal_iff : (a b : Node) →
+    (a ≡ b) ↔ ((a.contents.high ≡ b.contents.high) × ((a.contents.low ≡ b.contents.low) × (a.succs ≡ b.succs)))
 node_equal_iff a b = (
   (λ e. (ap (λ x. x.contents.high) e, (ap (λ x. x.contents.low) e, ap (λ x. x.succs) e))),
   (λ h. node_ext (contents_ext h.0 h.1.0) h.1.1),
@@ -82,7 +88,8 @@ same_entry_iff a b f g =
     let u : succs_form a.succs ≡ true = entry_succs a f in
     let v : succs_form b.succs ≡ true = entry_succs b g in (
       (λ e. let h = simp (same_bool_iff, same_loc_iff, same_succs_iff, and_iff) at e in search entry_ext),
-      (λ e. simp (same_bool_iff, same_loc_iff, same_succs_iff, and_iff) (((ap (λ x. x.allocated) e, ap (λ x. x.located) e), ap (λ x. x.loc) e), ap (λ x. x.succs) e)),
+      (λ e. simp (same_bool_iff, same_loc_iff, same_succs_iff, and_iff)
+          (((ap (λ x. x.allocated) e, ap (λ x. x.located) e), ap (λ x. x.loc) e), ap (λ x. x.succs) e)),
     )
 
 pub same_table_iff : (a b : Table) → table_form a ≡ true → table_form b ≡ true → (same_table a b ≡ true) ↔ (a ≡ b)
@@ -90,7 +97,8 @@ unfolding same_table
 same_table_iff a b f g = (
   (λ e. let h = (and_iff (eqb a.count b.count) (all_below (λ r. same_entry (entry_at a r) (entry_at b r)) 64)).0 e in
       table_of_entries a b f g (λ r c. (same r c).0 (all_at (λ r. same_entry (entry_at a r) (entry_at b r)) 64 r h.1 c))),
-  (λ e. and_both (eq-eqb _ _ (ap (λ x. x.count) e)) (all_of (λ r. same_entry (entry_at a r) (entry_at b r)) 64 (λ r c. (same r c).1 (ap (λ x. entry_at x r) e)))),
+  (λ e. and_both (eq-eqb _ _ (ap (λ x. x.count) e))
+      (all_of (λ r. same_entry (entry_at a r) (entry_at b r)) 64 (λ r c. (same r c).1 (ap (λ x. entry_at x r) e)))),
 )
   where
     same : (r : ℕ) → r < 64 → (same_entry (entry_at a r) (entry_at b r) ≡ true) ↔ (entry_at a r ≡ entry_at b r)
@@ -109,7 +117,8 @@ succs_zero_is s e = let h = simp tests at e in succs_none s h.0 h.1
 
 pub node_zero_is : (n : Node) → node_zero n ≡ true → n ≡ zero_node
 node_zero_is n e =
-    let h = (and_iff (contents_zero n.contents) (succs_zero n.succs)).0 e in node_ext (contents_zero_is n.contents h.0) (succs_zero_is n.succs h.1)
+    let h = (and_iff (contents_zero n.contents) (succs_zero n.succs)).0 e in
+    node_ext (contents_zero_is n.contents h.0) (succs_zero_is n.succs h.1)
 
 -- a list that is not allocated and a location that is absent
 entry_no_succs : (e : Entry) → entry_form e ≡ true → e.allocated ≡ false → e.succs ≡ zero_succs
@@ -158,5 +167,6 @@ pub nodes_ext : (a b : Nodes) → nodes_form a ≡ true → nodes_form b ≡ tru
 unfolding nodes_map
 nodes_ext a b f g p =
     nodes_of_slots a b f g
-    (λ r c. let n = flagged_ext _ _ _ _ zero_node (slot_no_node (slot_at a r) (slot_at_form a f r c)) (slot_no_node (slot_at b r) (slot_at_form b g r c)) (ap (λ m. m r) p) in
+    (λ r c. let n = flagged_ext _ _ _ _ zero_node (slot_no_node (slot_at a r) (slot_at_form a f r c))
+    (slot_no_node (slot_at b r) (slot_at_form b g r c)) (ap (λ m. m r) p) in
     slot_ext n.0 n.1)

@@ -15,7 +15,8 @@ use Rattle.sectortype.proofs.Forms.{succ_used}
 use Rattle.sectortype.proofs.Maps.{graph_at, graph_bounded, graph_some, in_graph, locs_at, locs_bounded, locs_some}
 use Rattle.sectortype.specs.Abstract.{graph_of, locs_of}
 use Rattle.sectortype.specs.Form.{entry_at, succ_at, succs_form, table_form}
-use Rattle.sectortype.specs.Graph.{distinct_addrs, graph_closed, allocated_in, apart_at, apart_from, closed_at, has_succ, holds_addr, located_in, same_set, subset, within}
+use Rattle.sectortype.specs.Graph.{distinct_addrs, graph_closed, allocated_in, apart_at, apart_from, closed_at, has_succ, holds_addr}
+use Rattle.sectortype.specs.Graph.{located_in, same_set, subset, within}
 use Rattle.sectortype.specs.declared.Succs.{Succs}
 use Rattle.sectortype.specs.declared.Table.{Table}
 
@@ -43,7 +44,8 @@ passes_at s p k = not (ltb k s.count) || p (succ_at s k)
 pub each_succ_iff : (s : Succs) (p : ℕ → Bool) → (all_below (passes_at s p) 8 ≡ true) ↔ ((r : ℕ) → has_succ s r ≡ true → p r ≡ true)
 each_succ_iff s p = (
   (λ e r h. let d = has_succ_place s r h in rw (lt-ltb d.0 s.count d.2, d.3) at (all_at (passes_at s p) 8 d.0 e d.1)),
-  (λ h. all_of (passes_at s p) 8 (λ k b. split (ltb k s.count) (λ t. rw t (h (succ_at s k) (has_succ_at s k b (ltb-true _ _ t)))) (λ t. rw t))),
+  (λ h. all_of (passes_at s p) 8
+      (λ k b. split (ltb k s.count) (λ t. rw t (h (succ_at s k) (has_succ_at s k b (ltb-true _ _ t)))) (λ t. rw t))),
 )
 
 pub has_succ_bounded : (s : Succs) (r : ℕ) → succs_form s ≡ true → has_succ s r ≡ true → r < 64
@@ -71,7 +73,8 @@ unfolding graph_closed
 closed_iff t f = (
   (λ e r l g. let d = graph_some t r g in
       (within_iff t l).0 (rw (d.0, d.1) at (all_at (closed_at t) 64 r e (graph_bounded t f r l g)))),
-  (λ h. all_of (closed_at t) 64 (λ r b. split (allocated_in t r) (λ a. rw a ((within_iff t (entry_at t r).succs).1 (h r (entry_at t r).succs (graph_at t r a)))) (λ a. rw a))),
+  (λ h. all_of (closed_at t) 64 (λ r b. split (allocated_in t r)
+      (λ a. rw a ((within_iff t (entry_at t r).succs).1 (h r (entry_at t r).succs (graph_at t r a)))) (λ a. rw a))),
 )
 
 -- ADDRESSES
@@ -79,11 +82,13 @@ closed_iff t f = (
 abbrev addr_at : Table → ℕ → ℕ → Bool
 addr_at t a r = located_in t r && eqb (entry_at t r).loc.addr a
 
-pub holds_addr_iff : (t : Table) → table_form t ≡ true → (a : ℕ) → (holds_addr t a ≡ false) ↔ ((r : ℕ) (l : Location) → locs_of t r ≡ some l → l.addr ≡ a → ⊥)
+pub holds_addr_iff : (t : Table) → table_form t ≡ true → (a : ℕ) →
+    (holds_addr t a ≡ false) ↔ ((r : ℕ) (l : Location) → locs_of t r ≡ some l → l.addr ≡ a → ⊥)
 unfolding holds_addr
 holds_addr_iff t f a = (
   (λ e r l g. let d = locs_some t r g in eqb-false l.addr a (rw (d.0, d.1) at (none_at (addr_at t a) 64 r e (locs_bounded t f r l g)))),
-  (λ h. some_of_none (addr_at t a) 64 (λ r b. split (located_in t r) (λ y. rw y (ne_eqb _ _ (h r (entry_at t r).loc (locs_at t r y)))) (λ y. rw y))),
+  (λ h. some_of_none (addr_at t a) 64
+      (λ r b. split (located_in t r) (λ y. rw y (ne_eqb _ _ (h r (entry_at t r).loc (locs_at t r y)))) (λ y. rw y))),
 )
 
 pub distinct_iff : (t : Table) → table_form t ≡ true →

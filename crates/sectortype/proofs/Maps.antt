@@ -15,7 +15,8 @@ use Rattle.disklayout.specs.declared.Location.{Location}
 use Rattle.sectortype.proofs.Forms.{entry_at_form, entry_at_length, entry_succs, is_allocated, is_present, slot_at_form, slot_at_length}
 use Rattle.sectortype.proofs.Rows.{set_at_place}
 use Rattle.sectortype.specs.Abstract.{graph_of, locs_of, nodes_map}
-use Rattle.sectortype.specs.Form.{empty_nodes, empty_table, entry_at, default_entry, default_slot, node_form, nodes_form, slot_at, succs_form, table_form, with_entry, with_slot, zero_entry, zero_slot}
+use Rattle.sectortype.specs.Form.{empty_nodes, empty_table, entry_at, default_entry, default_slot, node_form, nodes_form, slot_at}
+use Rattle.sectortype.specs.Form.{succs_form, table_form, with_entry, with_slot, zero_entry, zero_slot}
 use Rattle.sectortype.specs.declared.Entry.{Entry}
 use Rattle.sectortype.specs.declared.Node.{Node}
 use Rattle.sectortype.specs.declared.Nodes.{Nodes}
@@ -32,13 +33,15 @@ module _ {A B : Type 0} (flag : A → Bool) (thing : A → B) (z : A) where
   map_bounded : (l : List A) → length l ≡ 64 → flag z ≡ false → (r : ℕ) {v : B} → map_of l r ≡ some v → r < 64
   map_bounded l n f r e =
       split (ltb r 64) (ltb-true r 64)
-      (λ b. let a : 64 ≤ r = ltb-false r 64 b in let d : length l ≤ r = omega arith in clash (flagged_some (flag (get_or l r z)) _ e).0 (rw (get_or-eq_default l z d) f))
+      (λ b. let a : 64 ≤ r = ltb-false r 64 b in let d : length l ≤ r = omega arith in
+      clash (flagged_some (flag (get_or l r z)) _ e).0 (rw (get_or-eq_default l z d) f))
 
   map_empty : (w : A) → flag w ≡ false → flag z ≡ false → map_of (replicate 64 w) ≡ empty
   map_empty w f g =
       fun_ext
       (λ r. split (ltb r 64) (λ b. rw (get_or-replicate 64 r w z (ltb-true r 64 b), f))
-      (λ b. let d : length (replicate 64 w) ≤ r = rw (length-replicate 64 w) (ltb-false r 64 b) in rw (get_or-eq_default (replicate 64 w) z d, g)))
+      (λ b. let d : length (replicate 64 w) ≤ r = rw (length-replicate 64 w) (ltb-false r 64 b) in
+      rw (get_or-eq_default (replicate 64 w) z d, g)))
 
   module _ (l : List A) (r : ℕ) (e : A) (n : length l ≡ 64) (b : r < 64) where
     map_put : flag e ≡ true → map_of (set l r e) ≡ put (map_of l) r (thing e)

@@ -29,7 +29,11 @@ carried_list n = refl
 
 pub carried_equal : (a b : OlderNode) → (a ≡ b) ↔ (carried a ≡ carried b)
 unfolding carried
-carried_equal a b = (ap carried, λ e. let p = ap (λ (n : Node). n.contents.low) e in let q = ap (λ (n : Node). n.succs) e in λ i. record { contents = p i; succs = q i })
+carried_equal a b = (
+  ap carried,
+  λ e. let p = ap (λ (n : Node). n.contents.low) e in let q = ap (λ (n : Node). n.succs) e in
+      λ i. record { contents = p i; succs = q i },
+)
 
 -- by the tests too, whatever the two are
 pub carried_same : (a b : OlderNode) → same_node (carried a) (carried b) ≡ same_older a b

@@ -13,7 +13,8 @@ use Rattle.sectortype.specs.Graph.{allocated_in, within_at}
 use Rattle.sectortype.specs.declared.Table.{Table}
 
 -- a reference past the table is read at another place, and counts as not allocated
-pub within_turn : (t : Table) (k : ℕ) {n m r j : ℕ} {b : Bool} → length t.entries ≡ 64 → n ≡ m → j ≡ r → b ≡ within_at n k j (entry_at t (j % 64)) →
+pub within_turn : (t : Table) (k : ℕ) {n m r j : ℕ} {b : Bool} → length t.entries ≡ 64 → n ≡ m → j ≡ r →
+    b ≡ within_at n k j (entry_at t (j % 64)) →
     b ≡ (not (ltb k m) || allocated_in t r)
 within_turn t k {n} {m} {r} {j} long q i e = e ∙ rw (q, i) (ap (λ x. not (ltb k m) || x) known)
   where
@@ -21,4 +22,5 @@ within_turn t k {n} {m} {r} {j} long q i e = e ∙ rw (q, i) (ap (λ x. not (ltb
     known =
         split (ltb r 64)
         (λ y. rw (y, mod-eq_of_lt (ltb-true r 64 y)))
-        (λ y. let a : 64 ≤ r = ltb-false r 64 y in let d : length t.entries ≤ r = omega arith in rw (y, get_or-eq_default t.entries default_entry d))
+        (λ y. let a : 64 ≤ r = ltb-false r 64 y in let d : length t.entries ≤ r = omega arith in
+        rw (y, get_or-eq_default t.entries default_entry d))

@@ -79,7 +79,8 @@ sets_earlier m n g p =
         split (ltb n m) (λ u. sets_later n m (ltb-true n m u) g)
         (λ u. let e : m ≡ n = omega (arith, ltb-false n m u) in rw e (rw e at p))
 
-pub sets_in_order_lem : (m n : ℕ) → m < small_tables → n < small_tables → (m < n) ↔ Before (sets_in_order (small_sets m)) (sets_in_order (small_sets n))
+pub sets_in_order_lem : (m n : ℕ) → m < small_tables → n < small_tables →
+    (m < n) ↔ Before (sets_in_order (small_sets m)) (sets_in_order (small_sets n))
 sets_in_order_lem m n g h = ((λ l. sets_later m n l h), sets_earlier m n g)
 
 -- WHICH FOUR SETS ARE A SMALL TABLE'S

@@ -110,7 +110,8 @@ module _ (d : ℕ) (s : Sets) (m : Small s) where
 
   entry_is : (r : ℕ) → allocated_in T r ≡ true → entry_at T r ≡ used d (list_at s r) r
   entry_is r a =
-      let h = allocated_small r a in entry_at_lem r h ∙ entry_used d (digit_at s.allocated r) (list_at s r) r (sym (allocated_at_lem r h) ∙ a)
+      let h = allocated_small r a in
+      entry_at_lem r h ∙ entry_used d (digit_at s.allocated r) (list_at s r) r (sym (allocated_at_lem r h) ∙ a)
 
   module _ (g : good_sets s ≡ true) where
     root_in : digit_at s.allocated 0 ≡ true
@@ -144,7 +145,8 @@ module _ (d : ℕ) (s : Sets) (m : Small s) where
     list_read : (r : ℕ) → r < 3 → list_set T r ≡ list_at s r
     list_read r h =
         let o = ((and_iff (subset_of (list_at s r) s.allocated) _).0 (lists_ok r h)).1 in
-        rw (entry_at_lem r h, entry_list_lem d (digit_at s.allocated r) (list_at s r) r o) (list_of_lem (list_at s r) (list_small s m r h)).back
+        rw (entry_at_lem r h, entry_list_lem d (digit_at s.allocated r) (list_at s r) r o)
+        (list_of_lem (list_at s r) (list_small s m r h)).back
 
     pub sets_back : sets_of T ≡ s
     unfolding sets_of

@@ -2,7 +2,8 @@
 ghost use Rattle.std.specs.Prelude.{◌≡◌};
 ghost use Rattle.blockcache.specs.Next.{cached_slot};
 ghost use Rattle.sectortype.specs.Form.{with_slot, zero_slot};
-ghost use Rattle.blocksystem.specs.Names.{names, picture_of, with_working, naming, frozen_named, started_at, froze, cleaned, pictures_after};
+ghost use Rattle.blocksystem.specs.Names.{names, picture_of, with_working, naming, frozen_named, started_at, froze, cleaned};
+ghost use Rattle.blocksystem.specs.Names.{pictures_after};
 
 use crate::formatting::zero_named;
 use blockcache::Call;

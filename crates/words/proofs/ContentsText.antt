@@ -37,7 +37,8 @@ use Rattle.words.specs.Parsed.{both_of, format_of, list_of, node_of, rule_word}
 -- such a byte is none of a number's
 number_byte : (s : List ℕ) (n b : ℕ) → digit b ≡ false → number_of s ≡ Value n → (k : ℕ) → k < length s → eqb (get_or s k 0) b ≡ false
 unfolding number_of
-number_byte s n b o e k l = ne_eqb (get_or s k 0) b (λ h. false≢true (sym o ∙ (rw h at (all_at (λ j. digit (get_or s j 0)) (length s) k digits l))))
+number_byte s n b o e k l =
+    ne_eqb (get_or s k 0) b (λ h. false≢true (sym o ∙ (rw h at (all_at (λ j. digit (get_or s j 0)) (length s) k digits l))))
   where
     digits : all_below (λ j. digit (get_or s j 0)) (length s) ≡ true
     digits =
@@ -60,14 +61,16 @@ found_behind h l a b o e =
     (omega (arith, length-append h (b ∷ l))))
 
 -- so the two sides are that number and what stands behind
-pub sides_behind : (h l : List ℕ) (a b : ℕ) → digit b ≡ false → number_of h ≡ Value a → sides_of (h ++ b ∷ l) b ≡ sides_from (Value a) (number_of l)
+pub sides_behind : (h l : List ℕ) (a b : ℕ) → digit b ≡ false → number_of h ≡ Value a →
+    sides_of (h ++ b ∷ l) b ≡ sides_from (Value a) (number_of l)
 unfolding sides_of
 sides_behind h l a b o e =
     let n : length h ≡ length (h ++ b ∷ l) → ⊥ = λ q. omega (arith, length-append h (b ∷ l)) in
     rw (found_behind h l a b o e, ne_eqb (length h) (length (h ++ b ∷ l)) n, take-append_seam h (b ∷ l), drop-append-add h (b ∷ l) 1, e)
 
 -- ADDR+LEN is read as the two numbers
-pub location_read : (h l : List ℕ) (a b : ℕ) → number_of h ≡ Value a → number_of l ≡ Value b → location_of (h ++ 43 ∷ l) ≡ place.At (record { addr = a; len = b })
+pub location_read : (h l : List ℕ) (a b : ℕ) → number_of h ≡ Value a → number_of l ≡ Value b →
+    location_of (h ++ 43 ∷ l) ≡ place.At (record { addr = a; len = b })
 unfolding location_of
 location_read h l a b e f = rw (sides_behind h l a 43 refl e, f)
 
@@ -84,7 +87,8 @@ number_carried s n e = alone s (not_found s n 46 refl e) ∙ ap low_alone e
 -- HIGH.LOW
 
 -- both numbers are read, each as what it is
-pub both_numbers : (h l : List ℕ) (a b : ℕ) → number_of h ≡ Value a → number_of l ≡ Value b → contents_of (h ++ 46 ∷ l) ≡ contents.Value (record { high = a; low = b })
+pub both_numbers : (h l : List ℕ) (a b : ℕ) → number_of h ≡ Value a → number_of l ≡ Value b →
+    contents_of (h ++ 46 ∷ l) ≡ contents.Value (record { high = a; low = b })
 unfolding contents_of
 both_numbers h l a b e f = rw (sides_behind h l a 46 refl e, f)
 
@@ -124,26 +128,30 @@ abbrev is_read : ContentsText → Bool
 is_read (contents.Value c) = true
 is_read contents.Bad = false
 
-from_only : (p : Pair) (d : Digits) (c : Contents) → contents_from p d ≡ contents.Value c → (p ≡ pair.Of c.high c.low) ⊎ ((c.high ≡ 0) × (d ≡ Value c.low))
+from_only : (p : Pair) (d : Digits) (c : Contents) → contents_from p d ≡ contents.Value c →
+    (p ≡ pair.Of c.high c.low) ⊎ ((c.high ≡ 0) × (d ≡ Value c.low))
 from_only (pair.Of h l) d c e = let q = ap inside e in inl (λ i. pair.Of (q i).high (q i).low)
 from_only pair.Bad (Value n) c e = let q = ap inside e in inr (ap (λ x. x.high) (sym q), ap (λ x. Value x.low) q)
 from_only pair.Bad Bad c e = absurd (false≢true (ap is_read e))
 
 -- contents that are read are the numbers on the two sides of the first full stop, or a number alone, with high 0
-pub contents_only : (s : List ℕ) (c : Contents) → contents_of s ≡ contents.Value c → (sides_of s 46 ≡ pair.Of c.high c.low) ⊎ ((c.high ≡ 0) × (number_of s ≡ Value c.low))
+pub contents_only : (s : List ℕ) (c : Contents) → contents_of s ≡ contents.Value c →
+    (sides_of s 46 ≡ pair.Of c.high c.low) ⊎ ((c.high ≡ 0) × (number_of s ≡ Value c.low))
 unfolding contents_of
 contents_only s c e = from_only (sides_of s 46) (number_of s) c e
 
 -- WHERE CONTENTS STAND
 
 -- a node has the contents in front of its colon, whole, and the list behind it
-pub node_read : (w : List ℕ) (c : Contents) → (find_of w 58 ≡ length w → ⊥) → contents_of (take (find_of w 58) w) ≡ contents.Value c → (list_of (drop (find_of w 58 + 1) w)).ok ≡ true →
+pub node_read : (w : List ℕ) (c : Contents) → (find_of w 58 ≡ length w → ⊥) → contents_of (take (find_of w 58) w) ≡ contents.Value c →
+    (list_of (drop (find_of w 58 + 1) w)).ok ≡ true →
     node_of w ≡ record { ok = true; node = record { contents = c; succs = (list_of (drop (find_of w 58 + 1) w)).succs } }
 unfolding node_of
 node_read w c h e f = rw (ne_eqb _ _ h, e, f)
 
 -- and a format line those behind its key
-pub format_read : (r : List ℕ) (d : ℕ) (c : Contents) (k : ℕ) → both_of r keys.Format device_bytes contents_bytes ≡ true → number_word r device_bytes ≡ Value d →
+pub format_read : (r : List ℕ) (d : ℕ) (c : Contents) (k : ℕ) → both_of r keys.Format device_bytes contents_bytes ≡ true →
+    number_word r device_bytes ≡ Value d →
     contents_of (drop 9 (word_of r contents_bytes)) ≡ contents.Value c → rule_word r ≡ Value k →
     format_of r ≡ line.Format d c k
 unfolding format_of
@@ -152,7 +160,8 @@ format_read r d c k h e f g = rw (h, e, f, g)
 -- THE RULE OF A FORMAT LINE
 
 -- the number behind its key
-pub rule_read : (r : List ℕ) (k : ℕ) → (length (word_of r rule_bytes) ≡ 0 → ⊥) → number_of (drop 5 (word_of r rule_bytes)) ≡ Value k → rule_word r ≡ Value k
+pub rule_read : (r : List ℕ) (k : ℕ) → (length (word_of r rule_bytes) ≡ 0 → ⊥) → number_of (drop 5 (word_of r rule_bytes)) ≡ Value k →
+    rule_word r ≡ Value k
 unfolding rule_word number_word
 rule_read r k h e = rw (ne_eqb _ _ h, e)
 
@@ -164,16 +173,19 @@ rule_absent r h = rw (h)
 -- A SCRIPT OF BEFORE, WHERE CONTENTS WERE ONE NUMBER
 
 -- a format line whose word had a number has the contents that it is carried to; it had no rule, and means rule 1
-pub format_carried : (r : List ℕ) (d n : ℕ) → both_of r keys.Format device_bytes contents_bytes ≡ true → number_word r device_bytes ≡ Value d → number_word r contents_bytes ≡ Value n →
+pub format_carried : (r : List ℕ) (d n : ℕ) → both_of r keys.Format device_bytes contents_bytes ≡ true →
+    number_word r device_bytes ≡ Value d → number_word r contents_bytes ≡ Value n →
     length (word_of r rule_bytes) ≡ 0 →
     format_of r ≡ line.Format d (carried_contents n) 1
 unfolding number_word both_of
 format_carried r d n h e f a =
-    let t : eqb (length (word_of r contents_bytes)) 0 ≡ false = (not_true_iff _).0 (and_right (fit_of r keys.Format && not (eqb (length (word_of r device_bytes)) 0)) _ h) in
+    let t : eqb (length (word_of r contents_bytes)) 0 ≡ false = (not_true_iff _).0
+    (and_right (fit_of r keys.Format && not (eqb (length (word_of r device_bytes)) 0)) _ h) in
     format_read r d (carried_contents n) 1 h e (number_carried (drop 9 (word_of r contents_bytes)) n (rw t at f)) (rule_absent r a)
 
 -- a node that was written with a number is the older node carried over
-pub node_carried : (w : List ℕ) (n : ℕ) → (find_of w 58 ≡ length w → ⊥) → number_of (take (find_of w 58) w) ≡ Value n → (list_of (drop (find_of w 58 + 1) w)).ok ≡ true →
+pub node_carried : (w : List ℕ) (n : ℕ) → (find_of w 58 ≡ length w → ⊥) → number_of (take (find_of w 58) w) ≡ Value n →
+    (list_of (drop (find_of w 58 + 1) w)).ok ≡ true →
     node_of w ≡ record { ok = true; node = carried (record { contents = n; succs = (list_of (drop (find_of w 58 + 1) w)).succs }) }
 unfolding carried
 node_carried w n h e f = node_read w (carried_contents n) h (number_carried (take (find_of w 58) w) n e) f

@@ -30,7 +30,8 @@ words_same (suc n) (suc m) r a b =
     let l : length (drop (1 + f) r) ≡ length r - (1 + f) = length-drop (1 + f) r in
     rw (words_same n m (drop (1 + f) r) (omega (arith, l)) (omega (arith, l)))
 
-pub words_step : (r : List ℕ) → (length r ≡ 0 → ⊥) → words_of r ≡ (take (find_of (drop 1 r) 32) (drop 1 r) ∷ words_of (drop (1 + find_of (drop 1 r) 32) r))
+pub words_step : (r : List ℕ) → (length r ≡ 0 → ⊥) →
+    words_of r ≡ (take (find_of (drop 1 r) 32) (drop 1 r) ∷ words_of (drop (1 + find_of (drop 1 r) 32) r))
 unfolding words_of words_from
 words_step [] h = absurd (h refl)
 words_step (x ∷ s) h =
@@ -39,13 +40,16 @@ words_step (x ∷ s) h =
     let l : length (drop (1 + f) r) ≡ length r - (1 + f) = length-drop (1 + f) r in
     simp (ne_eqb (length r) 0 h, words_same (length s) (length (drop (1 + f) r)) (drop (1 + f) r) (omega (arith, l)) (omega arith))
 
-pub words_turn : (r : List ℕ) (at : ℕ) → at < length r → words_of (drop at r) ≡ (take (find_of (drop (at + 1) r) 32) (drop (at + 1) r) ∷ words_of (drop (at + 1 + find_of (drop (at + 1) r) 32) r))
+pub words_turn : (r : List ℕ) (at : ℕ) → at < length r →
+    words_of (drop at r) ≡ (take (find_of (drop (at + 1) r) 32) (drop (at + 1) r) ∷ words_of
+    (drop (at + 1 + find_of (drop (at + 1) r) 32) r))
 words_turn r at b =
     let l : length (drop at r) ≡ length r - at = length-drop at r in
     let e = words_step (drop at r) (λ z. omega (arith, l, z)) in
     let d : drop 1 (drop at r) ≡ drop (at + 1) r = drop-drop 1 at r in
     let f : ℕ = find_of (drop (at + 1) r) 32 in
-    let k : drop (1 + f) (drop at r) ≡ drop (at + 1 + f) r = drop-drop (1 + f) at r ∙ ap (λ (i : ℕ). drop i r) (let q : at + (1 + f) ≡ at + 1 + f = omega arith in q) in
+    let k : drop (1 + f) (drop at r) ≡ drop (at + 1 + f) r = drop-drop (1 + f) at r
+    ∙ ap (λ (i : ℕ). drop i r) (let q : at + (1 + f) ≡ at + 1 + f = omega arith in q) in
     rw (d, k) at e
 
 pub words_end : (r : List ℕ) (at : ℕ) → length r ≤ at → words_of (drop at r) ≡ []
@@ -53,12 +57,14 @@ unfolding words_of words_from
 words_end r at b = rw (drop_of_length-le r b)
 
 -- the word with a key is here
-pub word_hit : (r key : List ℕ) (at : ℕ) {w : List ℕ} → at < length r → first_with key (words_of (drop at r)) ≡ word_of r key → w ≡ take (find_of (drop (at + 1) r) 32) (drop (at + 1) r) →
+pub word_hit : (r key : List ℕ) (at : ℕ) {w : List ℕ} → at < length r → first_with key (words_of (drop at r)) ≡ word_of r key →
+    w ≡ take (find_of (drop (at + 1) r) 32) (drop (at + 1) r) →
     starts_of w key ≡ true → w ≡ word_of r key
 word_hit r key at b e h t = rw (words_turn r at b, ← h, t) at e
 
 -- or further on
-pub word_miss : (r key : List ℕ) (at : ℕ) {w : List ℕ} → at < length r → first_with key (words_of (drop at r)) ≡ word_of r key → w ≡ take (find_of (drop (at + 1) r) 32) (drop (at + 1) r) →
+pub word_miss : (r key : List ℕ) (at : ℕ) {w : List ℕ} → at < length r → first_with key (words_of (drop at r)) ≡ word_of r key →
+    w ≡ take (find_of (drop (at + 1) r) 32) (drop (at + 1) r) →
     starts_of w key ≡ false → first_with key (words_of (drop (at + 1 + find_of (drop (at + 1) r) 32) r)) ≡ word_of r key
 word_miss r key at b e h t = rw (words_turn r at b, ← h, t) at e
 
@@ -70,12 +76,14 @@ regroup true b c d = refl
 regroup false b c d = refl
 
 pub fit_turn : (r : List ℕ) (ks : Keys) (at k : ℕ) (seen : List Bool) (good : Bool) {fits x : Bool} → at < length r →
-    k ≡ key_of (take (find_of (drop (at + 1) r) 32) (drop (at + 1) r)) → fits ≡ keys_of ks k → (good && fit_from seen ks (words_of (drop at r))) ≡ x →
+    k ≡ key_of (take (find_of (drop (at + 1) r) 32) (drop (at + 1) r)) → fits ≡ keys_of ks k →
+    (good && fit_from seen ks (words_of (drop at r))) ≡ x →
     (((good && fits) && not ((get_or seen k false && not (eqb k 12)) && not (eqb k 16)))
     && fit_from (set seen k true) ks (words_of (drop (at + 1 + find_of (drop (at + 1) r) 32) r))) ≡ x
 fit_turn r ks at k seen good {fits} b e f h = regroup good fits _ _ ∙ (rw (words_turn r at b, ← e, ← f) at h)
 
-pub fit_end : (r : List ℕ) (ks : Keys) (at : ℕ) (seen : List Bool) (good : Bool) {x : Bool} → length r ≤ at → (good && fit_from seen ks (words_of (drop at r))) ≡ x → good ≡ x
+pub fit_end : (r : List ℕ) (ks : Keys) (at : ℕ) (seen : List Bool) (good : Bool) {x : Bool} → length r ≤ at →
+    (good && fit_from seen ks (words_of (drop at r))) ≡ x → good ≡ x
 fit_end r ks at seen true b h = rw (words_end r at b) at h
 fit_end r ks at seen false b h = h
 
@@ -107,17 +115,23 @@ unfolding pieces_of pieces_from
 pieces_last b [] e = rw (take-nil (find_of [] b))
 pieces_last b (x ∷ s) e = simp (eq-eqb _ _ e)
 
-pub pieces_more : (b : ℕ) (s : List ℕ) → (find_of s b ≡ length s → ⊥) → pieces_of b s ≡ (take (find_of s b) s ∷ pieces_of b (drop (find_of s b + 1) s))
+pub pieces_more : (b : ℕ) (s : List ℕ) → (find_of s b ≡ length s → ⊥) →
+    pieces_of b s ≡ (take (find_of s b) s ∷ pieces_of b (drop (find_of s b + 1) s))
 unfolding pieces_of pieces_from
 pieces_more b [] h = absurd (h (let g : find_of [] b ≤ 0 = find_le [] b in omega (arith, g)))
 pieces_more b (x ∷ s) h =
     let r : List ℕ = x ∷ s in
     let l : length (drop (find_of r b + 1) r) ≡ length r - (find_of r b + 1) = length-drop (find_of r b + 1) r in
-    simp (ne_eqb _ _ h, pieces_same b (length s) (length (drop (find_of r b + 1) r)) (drop (find_of r b + 1) r) (omega (arith, l)) (omega arith))
+    simp (
+      ne_eqb _ _ h,
+      pieces_same b (length s) (length (drop (find_of r b + 1) r)) (drop (find_of r b + 1) r) (omega (arith, l))
+          (omega arith),
+    )
 
 module _ {A : Type 0} (ok : A → Bool) (step : A → List ℕ → A) (none : A) where
   -- a piece that is not right
-  pub fold_bad : (b : ℕ) (w : List ℕ) (from : ℕ) (a : A) {a' x : A} → a' ≡ step a (take (find_of (drop from w) b) (drop from w)) → fold_from ok step none a (pieces_of b (drop from w)) ≡ x →
+  pub fold_bad : (b : ℕ) (w : List ℕ) (from : ℕ) (a : A) {a' x : A} → a' ≡ step a (take (find_of (drop from w) b) (drop from w)) →
+      fold_from ok step none a (pieces_of b (drop from w)) ≡ x →
       ok a' ≡ false → none ≡ x
   fold_bad b w from a e h t =
       let u = rw e at t in
@@ -126,17 +140,21 @@ module _ {A : Type 0} (ok : A → Bool) (step : A → List ℕ → A) (none : A)
       (λ y. rw (pieces_more b (drop from w) (eqb-false _ _ y), u) at h)
 
   -- the last piece
-  pub fold_last : (b : ℕ) (w : List ℕ) (from n : ℕ) (a : A) {a' x : A} → n ≡ find_of (drop from w) b → a' ≡ step a (take (find_of (drop from w) b) (drop from w)) →
+  pub fold_last : (b : ℕ) (w : List ℕ) (from n : ℕ) (a : A) {a' x : A} → n ≡ find_of (drop from w) b →
+      a' ≡ step a (take (find_of (drop from w) b) (drop from w)) →
       fold_from ok step none a (pieces_of b (drop from w)) ≡ x → ok a' ≡ true → n ≡ length (drop from w) → a' ≡ x
   fold_last b w from n a k e h t l =
       let u = rw e at t in
       e ∙ (rw (pieces_last b (drop from w) (sym k ∙ l), u) at h)
 
   -- a piece with another behind it
-  pub fold_turn : (b : ℕ) (w : List ℕ) (from n : ℕ) (a : A) {a' x : A} → n ≡ find_of (drop from w) b → a' ≡ step a (take (find_of (drop from w) b) (drop from w)) →
-      fold_from ok step none a (pieces_of b (drop from w)) ≡ x → ok a' ≡ true → (n ≡ length (drop from w) → ⊥) → fold_from ok step none a' (pieces_of b (drop (from + n + 1) w)) ≡ x
+  pub fold_turn : (b : ℕ) (w : List ℕ) (from n : ℕ) (a : A) {a' x : A} → n ≡ find_of (drop from w) b →
+      a' ≡ step a (take (find_of (drop from w) b) (drop from w)) →
+      fold_from ok step none a (pieces_of b (drop from w)) ≡ x → ok a' ≡ true → (n ≡ length (drop from w) → ⊥) →
+      fold_from ok step none a' (pieces_of b (drop (from + n + 1) w)) ≡ x
   fold_turn b w from n a k e h t l =
       let u = rw e at t in
       let q : from + (find_of (drop from w) b + 1) ≡ from + n + 1 = omega (arith, k) in
-      let d : drop (find_of (drop from w) b + 1) (drop from w) ≡ drop (from + n + 1) w = drop-drop (find_of (drop from w) b + 1) from w ∙ ap (λ (i : ℕ). drop i w) q in
+      let d : drop (find_of (drop from w) b + 1) (drop from w) ≡ drop (from + n + 1) w = drop-drop (find_of (drop from w) b + 1) from w
+      ∙ ap (λ (i : ℕ). drop i w) q in
       rw e (rw (pieces_more b (drop from w) (λ y. l (k ∙ y)), u, d) at h)

@@ -76,7 +76,8 @@ value_grows s k (suc n) b =
     (λ e. rw e (let h : value_of s (suc n) ≤ value_of s (suc n) = omega arith in h))
 
 -- one byte more
-pub number_turn : (s : List ℕ) (i n d m : ℕ) → n ≡ value_of s i → d ≡ worth_of (get_or s i 0) → true ≡ all_below (λ k. digit (get_or s k 0)) i → appended_of n d ≡ Value m →
+pub number_turn : (s : List ℕ) (i n d m : ℕ) → n ≡ value_of s i → d ≡ worth_of (get_or s i 0) →
+    true ≡ all_below (λ k. digit (get_or s k 0)) i → appended_of n d ≡ Value m →
     (m ≡ value_of s (i + 1)) × (m < 2 ^ 64) × (true ≡ all_below (λ k. digit (get_or s k 0)) (i + 1))
 number_turn s i n d m e f g h =
     let x = appended_value n d m h in
@@ -100,7 +101,8 @@ number_stop s i b e =
     (λ t. simp (all_fails (λ k. digit (get_or s k 0)) (length s) i b t))
 
 -- where all are taken it is
-pub number_good : (s : List ℕ) (i n : ℕ) → i ≤ length s → length s ≤ i → n ≡ value_of s i → n < 2 ^ 64 → true ≡ all_below (λ k. digit (get_or s k 0)) i → (length s ≡ 0 → ⊥) →
+pub number_good : (s : List ℕ) (i n : ℕ) → i ≤ length s → length s ≤ i → n ≡ value_of s i → n < 2 ^ 64 →
+    true ≡ all_below (λ k. digit (get_or s k 0)) i → (length s ≡ 0 → ⊥) →
     (ltb 1 (length s) && eqb (get_or s 0 0) 48) ≡ false → Value n ≡ number_of s
 unfolding number_of
 number_good s i n a b e f g h k =

@@ -1,5 +1,6 @@
 -- A line cut into words and a word into pieces; the word that has a key; whether all words fit.
-use Rattle.std.specs.Prelude.{ℕ, zero, suc, ◌+◌, Bool, true, false, ◌&&◌, not, cond, List, [], ◌∷◌, eqb, length, get_or, set, take, drop, replicate}
+use Rattle.std.specs.Prelude.{ℕ, zero, suc, ◌+◌, Bool, true, false, ◌&&◌, not, cond, List, [], ◌∷◌, eqb, length, get_or, set, take, drop}
+use Rattle.std.specs.Prelude.{replicate}
 use Rattle.words.specs.declared.digits.Digits.{Digits}
 use Rattle.words.specs.declared.digits.Digits.TheVariants.{Value}
 use Rattle.words.specs.declared.digits.Place.{Place}

@@ -1,5 +1,6 @@
 -- Lists, nodes and tables as text, and what kind of line it is.
-use Rattle.std.specs.Prelude.{ℕ, ◌+◌, ◌%◌, Bool, true, false, ◌&&◌, ◌||◌, not, cond, List, [], ◌∷◌, ltb, eqb, length, get_or, set, take, drop}
+use Rattle.std.specs.Prelude.{ℕ, ◌+◌, ◌%◌, Bool, true, false, ◌&&◌, ◌||◌, not, cond, List, [], ◌∷◌, ltb, eqb, length, get_or, set, take}
+use Rattle.std.specs.Prelude.{drop}
 use Rattle.disklayout.specs.Calls.{zero_loc}
 use Rattle.sectortype.specs.Form.{zero_succs, zero_node, zero_entry, empty_table, with_entry}
 use Rattle.sectortype.specs.declared.Succs.{Succs}

@@ -18,4 +18,5 @@ returns c =
     let n = length_closed a.old a.p (omega arith) in
     let t = closed a.old a.p in
     let u = length-append t (zero_request ∷ []) in
-    ext_get_or zero_request s.at (t ++ (zero_request ∷ [])) (omega arith) (λ k b. s.invariant.3 k (omega arith) ∙ sym (get_d_pad t zero_request k))
+    ext_get_or zero_request s.at (t ++ (zero_request ∷ [])) (omega arith)
+    (λ k b. s.invariant.3 k (omega arith) ∙ sym (get_d_pad t zero_request k))

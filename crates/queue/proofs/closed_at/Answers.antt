@@ -17,7 +17,8 @@ pub returns-then-k-eq15 : goal.returns-then-k-eq15
 returns-then-k-eq15 c =
     let a = c.args in
     let l : length a.at ≡ 16 = search rules in
-    rw c.zero_request.ensures (sym (closed_behind a.at a.p zero_request a.k c.if-k-p.false ∙ get_or-eq_default a.at zero_request (omega arith)))
+    rw c.zero_request.ensures (sym
+    (closed_behind a.at a.p zero_request a.k c.if-k-p.false ∙ get_or-eq_default a.at zero_request (omega arith)))
 
 pub returns : goal.returns
 returns c =

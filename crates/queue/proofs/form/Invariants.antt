@@ -6,7 +6,9 @@ use Rattle.queue.specs.Queue.{request_at, request_form}
 use Rattle.queue.proofs.form.Given as goal
 
 abbrev pub invariant-loop-i : goal.invariant-loop-i
-invariant-loop-i l = (l.i ≤ 16) × (l.before ≡ request_at l.q (l.i - 1)) × (l.good ≡ all_below (λ k. request_form l.q.count k (request_at l.q (k - 1)) (request_at l.q k)) l.i)
+invariant-loop-i l =
+    (l.i ≤ 16) × (l.before ≡ request_at l.q (l.i - 1))
+    × (l.good ≡ all_below (λ k. request_form l.q.count k (request_at l.q (k - 1)) (request_at l.q k)) l.i)
 
 abbrev pub decreases-loop-i : goal.decreases-loop-i
 decreases-loop-i l = 16 - l.i

@@ -7,7 +7,9 @@ use Rattle.queue.specs.Queue.{zero_request}
 use Rattle.queue.proofs.open_all.Given as goal
 
 abbrev pub invariant-loop-i : goal.invariant-loop-i
-invariant-loop-i l = (l.i ≤ 16) × (length l.at ≡ 16) × (length l.old ≡ 16) × ((k : ℕ) → k < l.i → get_or l.at k zero_request ≡ get_or (opened l.old l.p l.w) k zero_request)
+invariant-loop-i l =
+    (l.i ≤ 16) × (length l.at ≡ 16) × (length l.old ≡ 16)
+    × ((k : ℕ) → k < l.i → get_or l.at k zero_request ≡ get_or (opened l.old l.p l.w) k zero_request)
 
 abbrev pub decreases-loop-i : goal.decreases-loop-i
 decreases-loop-i l = 16 - l.i

@@ -50,5 +50,11 @@ returns c =
     let ready = sym c.is_ready-ready.ensures ∙ c.if-not-ready.false in
     let ne = rw c.free_count-free.ensures at c.if-free-eq0.false in
     let made_device : made g.device ≡ true = and_left (made g.device) (is_rule g.rule) named in
-    simp (c.node_block_addr-at.ensures, c.next_free-block.ensures, c.free_count-free.ensures, made_device, lt-ltb _ 128 (block_below g state named form ready ne))
+    simp (
+      c.node_block_addr-at.ensures,
+      c.next_free-block.ensures,
+      c.free_count-free.ensures,
+      made_device,
+      lt-ltb _ 128 (block_below g state named form ready ne),
+    )
     (one_free g state named form ready ne)

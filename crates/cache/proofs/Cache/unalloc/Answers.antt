@@ -13,4 +13,12 @@ pub returns : goal.returns
 unfolding past_gate
 returns c =
     let e = sym c.unalloc_refusal-n.ensures ∙ c.if-n-ne0.false in
-    simp (eq-eqb _ _ e, e, c.answered-2.ensures, c.with_slot-m2.ensures, c.zero_slot-s.ensures, c.with_entry-t2.ensures, c.zero_entry-e.ensures)
+    simp (
+      eq-eqb _ _ e,
+      e,
+      c.answered-2.ensures,
+      c.with_slot-m2.ensures,
+      c.zero_slot-s.ensures,
+      c.with_entry-t2.ensures,
+      c.zero_entry-e.ensures,
+    )

@@ -7,7 +7,11 @@ use Rattle.cache.proofs.Cache.write_back_indirection_table_req.Goals as goal
 pub returns-then-n-ne0 : goal.returns-then-n-ne0
 unfolding past_gate
 returns-then-n-ne0 c =
-    simp (c.answered.ensures, ne_eqb _ _ (rw c.write_back_indirection_table_req_refusal-n.ensures at c.if-n-ne0.true), c.write_back_indirection_table_req_refusal-n.ensures)
+    simp (
+      c.answered.ensures,
+      ne_eqb _ _ (rw c.write_back_indirection_table_req_refusal-n.ensures at c.if-n-ne0.true),
+      c.write_back_indirection_table_req_refusal-n.ensures,
+    )
 
 pub returns : goal.returns
 unfolding past_gate

@@ -7,7 +7,8 @@ pub returns : goal.returns
 unfolding answer
 returns c =
     let a = c.args in
-    let node = rw c.dop_loc-loc.ensures at (node_told a.self.settings.device c.dop_loc-loc.result c.kind_of-asked.ensures c.is_kind-valid.ensures) in
+    let node = rw c.dop_loc-loc.ensures at
+    (node_told a.self.settings.device c.dop_loc-loc.result c.kind_of-asked.ensures c.is_kind-valid.ensures) in
     simp (
       c.first_of.ensures,
       c.first_of-n6.ensures,

@@ -5,4 +5,11 @@ use Rattle.cache.proofs.form.parts_form.Goals as goal
 pub returns : goal.returns
 unfolding parts_form
 returns c =
-    simp (c.phase_form-phase.ensures, c.nodes_form-nodes.ensures, c.outstanding_form-outstanding.ensures, c.awaited_form-awaited.ensures, c.places_form-places.ensures, c.tables_form-tables.ensures)
+    simp (
+      c.phase_form-phase.ensures,
+      c.nodes_form-nodes.ensures,
+      c.outstanding_form-outstanding.ensures,
+      c.awaited_form-awaited.ensures,
+      c.places_form-places.ensures,
+      c.tables_form-tables.ensures,
+    )

@@ -16,8 +16,11 @@ loop-j-preserved c =
     (search rules, c.loop-j.invariant.1, some_turn _ _ c.loop-j.invariant.2 (sym (rw c.names_at.ensures at c.if-here.false)))
 
 pub search-preserved : goal.search-preserved
-search-preserved c =
-    (search rules, c.loop-j.invariant.1, some_turn _ _ c.search.invariant.2 (some_end _ c.loop-j.invariant.2 c.loop-j.invariant.0 c.loop-j-test.false))
+search-preserved c = (
+  search rules,
+  c.loop-j.invariant.1,
+  some_turn _ _ c.search.invariant.2 (some_end _ c.loop-j.invariant.2 c.loop-j.invariant.0 c.loop-j-test.false),
+)
 
 pub returns-after-search : goal.returns-after-search
 unfolding has_predecessor

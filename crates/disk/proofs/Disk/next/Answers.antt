@@ -21,68 +21,140 @@ pub returns-then-not-good : goal.returns-then-not-good
 unfolding disk_form disk_step answer
 returns-then-not-good c =
     simp
-    (rw (c.table_form-table_ok.ensures, c.node_form-node_ok.ensures, c.disk_ok-form.ensures, c.queues_ok-waiting.ensures, c.records_ok-stored.ensures)
+    (rw (
+      c.table_form-table_ok.ensures,
+      c.node_form-node_ok.ensures,
+      c.disk_ok-form.ensures,
+      c.queues_ok-waiting.ensures,
+      c.records_ok-stored.ensures,
+    )
     at c.if-not-good.true)
 
 pub returns-in-ReqReadIndirectionTableOp : goal.returns-in-ReqReadIndirectionTableOp
 unfolding disk_form
 returns-in-ReqReadIndirectionTableOp c =
-    let e = rw (c.table_form-table_ok.ensures, c.node_form-node_ok.ensures, c.disk_ok-form.ensures, c.queues_ok-waiting.ensures, c.records_ok-stored.ensures)
+    let e = rw (
+      c.table_form-table_ok.ensures,
+      c.node_form-node_ok.ensures,
+      c.disk_ok-form.ensures,
+      c.queues_ok-waiting.ensures,
+      c.records_ok-stored.ensures,
+    )
     at c.if-not-good.false in
-    simp (formed c.args.self.device c.args.self.state c.args.call e, c.in-ReqReadIndirectionTableOp.is) c.recv_read_indirection_table.ensures
+    simp (
+      formed c.args.self.device c.args.self.state c.args.call e,
+      c.in-ReqReadIndirectionTableOp.is,
+    ) c.recv_read_indirection_table.ensures
 
 pub returns-in-ReqReadNodeOp : goal.returns-in-ReqReadNodeOp
 unfolding disk_form
 returns-in-ReqReadNodeOp c =
-    let e = rw (c.table_form-table_ok.ensures, c.node_form-node_ok.ensures, c.disk_ok-form.ensures, c.queues_ok-waiting.ensures, c.records_ok-stored.ensures)
+    let e = rw (
+      c.table_form-table_ok.ensures,
+      c.node_form-node_ok.ensures,
+      c.disk_ok-form.ensures,
+      c.queues_ok-waiting.ensures,
+      c.records_ok-stored.ensures,
+    )
     at c.if-not-good.false in
     simp (formed c.args.self.device c.args.self.state c.args.call e, c.in-ReqReadNodeOp.is) c.recv_read_node.ensures
 
 pub returns-in-ReqWriteIndirectionTableOp : goal.returns-in-ReqWriteIndirectionTableOp
 unfolding disk_form
 returns-in-ReqWriteIndirectionTableOp c =
-    let e = rw (c.table_form-table_ok.ensures, c.node_form-node_ok.ensures, c.disk_ok-form.ensures, c.queues_ok-waiting.ensures, c.records_ok-stored.ensures)
+    let e = rw (
+      c.table_form-table_ok.ensures,
+      c.node_form-node_ok.ensures,
+      c.disk_ok-form.ensures,
+      c.queues_ok-waiting.ensures,
+      c.records_ok-stored.ensures,
+    )
     at c.if-not-good.false in
-    simp (formed c.args.self.device c.args.self.state c.args.call e, c.in-ReqWriteIndirectionTableOp.is) c.recv_write_indirection_table.ensures
+    simp (
+      formed c.args.self.device c.args.self.state c.args.call e,
+      c.in-ReqWriteIndirectionTableOp.is,
+    ) c.recv_write_indirection_table.ensures
 
 pub returns-in-ReqWriteNodeOp : goal.returns-in-ReqWriteNodeOp
 unfolding disk_form
 returns-in-ReqWriteNodeOp c =
-    let e = rw (c.table_form-table_ok.ensures, c.node_form-node_ok.ensures, c.disk_ok-form.ensures, c.queues_ok-waiting.ensures, c.records_ok-stored.ensures)
+    let e = rw (
+      c.table_form-table_ok.ensures,
+      c.node_form-node_ok.ensures,
+      c.disk_ok-form.ensures,
+      c.queues_ok-waiting.ensures,
+      c.records_ok-stored.ensures,
+    )
     at c.if-not-good.false in
     simp (formed c.args.self.device c.args.self.state c.args.call e, c.in-ReqWriteNodeOp.is) c.recv_write_node.ensures
 
 pub returns-in-RespReadIndirectionTableOp : goal.returns-in-RespReadIndirectionTableOp
 unfolding disk_form
 returns-in-RespReadIndirectionTableOp c =
-    let e = rw (c.table_form-table_ok.ensures, c.node_form-node_ok.ensures, c.disk_ok-form.ensures, c.queues_ok-waiting.ensures, c.records_ok-stored.ensures)
+    let e = rw (
+      c.table_form-table_ok.ensures,
+      c.node_form-node_ok.ensures,
+      c.disk_ok-form.ensures,
+      c.queues_ok-waiting.ensures,
+      c.records_ok-stored.ensures,
+    )
     at c.if-not-good.false in
-    simp (formed c.args.self.device c.args.self.state c.args.call e, c.in-RespReadIndirectionTableOp.is) c.ack_read_indirection_table.ensures
+    simp (
+      formed c.args.self.device c.args.self.state c.args.call e,
+      c.in-RespReadIndirectionTableOp.is,
+    ) c.ack_read_indirection_table.ensures
 
 pub returns-in-RespReadNodeOp : goal.returns-in-RespReadNodeOp
 unfolding disk_form
 returns-in-RespReadNodeOp c =
-    let e = rw (c.table_form-table_ok.ensures, c.node_form-node_ok.ensures, c.disk_ok-form.ensures, c.queues_ok-waiting.ensures, c.records_ok-stored.ensures)
+    let e = rw (
+      c.table_form-table_ok.ensures,
+      c.node_form-node_ok.ensures,
+      c.disk_ok-form.ensures,
+      c.queues_ok-waiting.ensures,
+      c.records_ok-stored.ensures,
+    )
     at c.if-not-good.false in
     simp (formed c.args.self.device c.args.self.state c.args.call e, c.in-RespReadNodeOp.is) c.ack_read_node.ensures
 
 pub returns-in-RespWriteIndirectionTableOp : goal.returns-in-RespWriteIndirectionTableOp
 unfolding disk_form
 returns-in-RespWriteIndirectionTableOp c =
-    let e = rw (c.table_form-table_ok.ensures, c.node_form-node_ok.ensures, c.disk_ok-form.ensures, c.queues_ok-waiting.ensures, c.records_ok-stored.ensures)
+    let e = rw (
+      c.table_form-table_ok.ensures,
+      c.node_form-node_ok.ensures,
+      c.disk_ok-form.ensures,
+      c.queues_ok-waiting.ensures,
+      c.records_ok-stored.ensures,
+    )
     at c.if-not-good.false in
-    simp (formed c.args.self.device c.args.self.state c.args.call e, c.in-RespWriteIndirectionTableOp.is) c.ack_write_indirection_table.ensures
+    simp (
+      formed c.args.self.device c.args.self.state c.args.call e,
+      c.in-RespWriteIndirectionTableOp.is,
+    ) c.ack_write_indirection_table.ensures
 
 pub returns-in-RespWriteNodeOp : goal.returns-in-RespWriteNodeOp
 unfolding disk_form
 returns-in-RespWriteNodeOp c =
-    let e = rw (c.table_form-table_ok.ensures, c.node_form-node_ok.ensures, c.disk_ok-form.ensures, c.queues_ok-waiting.ensures, c.records_ok-stored.ensures)
+    let e = rw (
+      c.table_form-table_ok.ensures,
+      c.node_form-node_ok.ensures,
+      c.disk_ok-form.ensures,
+      c.queues_ok-waiting.ensures,
+      c.records_ok-stored.ensures,
+    )
     at c.if-not-good.false in
     simp (formed c.args.self.device c.args.self.state c.args.call e, c.in-RespWriteNodeOp.is) c.ack_write_node.ensures
 
 pub returns-in-NoDiskOp : goal.returns-in-NoDiskOp
 unfolding disk_form
 returns-in-NoDiskOp c =
-    let e = rw (c.table_form-table_ok.ensures, c.node_form-node_ok.ensures, c.disk_ok-form.ensures, c.queues_ok-waiting.ensures, c.records_ok-stored.ensures)
+    let e = rw (
+      c.table_form-table_ok.ensures,
+      c.node_form-node_ok.ensures,
+      c.disk_ok-form.ensures,
+      c.queues_ok-waiting.ensures,
+      c.records_ok-stored.ensures,
+    )
     at c.if-not-good.false in
     simp (formed c.args.self.device c.args.self.state c.args.call e, c.in-NoDiskOp.is) c.stutter.ensures

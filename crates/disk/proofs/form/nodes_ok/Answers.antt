@@ -17,8 +17,12 @@ pub loop-i-preserved : goal.loop-i-preserved
 loop-i-preserved c =
     let v = c.loop-i.invariant in
     let e = c.node_record_ok-c.ensures _ c.loop-i-test.true v.1 in
-    let device = c.args.device in
-    (search rules, walk_next device c.loop-i.i v.1 c.node_block_size-size.ensures, all_turn _ _ v.2 (ap (λ x. x.form) e), all_turn _ _ v.3 (ap (λ x. x.placed) e))
+    let device = c.args.device in (
+      search rules,
+      walk_next device c.loop-i.i v.1 c.node_block_size-size.ensures,
+      all_turn _ _ v.2 (ap (λ x. x.form) e),
+      all_turn _ _ v.3 (ap (λ x. x.placed) e),
+    )
 
 pub returns : goal.returns
 unfolding nodes_checked

@@ -1,11 +1,13 @@
--- At each try the running address is the first node address plus block number times block size (`running_addr`, `running_addr_lem`), and no block
+-- At each try the running address is the first node address plus block number times block size
+-- (`running_addr`, `running_addr_lem`), and no block
 -- before has the address asked for. Assumes nothing.
 use Prim.Native.Nat.{◌+◌, ◌<◌}
 use mathlib.Core.Path.{◌≡◌, ◌∙◌}
 use native.Mathlib.Omega.{arith}
 use borrow.Author.Rules.{rules}
 use Rattle.disklayout.specs.Blocks.{running_addr}
-use Rattle.disklayout.proofs.RunningAddr.{missed_none, missed_turn, missed_past, running_first, running_next, running_fits, walk_found, walk_none}
+use Rattle.disklayout.proofs.RunningAddr.{missed_none, missed_turn, missed_past, running_first, running_next, running_fits, walk_found}
+use Rattle.disklayout.proofs.RunningAddr.{walk_none}
 use Rattle.layout.proofs.blocks.walk_to_block.Goals as goal
 
 pub loop-k-init : goal.loop-k-init

@@ -1,4 +1,5 @@
--- At each try the running address is the first node address plus block number times block size (`running_addr`, `running_addr_lem`), and no block
+-- At each try the running address is the first node address plus block number times block size
+-- (`running_addr`, `running_addr_lem`), and no block
 -- before has the address asked for. Assumes nothing.
 use Prim.Native.Nat.{◌-◌, ◌≤◌}
 use mathlib.Core.Path.{◌≡◌}

@@ -28,11 +28,17 @@ returns-then-node c =
 pub returns-then-first-loc : goal.returns-then-first-loc
 unfolding valid_node_location
 returns-then-first-loc c =
-    rw (kind_high _ c.requires c.args.loc (rw c.first_node-first.ensures at c.if-first-loc.true), sym c.is_node_addr-node.ensures ∙ c.if-node.false)
+    rw (
+      kind_high _ c.requires c.args.loc (rw c.first_node-first.ensures at c.if-first-loc.true),
+      sym c.is_node_addr-node.ensures ∙ c.if-node.false,
+    )
 
 pub returns-then-journal : goal.returns-then-journal
 returns-then-journal c =
-    rw (kind_between _ c.requires c.args.loc c.if-loc-lt-JOURNAL_START.false (rw c.first_node-first.ensures at c.if-first-loc.false), sym c.is_journal-journal.ensures ∙ c.if-journal.true)
+    rw (
+      kind_between _ c.requires c.args.loc c.if-loc-lt-JOURNAL_START.false (rw c.first_node-first.ensures at c.if-first-loc.false),
+      sym c.is_journal-journal.ensures ∙ c.if-journal.true,
+    )
 
 pub returns-then-table : goal.returns-then-table
 returns-then-table c =

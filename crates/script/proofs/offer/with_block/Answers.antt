@@ -12,7 +12,10 @@ returns-then-at-w c = simp (eq-eqb _ _ (rw c.find-at.ensures.value at c.if-at-w.
 pub returns-in_default : goal.returns-in_default
 unfolding with_block
 returns-in_default c =
-    simp (ne_eqb _ _ (rw c.find-at.ensures.value at c.if-at-w.false), rw (c.front.ensures, c.find-at.ensures.value) at (sym c.small.ensures ∙ c.in_default.is)) c.refused-in_default.ensures
+    simp (
+      ne_eqb _ _ (rw c.find-at.ensures.value at c.if-at-w.false),
+      rw (c.front.ensures, c.find-at.ensures.value) at (sym c.small.ensures ∙ c.in_default.is),
+    ) c.refused-in_default.ensures
 
 pub returns-then-b-o : goal.returns-then-b-o
 unfolding with_block

@@ -19,7 +19,12 @@ returns-then-same-3 c =
 pub returns-then-same-4 : goal.returns-then-same-4
 unfolding answer_of
 returns-then-same-4 c =
-    simp (sym c.same-4.ensures ∙ c.if-same-4.true, sym c.same-3.ensures ∙ c.if-same-3.false, sym c.same-2.ensures ∙ c.if-same-2.false, sym c.same.ensures ∙ c.if-same.false)
+    simp (
+      sym c.same-4.ensures ∙ c.if-same-4.true,
+      sym c.same-3.ensures ∙ c.if-same-3.false,
+      sym c.same-2.ensures ∙ c.if-same-2.false,
+      sym c.same.ensures ∙ c.if-same.false,
+    )
 
 pub returns-then-same-5 : goal.returns-then-same-5
 unfolding answer_of

@@ -19,9 +19,19 @@ returns-then-same-3 c =
 pub returns-then-same-4 : goal.returns-then-same-4
 unfolding disk_of
 returns-then-same-4 c =
-    simp (sym c.same-4.ensures ∙ c.if-same-4.true, sym c.same-3.ensures ∙ c.if-same-3.false, sym c.same-2.ensures ∙ c.if-same-2.false, sym c.same.ensures ∙ c.if-same.false)
+    simp (
+      sym c.same-4.ensures ∙ c.if-same-4.true,
+      sym c.same-3.ensures ∙ c.if-same-3.false,
+      sym c.same-2.ensures ∙ c.if-same-2.false,
+      sym c.same.ensures ∙ c.if-same.false,
+    )
 
 pub returns : goal.returns
 unfolding disk_of
 returns c =
-    simp (sym c.same-4.ensures ∙ c.if-same-4.false, sym c.same-3.ensures ∙ c.if-same-3.false, sym c.same-2.ensures ∙ c.if-same-2.false, sym c.same.ensures ∙ c.if-same.false) c.answer_of.ensures
+    simp (
+      sym c.same-4.ensures ∙ c.if-same-4.false,
+      sym c.same-3.ensures ∙ c.if-same-3.false,
+      sym c.same-2.ensures ∙ c.if-same-2.false,
+      sym c.same.ensures ∙ c.if-same.false,
+    ) c.answer_of.ensures

@@ -19,4 +19,8 @@ returns-then-same-3 c =
 pub returns : goal.returns
 unfolding version_of
 returns c =
-    simp (sym c.same-3.ensures ∙ c.if-same-3.false, sym c.same-2.ensures ∙ c.if-same-2.false, sym c.same.ensures ∙ c.if-same.false) c.bare_version_of.ensures
+    simp (
+      sym c.same-3.ensures ∙ c.if-same-3.false,
+      sym c.same-2.ensures ∙ c.if-same-2.false,
+      sym c.same.ensures ∙ c.if-same.false,
+    ) c.bare_version_of.ensures

@@ -10,4 +10,5 @@ returns-then-w-eq0 c = simp (eq-eqb _ _ (rw c.word-w.ensures at c.if-w-eq0.true)
 pub returns : goal.returns
 unfolding version_word
 returns c =
-    simp (ne_eqb _ _ (rw c.word-w.ensures at c.if-w-eq0.false)) (rw (c.after.ensures.result_value, c.word-w.ensures) at c.version_of.ensures)
+    simp (ne_eqb _ _ (rw c.word-w.ensures at c.if-w-eq0.false))
+    (rw (c.after.ensures.result_value, c.word-w.ensures) at c.version_of.ensures)

@@ -15,9 +15,17 @@ returns-then-same-2 c =
 pub returns-then-same-3 : goal.returns-then-same-3
 unfolding node_word_of
 returns-then-same-3 c =
-    simp (sym c.same-3.ensures ∙ c.if-same-3.true, sym c.same-2.ensures ∙ c.if-same-2.false, sym c.same.ensures ∙ c.if-same.false) c.node_from-then-same-3.ensures
+    simp (
+      sym c.same-3.ensures ∙ c.if-same-3.true,
+      sym c.same-2.ensures ∙ c.if-same-2.false,
+      sym c.same.ensures ∙ c.if-same.false,
+    ) c.node_from-then-same-3.ensures
 
 pub returns : goal.returns
 unfolding node_word_of
 returns c =
-    simp (sym c.same-3.ensures ∙ c.if-same-3.false, sym c.same-2.ensures ∙ c.if-same-2.false, sym c.same.ensures ∙ c.if-same.false) c.node_written.ensures
+    simp (
+      sym c.same-3.ensures ∙ c.if-same-3.false,
+      sym c.same-2.ensures ∙ c.if-same-2.false,
+      sym c.same.ensures ∙ c.if-same.false,
+    ) c.node_written.ensures

@@ -10,12 +10,19 @@ returns-in_default c = simp (sym c.number_word.ensures ∙ c.in_default.is) c.no
 pub returns-in_default-place_word : goal.returns-in_default-place_word
 unfolding operations_of
 returns-in_default-place_word c =
-    simp (sym c.number_word.ensures ∙ c.in-Value.is, sym c.place_word.ensures ∙ c.in_default-place_word.is) c.no_operations-in_default-place_word.ensures
+    simp (
+      sym c.number_word.ensures ∙ c.in-Value.is,
+      sym c.place_word.ensures ∙ c.in_default-place_word.is,
+    ) c.no_operations-in_default-place_word.ensures
 
 pub returns-in_default-place_word-2 : goal.returns-in_default-place_word-2
 unfolding operations_of
 returns-in_default-place_word-2 c =
-    simp (sym c.number_word.ensures ∙ c.in-Value.is, sym c.place_word.ensures ∙ c.in-At.is, sym c.place_word-2.ensures ∙ c.in_default-place_word-2.is) c.no_operations-in_default-place_word-2.ensures
+    simp (
+      sym c.number_word.ensures ∙ c.in-Value.is,
+      sym c.place_word.ensures ∙ c.in-At.is,
+      sym c.place_word-2.ensures ∙ c.in_default-place_word-2.is,
+    ) c.no_operations-in_default-place_word-2.ensures
 
 pub returns-in_default-uiop_word : goal.returns-in_default-uiop_word
 unfolding operations_of

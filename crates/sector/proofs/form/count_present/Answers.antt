@@ -12,7 +12,13 @@ loop-i-init c = (search rules, count_none _)
 
 pub overflow_add-n : goal.overflow_add-n
 overflow_add-n c =
-    omega (arith, count_le (present_at c.args.slots) c.loop-i.i, c.loop-i.invariant.1, c.one_if-x.ensures, bit_le (get_or c.args.slots c.loop-i.i default_slot).present)
+    omega (
+      arith,
+      count_le (present_at c.args.slots) c.loop-i.i,
+      c.loop-i.invariant.1,
+      c.one_if-x.ensures,
+      bit_le (get_or c.args.slots c.loop-i.i default_slot).present,
+    )
 
 pub loop-i-preserved : goal.loop-i-preserved
 loop-i-preserved c = (search rules, count_turn _ _ c.loop-i.invariant.1 c.one_if-x.ensures)

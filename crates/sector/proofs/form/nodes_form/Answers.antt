@@ -15,7 +15,14 @@ loop-i-init c = (search rules, (count_none _, all_none _))
 
 pub overflow_add-n : goal.overflow_add-n
 overflow_add-n c =
-    omega (arith, count_le (present_at c.args.m.slots) c.loop-i.i, c.loop-i.invariant.0, c.loop-i.invariant.1.0, c.one_if-x.ensures, bit_le (slot_at c.args.m c.loop-i.i).present)
+    omega (
+      arith,
+      count_le (present_at c.args.m.slots) c.loop-i.i,
+      c.loop-i.invariant.0,
+      c.loop-i.invariant.1.0,
+      c.one_if-x.ensures,
+      bit_le (slot_at c.args.m c.loop-i.i).present,
+    )
 
 pub loop-i-preserved : goal.loop-i-preserved
 loop-i-preserved c = (

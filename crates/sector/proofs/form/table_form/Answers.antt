@@ -15,7 +15,14 @@ loop-i-init c = (search rules, (count_none _, all_none _))
 
 pub overflow_add-n : goal.overflow_add-n
 overflow_add-n c =
-    omega (arith, count_le (allocated_at c.args.t.entries) c.loop-i.i, c.loop-i.invariant.0, c.loop-i.invariant.1.0, c.one_if-x.ensures, bit_le (entry_at c.args.t c.loop-i.i).allocated)
+    omega (
+      arith,
+      count_le (allocated_at c.args.t.entries) c.loop-i.i,
+      c.loop-i.invariant.0,
+      c.loop-i.invariant.1.0,
+      c.one_if-x.ensures,
+      bit_le (entry_at c.args.t c.loop-i.i).allocated,
+    )
 
 pub loop-i-preserved : goal.loop-i-preserved
 loop-i-preserved c = (

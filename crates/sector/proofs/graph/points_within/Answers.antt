@@ -14,7 +14,8 @@ loop-i-preserved c = (
   search rules,
   c.loop-i.invariant.1,
   c.loop-i.invariant.2,
-  all_turn _ _ c.loop-i.invariant.3 (within_turn c.args.t _ c.loop-i.invariant.2 c.loop-i.invariant.1 c.index-r.ensures c.within_at-p.ensures),
+  all_turn _ _ c.loop-i.invariant.3
+      (within_turn c.args.t _ c.loop-i.invariant.2 c.loop-i.invariant.1 c.index-r.ensures c.within_at-p.ensures),
 )
 
 pub returns : goal.returns

@@ -10,7 +10,9 @@ use Rattle.sectortype.specs.Graph.{allocated_in}
 use Rattle.sector.proofs.graph.points_within.Given as goal
 
 abbrev pub invariant-loop-i : goal.invariant-loop-i
-invariant-loop-i l = (l.i ≤ 8) × (l.n ≡ l.s.count) × (length l.t.entries ≡ 64) × (l.good ≡ all_below (λ k. not (ltb k l.s.count) || allocated_in l.t (succ_at l.s k)) l.i)
+invariant-loop-i l =
+    (l.i ≤ 8) × (l.n ≡ l.s.count) × (length l.t.entries ≡ 64)
+    × (l.good ≡ all_below (λ k. not (ltb k l.s.count) || allocated_in l.t (succ_at l.s k)) l.i)
 
 abbrev pub decreases-loop-i : goal.decreases-loop-i
 decreases-loop-i l = 8 - l.i

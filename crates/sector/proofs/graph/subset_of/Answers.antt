@@ -8,7 +8,8 @@ pub loop-i-init : goal.loop-i-init
 loop-i-init c = (search rules, c.index-n.ensures, all_none _)
 
 pub loop-i-preserved : goal.loop-i-preserved
-loop-i-preserved c = (search rules, c.loop-i.invariant.1, all_turn _ _ c.loop-i.invariant.2 (rw (c.loop-i.invariant.1, c.has_succ-there.ensures)))
+loop-i-preserved c =
+    (search rules, c.loop-i.invariant.1, all_turn _ _ c.loop-i.invariant.2 (rw (c.loop-i.invariant.1, c.has_succ-there.ensures)))
 
 pub returns : goal.returns
 unfolding subset

@@ -5,4 +5,10 @@ use Rattle.system.proofs.formatting.format_pictures.Goals as goal
 pub returns : goal.returns
 unfolding first_pictures
 returns c =
-    simp (c.empty_nodes-frozen.ensures, c.zero_named-second.ensures, c.with_root-working.ensures, c.place_at-place.ensures, c.indirection_table1_addr-t.ensures)
+    simp (
+      c.empty_nodes-frozen.ensures,
+      c.zero_named-second.ensures,
+      c.with_root-working.ensures,
+      c.place_at-place.ensures,
+      c.indirection_table1_addr-t.ensures,
+    )

@@ -36,4 +36,5 @@ returns-in-16 c = simp c.in-16.is c.set_node-in-16.ensures
 
 pub returns-in_default : goal.returns-in_default
 returns-in_default c =
-    sym (pictures_same c.args.number c.args.q c.args.t (search rules) (search rules) (search rules) (search rules) (search rules) (search rules) (search rules))
+    sym (pictures_same c.args.number c.args.q c.args.t (search rules) (search rules) (search rules) (search rules) (search rules)
+    (search rules) (search rules))

@@ -11,7 +11,10 @@ returns-then-at-w c = simp (eq-eqb _ _ (rw c.find-at.ensures.value at c.if-at-w.
 pub returns-in_default : goal.returns-in_default
 unfolding sides_of
 returns-in_default c =
-    simp (ne_eqb _ _ (rw c.find-at.ensures.value at c.if-at-w.false), rw (c.front.ensures, c.find-at.ensures.value) at (sym c.number.ensures ∙ c.in_default.is))
+    simp (
+      ne_eqb _ _ (rw c.find-at.ensures.value at c.if-at-w.false),
+      rw (c.front.ensures, c.find-at.ensures.value) at (sym c.number.ensures ∙ c.in_default.is),
+    )
 
 pub returns-in_default-number : goal.returns-in_default-number
 unfolding sides_of

@@ -19,7 +19,12 @@ returns-then-s-eq35 c = simp (le-ltb _ _ c.if-s-gt-MOST.false, ne_eqb _ _ c.if-s
 pub returns-then-same : goal.returns-then-same
 unfolding line_of
 returns-then-same c =
-    simp (le-ltb _ _ c.if-s-gt-MOST.false, ne_eqb _ _ c.if-s-eq0.false, ne_eqb _ _ c.if-s-eq35.false, rw (c.front-first.ensures, c.find-at.ensures.value) at (sym c.same.ensures ∙ c.if-same.true))
+    simp (
+      le-ltb _ _ c.if-s-gt-MOST.false,
+      ne_eqb _ _ c.if-s-eq0.false,
+      ne_eqb _ _ c.if-s-eq35.false,
+      rw (c.front-first.ensures, c.find-at.ensures.value) at (sym c.same.ensures ∙ c.if-same.true),
+    )
     (rw (c.after.ensures.result_value, c.find-at.ensures.value) at c.format_of.ensures)
 
 pub returns-in_default : goal.returns-in_default

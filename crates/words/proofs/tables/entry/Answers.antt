@@ -10,4 +10,9 @@ returns-then-at-w c = simp (eq-eqb _ _ (rw c.find-at.ensures.value at c.if-at-w.
 pub returns : goal.returns
 unfolding entry_read_of
 returns c =
-    simp (ne_eqb _ _ (rw c.find-at.ensures.value at c.if-at-w.false)) (rw (c.head_of-h.ensures, c.front.ensures, c.after.ensures.result_value, c.find-at.ensures.value) at c.entry_of.ensures)
+    simp (ne_eqb _ _ (rw c.find-at.ensures.value at c.if-at-w.false)) (rw (
+      c.head_of-h.ensures,
+      c.front.ensures,
+      c.after.ensures.result_value,
+      c.find-at.ensures.value,
+    ) at c.entry_of.ensures)

@@ -15,4 +15,9 @@ returns-then-r-gt63 c =
 pub returns : goal.returns
 unfolding extended_of
 returns c =
-    simp (rw c.entry-e.ensures at c.if-e-r.false, le-ltb _ _ (rw c.entry-e.ensures at c.if-r-gt63.false), c.with_entry-table.ensures, c.entry-e.ensures)
+    simp (
+      rw c.entry-e.ensures at c.if-e-r.false,
+      le-ltb _ _ (rw c.entry-e.ensures at c.if-r-gt63.false),
+      c.with_entry-table.ensures,
+      c.entry-e.ensures,
+    )

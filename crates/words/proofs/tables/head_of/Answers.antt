@@ -11,7 +11,10 @@ returns-in_default c = simp (rw (c.front.ensures, c.find-at.ensures.value) at (s
 pub returns-then-at-w : goal.returns-then-at-w
 unfolding head_of
 returns-then-at-w c =
-    simp (rw (c.front.ensures, c.find-at.ensures.value) at (sym c.small.ensures ∙ c.in-Value.is), eq-eqb _ _ (rw c.find-at.ensures.value at c.if-at-w.true))
+    simp (
+      rw (c.front.ensures, c.find-at.ensures.value) at (sym c.small.ensures ∙ c.in-Value.is),
+      eq-eqb _ _ (rw c.find-at.ensures.value at c.if-at-w.true),
+    )
 
 pub returns-in_default-location : goal.returns-in_default-location
 unfolding head_of

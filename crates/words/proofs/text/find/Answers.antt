@@ -12,7 +12,11 @@ loop-i-init c = (search rules, some_none _)
 
 pub returns-then-s-i : goal.returns-then-s-i
 unfolding find_of
-returns-then-s-i c = record { value = first_hit _ (length c.args.s.now) c.loop-i.i c.loop-i.invariant.1 (eq-eqb _ _ c.if-s-i.true) c.loop-i-test.true; within = search rules }
+returns-then-s-i c =
+    record {
+      value = first_hit _ (length c.args.s.now) c.loop-i.i c.loop-i.invariant.1 (eq-eqb _ _ c.if-s-i.true) c.loop-i-test.true;
+      within = search rules;
+    }
 
 pub loop-i-preserved : goal.loop-i-preserved
 loop-i-preserved c = (search rules, some_turn _ _ c.loop-i.invariant.1 (sym (ne_eqb _ _ c.if-s-i.false)))

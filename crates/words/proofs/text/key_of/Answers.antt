@@ -10,15 +10,33 @@ returns-then-starts c = record { value = simp (sym c.starts.ensures ∙ c.if-sta
 
 pub returns-then-starts-2 : goal.returns-then-starts-2
 unfolding key_of
-returns-then-starts-2 c = record { value = simp (sym c.starts-2.ensures ∙ c.if-starts-2.true, sym c.starts.ensures ∙ c.if-starts.false); within = search rules }
+returns-then-starts-2 c =
+    record { value = simp (sym c.starts-2.ensures ∙ c.if-starts-2.true, sym c.starts.ensures ∙ c.if-starts.false); within = search rules }
 
 pub returns-then-starts-3 : goal.returns-then-starts-3
 unfolding key_of
-returns-then-starts-3 c = record { value = simp (sym c.starts-3.ensures ∙ c.if-starts-3.true, sym c.starts-2.ensures ∙ c.if-starts-2.false, sym c.starts.ensures ∙ c.if-starts.false); within = search rules }
+returns-then-starts-3 c =
+    record {
+      value = simp (
+        sym c.starts-3.ensures ∙ c.if-starts-3.true,
+        sym c.starts-2.ensures ∙ c.if-starts-2.false,
+        sym c.starts.ensures ∙ c.if-starts.false,
+      );
+      within = search rules;
+    }
 
 pub returns-then-starts-4 : goal.returns-then-starts-4
 unfolding key_of
-returns-then-starts-4 c = record { value = simp (sym c.starts-4.ensures ∙ c.if-starts-4.true, sym c.starts-3.ensures ∙ c.if-starts-3.false, sym c.starts-2.ensures ∙ c.if-starts-2.false, sym c.starts.ensures ∙ c.if-starts.false); within = search rules }
+returns-then-starts-4 c =
+    record {
+      value = simp (
+        sym c.starts-4.ensures ∙ c.if-starts-4.true,
+        sym c.starts-3.ensures ∙ c.if-starts-3.false,
+        sym c.starts-2.ensures ∙ c.if-starts-2.false,
+        sym c.starts.ensures ∙ c.if-starts.false,
+      );
+      within = search rules;
+    }
 
 pub returns-then-starts-5 : goal.returns-then-starts-5
 unfolding key_of

@@ -20,7 +20,8 @@ unfolding starts_of
 returns-then-s-i c =
     simp (
       le-leb _ _ c.if-s-p.false,
-      all_fails (λ k. eqb (get_or c.args.s.now k 0) (get_or c.args.p.now k 0)) (length c.args.p.now) c.loop-i.i c.loop-i-test.true (ne_eqb _ _ c.if-s-i.true),
+      all_fails (λ k. eqb (get_or c.args.s.now k 0) (get_or c.args.p.now k 0)) (length c.args.p.now) c.loop-i.i c.loop-i-test.true
+          (ne_eqb _ _ c.if-s-i.true),
     )
 
 pub loop-i-preserved : goal.loop-i-preserved

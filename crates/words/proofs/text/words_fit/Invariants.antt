@@ -7,7 +7,8 @@ use Rattle.words.proofs.text.words_fit.Given as goal
 
 abbrev pub invariant-loop-at : goal.invariant-loop-at
 invariant-loop-at l =
-    (l.at ≤ length l.rest) × (length l.seen ≡ 17) × ((l.good && fit_from l.seen l.keys (words_of (drop l.at l.rest))) ≡ fit_of l.rest l.keys)
+    (l.at ≤ length l.rest) × (length l.seen ≡ 17)
+    × ((l.good && fit_from l.seen l.keys (words_of (drop l.at l.rest))) ≡ fit_of l.rest l.keys)
 
 abbrev pub decreases-loop-at : goal.decreases-loop-at
 decreases-loop-at l = length l.rest - l.at
