@@ -35,11 +35,12 @@ TWO_KINDS = {
     "WFCompleteIndirectionTable": "sectortype.specs.Graph", "WFSuccs": "blocksystem.specs.Start", "Formed": "blocksystem.proofs.IdleDisk",
 }
 # names that a lemma gives to its own parts, and names that a file gives what it brings in
-LOCAL = {n: n.replace("-", "_") for n in """none-blank drop-list no-op zero-iff some-refusal open-list at-l zero-back open-rows no-loads node-is
-some-twenty none-t none-n still-t still-n id-of cache-same after-4 zero-front zero-iff-map map-inserted map-removed none-iff-map count-of-form
-length-of-form form-inserted form-removed""".split()}
-LOCAL |= {"areaAt": "area_at", "wholeGraph": "whole_graph", "completeTest": "complete_test", "tableTest": "table_test", "succGraph": "succ_graph",
-    "validTest": "valid_test", "updateLoc": "update_loc", "systemCrash": "system_crash", "tableWrites": "table_writes",
+LOCAL = {n: n.replace("-", "_") for n in """none-blank drop-list no-op zero-iff some-refusal open-list at-l zero-back open-rows
+no-loads node-is some-twenty none-t none-n still-t still-n id-of cache-same after-4 zero-front zero-iff-map map-inserted map-removed
+none-iff-map count-of-form length-of-form form-inserted form-removed""".split()}
+LOCAL |= {"areaAt": "area_at", "wholeGraph": "whole_graph", "completeTest": "complete_test", "tableTest": "table_test",
+    "succGraph": "succ_graph", "validTest": "valid_test", "updateLoc": "update_loc", "systemCrash": "system_crash",
+    "tableWrites": "table_writes",
     "nodeWrites": "node_writes", "tableReads": "table_reads"}
 # a name of one file alone that would hide a definition
 IN_FILE = {("crates/blocksystem/proofs/Counting.antt", "read_table"): "table_read"}
@@ -183,7 +184,10 @@ def main():
         return
     declared = {names.get(n, n) for n in own_names()}
     changed = 0
-    for f in files("crates/*/specs/**/*.antt", "crates/*/proofs/**/*.antt", "crates/*/src/**/*.rt", "crates/*/must-fail/*.edit", "README.md", "docs/CLAIMS.md", "docs/CONTRACTS.md", "docs/DIFFERENCES.md", "docs/DECISIONS.md", "docs/REPLAY.md", "docs/PERFORMANCE.md"):
+    for f in files(
+        "crates/*/specs/**/*.antt", "crates/*/proofs/**/*.antt", "crates/*/src/**/*.rt", "crates/*/must-fail/*.edit", "README.md",
+        "docs/CLAIMS.md", "docs/CONTRACTS.md", "docs/DIFFERENCES.md", "docs/DECISIONS.md", "docs/REPLAY.md", "docs/PERFORMANCE.md",
+    ):
         with open(f, encoding="utf-8") as h:
             text = h.read()
         mine = of_file(f, text, names)
