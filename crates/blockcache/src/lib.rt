@@ -8,7 +8,7 @@ use disklayout::Location;
 use queue::Requests;
 use sectortype::{Node, Nodes, Table};
 
-#[derive(Clone, Copy)]
+#[derive(Clone, Copy, PartialEq, Eq)]
 pub enum Phase {
     Unready,
     Loading,
@@ -16,7 +16,7 @@ pub enum Phase {
 }
 
 // The three tables of a Ready cache; the frozen one with a flag beside it.
-#[derive(Clone, Copy)]
+#[derive(Clone, Copy, PartialEq, Eq)]
 pub struct Tables {
     pub persistent: Table,
     pub ephemeral: Table,
@@ -25,7 +25,7 @@ pub struct Tables {
 }
 
 // The persistent table's place (while Loading, the place being loaded) and the frozen table's, with a flag beside it.
-#[derive(Clone, Copy)]
+#[derive(Clone, Copy, PartialEq, Eq)]
 pub struct Places {
     pub persistent: Location,
     pub isfrozen: bool,
@@ -33,34 +33,34 @@ pub struct Places {
 }
 
 // The id of the table request that is waited for: while Loading a read, while Ready a write.
-#[derive(Clone, Copy)]
+#[derive(Clone, Copy, PartialEq, Eq)]
 pub struct Awaited {
     pub waiting: bool,
     pub id: u64,
 }
 
 // The node requests that are waited for: writes with reference and location, reads with the reference alone.
-#[derive(Clone, Copy)]
+#[derive(Clone, Copy, PartialEq, Eq)]
 pub struct Outstanding {
     pub writes: Requests,
     pub reads: Requests,
 }
 
 // A mark for each of the 128 node blocks (document 02, Q-1), a bit each: bit k of the low word is block k's, bit k of the high one block 64 + k's.
-#[derive(Clone, Copy)]
+#[derive(Clone, Copy, PartialEq, Eq)]
 pub struct Marks {
     pub low: u64,
     pub high: u64,
 }
 
 // The blocks' marks, and the number of the block that the chooser gave last. Both are zeros outside Ready.
-#[derive(Clone, Copy)]
+#[derive(Clone, Copy, PartialEq, Eq)]
 pub struct Blocks {
     pub marks: Marks,
     pub last: u64,
 }
 
-#[derive(Clone, Copy)]
+#[derive(Clone, Copy, PartialEq, Eq)]
 pub struct CacheState {
     pub phase: Phase,
     pub tables: Tables,

@@ -7,7 +7,7 @@ use queue::Requests;
 use sectortype::{Node, Table};
 
 // What a table area holds: one table at a place within it, or nothing, all zeros.
-#[derive(Clone, Copy)]
+#[derive(Clone, Copy, PartialEq, Eq)]
 pub struct TableRecord {
     pub present: bool,
     pub loc: Location,
@@ -15,7 +15,7 @@ pub struct TableRecord {
 }
 
 // What a node block holds: one node at a place within it, or nothing, all zeros.
-#[derive(Clone, Copy)]
+#[derive(Clone, Copy, PartialEq, Eq)]
 pub struct NodeRecord {
     pub present: bool,
     pub loc: Location,
@@ -23,14 +23,14 @@ pub struct NodeRecord {
 }
 
 // All that is stored.
-#[derive(Clone, Copy)]
+#[derive(Clone, Copy, PartialEq, Eq)]
 pub struct Records {
     pub tables: [TableRecord; 2],
     pub nodes: [NodeRecord; 128],
 }
 
 // All that is outstanding: upstream's req_read_indirection_tables, req_read_nodes, req_write_indirection_tables and req_write_nodes.
-#[derive(Clone, Copy)]
+#[derive(Clone, Copy, PartialEq, Eq)]
 pub struct Queues {
     pub tablereads: Requests,
     pub nodereads: Requests,
@@ -39,7 +39,7 @@ pub struct Queues {
 }
 
 // All that upstream's disk has, and the freeze rule.
-#[derive(Clone, Copy)]
+#[derive(Clone, Copy, PartialEq, Eq)]
 pub struct DiskState {
     pub records: Records,
     pub queues: Queues,

@@ -67,13 +67,8 @@ fn nodes_kept(q: Requests, old: [NodeRecord; 128], new: [NodeRecord; 128]) -> bo
     ensures { result ≡ nodes_kept q old new }
 {
     let mut good = true;
-    let mut i: usize = 0;
-    while i < 128 {
-        let a = old[i];
-        let b = new[i];
-        let p = kept_node(q, a, b);
-        good = good & p;
-        i += 1;
+    for (a, b) in old.iter().zip(new.iter()) {
+        good = good & kept_node(q, *a, *b);
     }
     good
 }

@@ -86,14 +86,11 @@ fn nodes_ok(device: u64, nodes: [NodeRecord; 128]) -> Checked
     let mut at = first.value;
     let mut form = true;
     let mut placed = true;
-    let mut i: usize = 0;
-    while i < 128 {
-        let r = nodes[i];
-        let c = node_record_ok(device, at, r);
+    for r in nodes.iter() {
+        let c = node_record_ok(device, at, *r);
         form = form & c.form;
         placed = placed & c.placed;
         at += size.value;
-        i += 1;
     }
     Checked { form, placed }
 }
@@ -150,12 +147,8 @@ fn table_queue_ok(device: u64, q: Requests) -> bool
     let form = queue::form(q);
     let n = q.count as usize;
     let mut good = true;
-    let mut i: usize = 0;
-    while i < 16 {
-        let w = q.at[i];
-        let p = table_request_ok(device, i < n, w);
-        good = good & p;
-        i += 1;
+    for (i, w) in q.at.iter().enumerate() {
+        good = good & table_request_ok(device, i < n, *w);
     }
     form & good
 }
@@ -166,12 +159,8 @@ fn node_queue_ok(device: u64, q: Requests) -> bool
     let form = queue::form(q);
     let n = q.count as usize;
     let mut good = true;
-    let mut i: usize = 0;
-    while i < 16 {
-        let w = q.at[i];
-        let p = node_request_ok(device, i < n, w);
-        good = good & p;
-        i += 1;
+    for (i, w) in q.at.iter().enumerate() {
+        good = good & node_request_ok(device, i < n, *w);
     }
     form & good
 }

@@ -10,14 +10,14 @@ ghost use Rattle.queue.specs.Queue.{remove_of, empty_requests};
 use disklayout::Location;
 
 // An outstanding request: its id, the reference that it is for, its place. A queue that has no use for one of these keeps it zero.
-#[derive(Clone, Copy)]
+#[derive(Clone, Copy, PartialEq, Eq)]
 pub struct Request {
     pub id: u64,
     pub reference: u8,
     pub loc: Location,
 }
 
-#[derive(Clone, Copy)]
+#[derive(Clone, Copy, PartialEq, Eq)]
 pub struct Requests {
     pub count: u8,
     pub at: [Request; 16],

@@ -6,27 +6,27 @@ use Rattle.blockdisk.specs.Form.{nodes_checked}
 use Rattle.disklayout.proofs.RunningAddr.{walk_first, walk_next, walk_fits}
 use Rattle.disk.proofs.form.nodes_ok.Goals as goal
 
-pub loop-i-init : goal.loop-i-init
-loop-i-init c = (search rules, walk_first c.args.device c.first_node_addr-first.ensures, all_none _, all_none _)
+pub loop-r-init : goal.loop-r-init
+loop-r-init c = (walk_first c.args.device c.first_node_addr-first.ensures, all_none _, all_none _)
 
 pub overflow_add-at : goal.overflow_add-at
 overflow_add-at c =
-    record { fits = walk_fits c.args.device c.loop-i.i c.loop-i-test.true c.loop-i.invariant.1 c.node_block_size-size.ensures }
+    record { fits = walk_fits c.args.device c.loop-r.r-index c.loop-r-test.true c.loop-r.invariant.0 c.node_block_size-size.ensures }
 
-pub loop-i-preserved : goal.loop-i-preserved
-loop-i-preserved c =
-    let v = c.loop-i.invariant in
-    let e = c.node_record_ok-c.ensures _ c.loop-i-test.true v.1 in
+pub loop-r-preserved : goal.loop-r-preserved
+loop-r-preserved c =
+    let v = c.loop-r.invariant in
+    let e = c.node_record_ok-c.ensures _ c.loop-r-test.true v.0 in
     let device = c.args.device in (
-      search rules,
-      walk_next device c.loop-i.i v.1 c.node_block_size-size.ensures,
-      all_turn _ _ v.2 (ap (λ x. x.form) e),
-      all_turn _ _ v.3 (ap (λ x. x.placed) e),
+      walk_next device c.loop-r.r-index v.0 c.node_block_size-size.ensures,
+      all_turn _ _ v.1 (ap (λ x. x.form) e),
+      all_turn _ _ v.2 (ap (λ x. x.placed) e),
     )
 
 pub returns : goal.returns
 unfolding nodes_checked
 returns c =
-    let v = c.loop-i.invariant in
-    let past = c.loop-i-test.false in
-    simp (all_end _ v.2 v.0 past, all_end _ v.3 v.0 past)
+    let v = c.loop-r.invariant in
+    let end = c.loop-r.auto.r-index-end in
+    let past = c.loop-r-test.false in
+    simp (all_end _ v.1 end past, all_end _ v.2 end past)

@@ -1,4 +1,3 @@
-use Prim.Native.Nat.{◌-◌, ◌≤◌}
 use mathlib.Core.Bool.{◌||◌, not}
 use mathlib.Core.Path.{◌≡◌}
 use lib.Dec.{ltb}
@@ -8,7 +7,4 @@ use Rattle.queue.specs.Queue.{request_at}
 use Rattle.disk.proofs.form.table_queue_ok.Given as goal
 
 abbrev pub invariant-loop-i : goal.invariant-loop-i
-invariant-loop-i l = (l.i ≤ 16) × (l.good ≡ all_below (λ k. not (ltb k l.q.count) || table_request_ok l.device (request_at l.q k)) l.i)
-
-abbrev pub decreases-loop-i : goal.decreases-loop-i
-decreases-loop-i l = 16 - l.i
+invariant-loop-i l = (l.good ≡ all_below (λ k. not (ltb k l.fn.q.count) || table_request_ok l.device (request_at l.fn.q k)) l.i)
