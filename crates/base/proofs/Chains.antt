@@ -14,7 +14,8 @@ use Rattle.std.specs.Prelude.{Option, Some, None, unwrap_or}
 use Rattle.std.proofs.lemmas.List.FromFn.{get_or-enumerate_from, length-enumerate_from}
 use Rattle.std.proofs.lemmas.List.Sums.{position_or_len_is, sum_by-cons}
 use Rattle.base.specs.Scan.{all_below, bit, count_below, first_below, some_below}
-use Rattle.base.proofs.Scan.{all_of, all_same, count_same, count_zero, first_before, first_found, first_is, first_le, first_miss, first_passes, first_same, none_at, some_of_none, some_same}
+use Rattle.base.proofs.Scan.{all_of, all_same, count_same, count_zero, none_at, some_of_none, some_same}
+use Rattle.base.proofs.Scan.{first_before, first_found, first_is, first_le, first_miss, first_passes, first_same}
 use Rattle.base.proofs.Tests.{split}
 
 -- A TEST OF THE FIRST NUMBER, AND OF THE REST
