@@ -1,5 +1,6 @@
 -- The laws of the definitions in specs/.
 pub mod Bits
+pub mod Chains
 pub mod Flagged
 pub mod Lists
 pub mod Lookup
