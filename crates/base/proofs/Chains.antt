@@ -9,7 +9,7 @@ use lib.Dec.{ltb}
 use lib.ListN.{length, get_or, length-take, take}
 use lib.Seq.{get_or-take}
 use borrow.Author.Tests.{le-ltb, lt-ltb, ltb-false, ltb-true}
-use Rattle.std.specs.List.{list_any, list_all, count_by, enumerate_from, position, position_or_len}
+use Rattle.std.specs.List.{list_any, list_all, count_by, enumerate_from, position, position_or_len, zip}
 use Rattle.std.specs.Prelude.{Option, Some, None, unwrap_or}
 use Rattle.std.proofs.lemmas.List.FromFn.{get_or-enumerate_from, length-enumerate_from}
 use Rattle.std.proofs.lemmas.List.Sums.{position_or_len_is, sum_by-cons}
@@ -193,3 +193,15 @@ module _ {A : Type 0} (h : ℕ → A → Bool) (d : A) where
       position_is_first (λ (e : ℕ × A). h e.0 e.1) (0, d) (enumerate_from 0 xs) ∙ rw (length-enumerate_from 0 xs)
       (ap (λ i. place_or_none i (length xs))
       (first_same _ _ (length xs) (λ k b. ap (λ (e : ℕ × A). h e.0 e.1) (placed xs k b))))
+
+-- TWO LISTS OF ONE LENGTH, SIDE BY SIDE
+
+module _ {A B : Type 0} (p : A × B → Bool) (d : A) (e : B) where
+  pub all_zip_is_all : (xs : List A) (ys : List B) → length xs ≡ length ys →
+      list_all p (zip xs ys) ≡ all_below (λ k. p (get_or xs k d, get_or ys k e)) (length xs)
+  unfolding all_below
+  all_zip_is_all [] ys l = refl
+  all_zip_is_all (x ∷ xs) [] l = absurd (omega (arith, l))
+  all_zip_is_all (x ∷ xs) (y ∷ ys) l =
+      ap (λ b. p (x, y) && b) (all_zip_is_all xs ys (omega (arith, l)))
+      ∙ sym (all_front (λ k. p (get_or (x ∷ xs) k d, get_or (y ∷ ys) k e)) (length xs))

@@ -118,51 +118,32 @@ pub(crate) fn table_allowed(device: u64, loc: Location) -> bool
 }
 
 // One place of a queue of table requests. Nothing is asked of one that is not used.
-fn table_request_ok(device: u64, used: bool, w: Request) -> bool
-    ensures { result ≡ (not used || table_request_ok device w) }
+fn table_request_ok(device: u64, w: Request) -> bool
+    ensures { result ≡ table_request_ok device w }
 {
-    if !used {
-        return true;
-    }
-    let loc = w.loc;
-    let allowed = table_allowed(device, loc);
-    (w.reference == 0) & allowed
+    (w.reference == 0) & table_allowed(device, w.loc)
 }
 
 // One place of a queue of node requests, likewise.
-fn node_request_ok(device: u64, used: bool, w: Request) -> bool
-    ensures { result ≡ (not used || node_request_ok device w) }
+fn node_request_ok(device: u64, w: Request) -> bool
+    ensures { result ≡ node_request_ok device w }
 {
-    if !used {
-        return true;
-    }
-    let loc = w.loc;
-    let allowed = layout::node_place(device, loc);
+    let allowed = layout::node_place(device, w.loc);
     (w.reference == 0) & allowed.yes
 }
 
 fn table_queue_ok(device: u64, q: Requests) -> bool
     ensures { result ≡ table_queue_form device q }
 {
-    let form = queue::form(q);
-    let n = q.count as usize;
-    let mut good = true;
-    for (i, w) in q.at.iter().enumerate() {
-        good = good & table_request_ok(device, i < n, *w);
-    }
-    form & good
+    let good = q.at.iter().take(q.count as usize).all(|w| table_request_ok(device, *w));
+    queue::form(q) & good
 }
 
 fn node_queue_ok(device: u64, q: Requests) -> bool
     ensures { result ≡ node_queue_form device q }
 {
-    let form = queue::form(q);
-    let n = q.count as usize;
-    let mut good = true;
-    for (i, w) in q.at.iter().enumerate() {
-        good = good & node_request_ok(device, i < n, *w);
-    }
-    form & good
+    let good = q.at.iter().take(q.count as usize).all(|w| node_request_ok(device, *w));
+    queue::form(q) & good
 }
 
 // A freeze rule is 1 or 2: a disk that carries any other is refused with 1, and so is a formatting that names one.

@@ -1,14 +1,19 @@
--- A scan with a flag. Assumes nothing.
-use Rattle.base.proofs.Scan.{all_end, all_none, all_turn}
-use Rattle.blockdisk.specs.Crash.{nodes_kept}
+-- A chain over the two arrays side by side. Assumes nothing.
+use mathlib.Core.Path.{◌∙◌, ◌≡◌}
+use borrow.Author.Rules.{rules}
+use lib.ListN.{length}
+use Rattle.std.proofs.lemmas.Iterator.{YieldsList-from_slice, YieldsList-from_zip}
+use Rattle.std.proofs.lemmas.Iterator.Search.{all_from_yields_List}
+use Rattle.blockdisk.specs.declared.NodeRecord.{NodeRecord}
+use Rattle.blockdisk.specs.Crash.{kept_node}
+use Rattle.disk.proofs.Chains.{nodes_kept_all}
 use Rattle.disk.proofs.crashing.nodes_kept.Goals as goal
 
-pub loop-a-init : goal.loop-a-init
-loop-a-init c = all_none _
-
-pub loop-a-preserved : goal.loop-a-preserved
-loop-a-preserved c = all_turn _ _ c.loop-a.invariant c.kept_node-good.ensures
-
 pub returns : goal.returns
-unfolding nodes_kept
-returns c = all_end _ c.loop-a.invariant c.loop-a.auto.a-index-end c.loop-a-test.false
+returns c =
+    let old : length c.args.old ≡ 128 = search rules in
+    let new : length c.args.new ≡ 128 = search rules in
+    let e =
+        all_from_yields_List (λ (w : NodeRecord × NodeRecord). kept_node c.args.q w.0 w.1) c.all.new.self _ _ c.all.ensures.ran
+        (YieldsList-from_zip {s = c.zip.result} (YieldsList-from_slice c.args.old cc) (YieldsList-from_slice c.args.new cc)) (λ x b q k. search rules) in
+    e ∙ nodes_kept_all c.args.q c.args.old c.args.new old new

@@ -1,14 +1,19 @@
--- A scan with a flag, after the queue's own form. Assumes nothing.
-use Rattle.base.proofs.Scan.{all_end, all_none, all_turn}
-use Rattle.blockdisk.specs.Form.{node_queue_form}
+-- A chain over the requests in use, after the queue's own form. Assumes nothing.
+use mathlib.Core.Path.{◌∙◌, ◌≡◌}
+use borrow.Author.Rules.{rules}
+use lib.ListN.{length}
+use Rattle.std.proofs.lemmas.Iterator.{YieldsList-from_slice, YieldsList-from_take}
+use Rattle.std.proofs.lemmas.Iterator.Search.{all_from_yields_List}
+use Rattle.blockdisk.specs.Form.{node_queue_form, node_request_ok}
+use Rattle.disk.proofs.Chains.{used_all}
 use Rattle.disk.proofs.form.node_queue_ok.Goals as goal
-
-pub loop-i-init : goal.loop-i-init
-loop-i-init c = all_none _
-
-pub loop-i-preserved : goal.loop-i-preserved
-loop-i-preserved c = all_turn _ _ c.loop-i.invariant c.node_request_ok-good.ensures
 
 pub returns : goal.returns
 unfolding node_queue_form
-returns c = simp (all_end _ c.loop-i.invariant c.loop-i.auto.i-end c.loop-i-test.false, c.form-form.ensures)
+returns c =
+    let q = c.args.q in
+    let l : length q.at ≡ 16 = search rules in
+    let e =
+        all_from_yields_List (λ w. node_request_ok c.args.device w) _ _ _ c.all-good.ensures.ran
+        (YieldsList-from_take q.count (YieldsList-from_slice q.at cc) cc) (λ x b q k. search rules) in
+    rw (c.form.ensures, e ∙ used_all _ q l)

@@ -1,0 +1,27 @@
+-- The disk's scans, as the chains that its functions are. Assumes nothing.
+use mathlib.Core.Bool.{Bool, ◌&&◌, ◌||◌, not}
+use mathlib.Core.List.{List}
+use mathlib.Core.Path.{◌≡◌, ◌∙◌, sym}
+use Prim.Native.Nat.{ℕ}
+use lib.Dec.{ltb}
+use lib.ListN.{length, take}
+use Rattle.std.specs.List.{list_all, zip}
+use Rattle.base.specs.Scan.{all_below}
+use Rattle.base.proofs.Chains.{all_front_is_all, all_zip_is_all}
+use Rattle.queue.specs.declared.Requests.{Requests}
+use Rattle.queue.specs.declared.Request.{Request}
+use Rattle.queue.specs.Queue.{request_at, requests_form, zero_request}
+use Rattle.blockdisk.specs.declared.NodeRecord.{NodeRecord}
+use Rattle.blockdisk.specs.Crash.{kept_node, nodes_kept}
+use Rattle.blockdisk.specs.Form.{node_queue_form, node_request_ok, table_queue_form, table_request_ok}
+use Rattle.blockdisk.specs.Records.{default_node_record}
+
+-- each request in use passes a test
+pub used_all : (p : Request → Bool) (q : Requests) → length q.at ≡ 16 →
+    list_all p (take q.count q.at) ≡ all_below (λ k. not (ltb k q.count) || p (request_at q k)) 16
+used_all p q l = all_front_is_all p zero_request q.count q.at ∙ rw l
+
+pub nodes_kept_all : (q : Requests) (old new : List NodeRecord) → length old ≡ 128 → length new ≡ 128 →
+    list_all (λ w. kept_node q w.0 w.1) (zip old new) ≡ nodes_kept q old new
+unfolding nodes_kept
+nodes_kept_all q old new a b = all_zip_is_all (λ w. kept_node q w.0 w.1) default_node_record default_node_record old new (a ∙ sym b) ∙ rw a
