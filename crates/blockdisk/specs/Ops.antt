@@ -1,5 +1,5 @@
 -- A call of the disk as documents 01 and 02 say it: refusals as rows, ascending, and the next disk.
-use Rattle.std.specs.Prelude.{ℕ, Bool, ◌&&◌, cond, false, not, true, List, [], ◌∷◌, eqb, leb}
+use Rattle.std.specs.Prelude.{ℕ, Bool, ◌&&◌, cond, false, not, true, List, [], ◌∷◌, eqb, leb, Result, Ok, Err}
 use Rattle.base.specs.Refusals.{Row, ◌when◌, answer}
 use Rattle.blockdisk.specs.Form.{disk_form, node_allowed, table_allowed}
 use Rattle.blockdisk.specs.Records.{read_node, read_table, with_node, with_table}
@@ -14,7 +14,8 @@ use Rattle.blockdisk.specs.declared.DiskOp.TheVariants.{RespWriteIndirectionTabl
 use Rattle.blockdisk.specs.declared.DiskOutcome.{DiskOutcome}
 use Rattle.blockdisk.specs.declared.Queues.{Queues}
 use Rattle.blockdisk.specs.declared.Records.{Records}
-use Rattle.blockdisk.specs.declared.QueueOutcome.{QueueOutcome}
+use Rattle.blockdisk.specs.declared.DiskRefusal.{DiskRefusal}
+use Rattle.blockdisk.specs.declared.DiskRefusal.TheVariants as refusal
 use Rattle.disklayout.specs.declared.Location.{Location}
 use Rattle.queue.specs.Queue.{entry_of, has_of, insert_of, remove_of}
 use Rattle.queue.specs.declared.Request.{Request}
@@ -46,12 +47,24 @@ answer_rows q id wrong =
 abbrev pub settled : {A : Type 0} → List Row → A → A → A
 settled rows next old = cond (eqb (answer rows) 0) next old
 
-unfoldable pub request_outcome : Requests → ℕ → Location → Bool → QueueOutcome
-request_outcome q id l allowed =
-    record { answer = answer (request_rows q id allowed); queue = settled (request_rows q id allowed) (insert_of q (request_of id l)) q }
+-- document 01's numbers
+abbrev pub refusal_number : DiskRefusal → ℕ
+refusal_number refusal.Id = 15
+refusal_number refusal.Place = 16
+refusal_number refusal.Brought = 17
+refusal_number refusal.Full = 18
 
-unfoldable pub answer_outcome : Requests → ℕ → Bool → QueueOutcome
-answer_outcome q id wrong = record { answer = answer (answer_rows q id wrong); queue = settled (answer_rows q id wrong) (remove_of q id) q }
+-- the queue with the request, or the first row that refuses it
+abbrev pub request_outcome : Requests → ℕ → Location → Bool → Result Requests DiskRefusal
+request_outcome q id l allowed =
+    cond (has_of q id) (Err refusal.Id)
+    (cond (not allowed) (Err refusal.Place)
+    (cond (leb 16 q.count) (Err refusal.Full)
+    (Ok (insert_of q (request_of id l)))))
+
+-- the queue without what is answered, or the first row that refuses the answer
+abbrev pub answer_outcome : Requests → ℕ → Bool → Result Requests DiskRefusal
+answer_outcome q id wrong = cond (not (has_of q id)) (Err refusal.Id) (cond wrong (Err refusal.Brought) (Ok (remove_of q id)))
 
 -- WHAT A READ ANSWER BRINGS
 
@@ -129,6 +142,11 @@ outcome rows next old = record { answer = answer rows; disk = settled rows next 
 
 abbrev pub op_outcome : ℕ → DiskState → DiskOp → Node → Table → DiskOutcome
 op_outcome d s op n t = outcome (op_rows d s op n t) (next_disk d s op n t) s
+
+-- what an operation gives, as the outcome of its call: the next disk, or the number with the disk as it was
+abbrev pub settled_outcome : Result DiskState DiskRefusal → DiskState → DiskOutcome
+settled_outcome (Ok next) old = record { answer = 0; disk = next }
+settled_outcome (Err e) old = record { answer = refusal_number e; disk = old }
 
 abbrev pub disk_rows : ℕ → DiskState → DiskCall → List Row
 disk_rows d s c = (1 when not (disk_form d s && node_form c.node && table_form c.table)) ∷ op_rows d s c.op c.node c.table

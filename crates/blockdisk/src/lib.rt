@@ -91,9 +91,15 @@ pub struct Checked {
     pub placed: bool,
 }
 
-// What a request or an answer does to its queue: document 01's number, and the queue, unchanged where the number is not 0.
-#[derive(Clone, Copy)]
-pub struct QueueOutcome {
-    pub answer: u64,
-    pub queue: Requests,
+// Why the disk refuses a request or an answer: document 01's numbers 15 to 18 (`refusal_number`).
+#[derive(Clone, Copy, PartialEq, Eq)]
+pub enum DiskRefusal {
+    // 15: a request's id is already in its queue, or an answer's id isn't.
+    Id,
+    // 16: a request's place is not allowed.
+    Place,
+    // 17: a read answer brings something other than what is stored.
+    Brought,
+    // 18: a request's queue holds 16.
+    Full,
 }

@@ -66,7 +66,9 @@ fn tables_kept(q: Requests, old: [TableRecord; 2], new: [TableRecord; 2]) -> boo
 fn nodes_kept(q: Requests, old: [NodeRecord; 128], new: [NodeRecord; 128]) -> bool
     ensures { result ≡ nodes_kept q old new }
 {
-    old.iter().zip(new.iter()).all(|(a, b)| kept_node(q, *a, *b))
+    old.iter()
+        .zip(new.iter())
+        .all(|(a, b)| kept_node(q, *a, *b))
 }
 
 fn records_kept(qs: Queues, old: Records, new: Records) -> bool

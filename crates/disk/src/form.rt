@@ -135,14 +135,22 @@ fn node_request_ok(device: u64, w: Request) -> bool
 fn table_queue_ok(device: u64, q: Requests) -> bool
     ensures { result ≡ table_queue_form device q }
 {
-    let good = q.at.iter().take(q.count as usize).all(|w| table_request_ok(device, *w));
+    let good = q
+        .at
+        .iter()
+        .take(q.count as usize)
+        .all(|w| table_request_ok(device, *w));
     queue::form(q) & good
 }
 
 fn node_queue_ok(device: u64, q: Requests) -> bool
     ensures { result ≡ node_queue_form device q }
 {
-    let good = q.at.iter().take(q.count as usize).all(|w| node_request_ok(device, *w));
+    let good = q
+        .at
+        .iter()
+        .take(q.count as usize)
+        .all(|w| node_request_ok(device, *w));
     queue::form(q) & good
 }
 

@@ -3,12 +3,15 @@
 ghost use Rattle.std.specs.Prelude.{◌&&◌, not, ◌≡◌};
 ghost use Rattle.sectortype.specs.Form.{zero_node, empty_table};
 ghost use Rattle.sectortype.specs.Same.{same_node, same_table};
-ghost use Rattle.blockdisk.specs.Ops.{request_of, request_outcome, answer_outcome, something_in, op_outcome, disk_step};
+ghost use Rattle.blockdisk.specs.Ops.{request_of, request_outcome, answer_outcome, refusal_number, settled_outcome, something_in, op_outcome};
+ghost use Rattle.blockdisk.specs.Ops.{disk_step};
 
 use crate::Disk;
 use crate::form::{disk_ok, queues_ok, records_ok, table_allowed};
 use crate::read::{node_at, table_at, with_node, with_table};
-use blockdisk::{Brought, DiskCall, DiskOp, DiskOutcome, NodeRecord, QueueOutcome, TableRecord};
+use blockdisk::{
+    Brought, DiskCall, DiskOp, DiskOutcome, DiskRefusal, DiskState, NodeRecord, TableRecord,
+};
 use disklayout::Location;
 use queue::{Request, Requests};
 use sectortype::{Node, Table};
@@ -24,58 +27,55 @@ fn request(id: u64, loc: Location) -> Request
 }
 
 // A request: 15 if its id is in the queue, 16 if its place is not allowed, 18 if the queue holds 16.
-fn ask(q: Requests, id: u64, loc: Location, allowed: bool) -> QueueOutcome
+fn ask(q: Requests, id: u64, loc: Location, allowed: bool) -> Result<Requests, DiskRefusal>
     ensures { result ≡ request_outcome q id loc allowed }
 {
-    let known = queue::has(q, id);
-    let full = 16 <= q.count;
-    if known {
-        return QueueOutcome {
-            answer: 15,
-            queue: q,
-        };
+    if queue::has(q, id) {
+        return Err(DiskRefusal::Id);
     }
     if !allowed {
-        return QueueOutcome {
-            answer: 16,
-            queue: q,
-        };
+        return Err(DiskRefusal::Place);
     }
-    if full {
-        return QueueOutcome {
-            answer: 18,
-            queue: q,
-        };
+    if 16 <= q.count {
+        return Err(DiskRefusal::Full);
     }
-    let w = request(id, loc);
-    let next = queue::insert(q, w);
-    QueueOutcome {
-        answer: 0,
-        queue: next,
-    }
+    Ok(queue::insert(q, request(id, loc)))
 }
 
 // An answer: 15 if its id is not in the queue, 17 if it brings something else than is stored.
-fn take(q: Requests, id: u64, wrong: bool) -> QueueOutcome
+fn take(q: Requests, id: u64, wrong: bool) -> Result<Requests, DiskRefusal>
     ensures { result ≡ answer_outcome q id wrong }
 {
-    let known = queue::has(q, id);
-    if !known {
-        return QueueOutcome {
-            answer: 15,
-            queue: q,
-        };
+    if !queue::has(q, id) {
+        return Err(DiskRefusal::Id);
     }
     if wrong {
-        return QueueOutcome {
-            answer: 17,
-            queue: q,
-        };
+        return Err(DiskRefusal::Brought);
     }
-    let next = queue::remove(q, id);
-    QueueOutcome {
-        answer: 0,
-        queue: next,
+    Ok(queue::remove(q, id))
+}
+
+fn number(refusal: DiskRefusal) -> u64
+    ensures { result ≡ refusal_number refusal }
+{
+    match refusal {
+        DiskRefusal::Id => 15,
+        DiskRefusal::Place => 16,
+        DiskRefusal::Brought => 17,
+        DiskRefusal::Full => 18,
+    }
+}
+
+// What an operation gives, as the outcome of its call.
+fn settled(next: Result<DiskState, DiskRefusal>, old: DiskState) -> DiskOutcome
+    ensures { result ≡ settled_outcome next old }
+{
+    match next {
+        Ok(disk) => DiskOutcome { answer: 0, disk },
+        Err(refusal) => DiskOutcome {
+            answer: number(refusal),
+            disk: old,
+        },
     }
 }
 
@@ -110,169 +110,92 @@ fn node_not_stored(x: NodeRecord, b: Brought, node: Node) -> bool
 }
 
 impl Disk {
-    fn recv_read_indirection_table(self, id: u64, loc: Location) -> DiskOutcome
-        ensures { result ≡ op_outcome self.device self.state (DiskOp.ReqReadIndirectionTableOp id loc) zero_node empty_table }
+    fn recv_read_indirection_table(self, id: u64, loc: Location) -> Result<DiskState, DiskRefusal>
+        ensures { settled_outcome result self.state ≡ op_outcome self.device self.state (DiskOp.ReqReadIndirectionTableOp id loc) zero_node empty_table }
     {
         let mut s = self.state;
-        let mut qs = s.queues;
-        let q = qs.tablereads;
         let allowed = table_allowed(self.device, loc);
-        let t = ask(q, id, loc, allowed);
-        let n = t.answer;
-        if n != 0 {
-            return DiskOutcome { answer: n, disk: s };
-        }
-        let next = t.queue;
-        qs.tablereads = next;
-        s.queues = qs;
-        DiskOutcome { answer: 0, disk: s }
+        s.queues.tablereads = ask(s.queues.tablereads, id, loc, allowed)?;
+        Ok(s)
     }
 
-    fn recv_read_node(self, id: u64, loc: Location) -> DiskOutcome
-        ensures { result ≡ op_outcome self.device self.state (DiskOp.ReqReadNodeOp id loc) zero_node empty_table }
+    fn recv_read_node(self, id: u64, loc: Location) -> Result<DiskState, DiskRefusal>
+        ensures { settled_outcome result self.state ≡ op_outcome self.device self.state (DiskOp.ReqReadNodeOp id loc) zero_node empty_table }
     {
         let mut s = self.state;
-        let mut qs = s.queues;
-        let q = qs.nodereads;
-        let allowed = layout::node_place(self.device, loc);
-        let t = ask(q, id, loc, allowed.yes);
-        let n = t.answer;
-        if n != 0 {
-            return DiskOutcome { answer: n, disk: s };
-        }
-        let next = t.queue;
-        qs.nodereads = next;
-        s.queues = qs;
-        DiskOutcome { answer: 0, disk: s }
+        let allowed = layout::node_place(self.device, loc).yes;
+        s.queues.nodereads = ask(s.queues.nodereads, id, loc, allowed)?;
+        Ok(s)
     }
 
     // The write takes effect at once: it replaces its area's record and nothing else.
-    fn recv_write_indirection_table(self, id: u64, loc: Location, table: Table) -> DiskOutcome
-        ensures { result ≡ op_outcome self.device self.state (DiskOp.ReqWriteIndirectionTableOp id loc) zero_node table }
+    fn recv_write_indirection_table(
+        self,
+        id: u64,
+        loc: Location,
+        table: Table,
+    ) -> Result<DiskState, DiskRefusal>
+        ensures { settled_outcome result self.state ≡ op_outcome self.device self.state (DiskOp.ReqWriteIndirectionTableOp id loc) zero_node table }
     {
         let mut s = self.state;
-        let mut qs = s.queues;
-        let q = qs.tablewrites;
         let allowed = table_allowed(self.device, loc);
-        let t = ask(q, id, loc, allowed);
-        let n = t.answer;
-        if n != 0 {
-            return DiskOutcome { answer: n, disk: s };
-        }
-        let next = t.queue;
-        qs.tablewrites = next;
-        let old = s.records;
-        let records = with_table(self.device, old, loc, table);
-        s.queues = qs;
-        s.records = records;
-        DiskOutcome { answer: 0, disk: s }
+        s.queues.tablewrites = ask(s.queues.tablewrites, id, loc, allowed)?;
+        s.records = with_table(self.device, s.records, loc, table);
+        Ok(s)
     }
 
     // The write takes effect at once: it replaces its block's record and nothing else.
-    fn recv_write_node(self, id: u64, loc: Location, node: Node) -> DiskOutcome
-        ensures { result ≡ op_outcome self.device self.state (DiskOp.ReqWriteNodeOp id loc) node empty_table }
+    fn recv_write_node(self, id: u64, loc: Location, node: Node) -> Result<DiskState, DiskRefusal>
+        ensures { settled_outcome result self.state ≡ op_outcome self.device self.state (DiskOp.ReqWriteNodeOp id loc) node empty_table }
     {
         let mut s = self.state;
-        let mut qs = s.queues;
-        let q = qs.nodewrites;
-        let allowed = layout::node_place(self.device, loc);
-        let t = ask(q, id, loc, allowed.yes);
-        let n = t.answer;
-        if n != 0 {
-            return DiskOutcome { answer: n, disk: s };
-        }
-        let next = t.queue;
-        qs.nodewrites = next;
-        let old = s.records;
-        let records = with_node(self.device, old, loc, node);
-        s.queues = qs;
-        s.records = records;
-        DiskOutcome { answer: 0, disk: s }
+        let allowed = layout::node_place(self.device, loc).yes;
+        s.queues.nodewrites = ask(s.queues.nodewrites, id, loc, allowed)?;
+        s.records = with_node(self.device, s.records, loc, node);
+        Ok(s)
     }
 
-    fn ack_read_indirection_table(self, id: u64, b: Brought, table: Table) -> DiskOutcome
-        ensures { result ≡ op_outcome self.device self.state (DiskOp.RespReadIndirectionTableOp id b) zero_node table }
+    fn ack_read_indirection_table(
+        self,
+        id: u64,
+        b: Brought,
+        table: Table,
+    ) -> Result<DiskState, DiskRefusal>
+        ensures { settled_outcome result self.state ≡ op_outcome self.device self.state (DiskOp.RespReadIndirectionTableOp id b) zero_node table }
     {
         let mut s = self.state;
-        let mut qs = s.queues;
-        let q = qs.tablereads;
-        let w = queue::entry(q, id);
-        let records = s.records;
-        let loc = w.loc;
-        let x = table_at(self.device, records, loc);
-        let wrong = table_not_stored(x, b, table);
-        let t = take(q, id, wrong);
-        let n = t.answer;
-        if n != 0 {
-            return DiskOutcome { answer: n, disk: s };
-        }
-        let next = t.queue;
-        qs.tablereads = next;
-        s.queues = qs;
-        DiskOutcome { answer: 0, disk: s }
+        let asked = queue::entry(s.queues.tablereads, id);
+        let stored = table_at(self.device, s.records, asked.loc);
+        let wrong = table_not_stored(stored, b, table);
+        s.queues.tablereads = take(s.queues.tablereads, id, wrong)?;
+        Ok(s)
     }
 
-    fn ack_read_node(self, id: u64, b: Brought, node: Node) -> DiskOutcome
-        ensures { result ≡ op_outcome self.device self.state (DiskOp.RespReadNodeOp id b) node empty_table }
+    fn ack_read_node(self, id: u64, b: Brought, node: Node) -> Result<DiskState, DiskRefusal>
+        ensures { settled_outcome result self.state ≡ op_outcome self.device self.state (DiskOp.RespReadNodeOp id b) node empty_table }
     {
         let mut s = self.state;
-        let mut qs = s.queues;
-        let q = qs.nodereads;
-        let w = queue::entry(q, id);
-        let records = s.records;
-        let loc = w.loc;
-        let x = node_at(self.device, records, loc);
-        let wrong = node_not_stored(x, b, node);
-        let t = take(q, id, wrong);
-        let n = t.answer;
-        if n != 0 {
-            return DiskOutcome { answer: n, disk: s };
-        }
-        let next = t.queue;
-        qs.nodereads = next;
-        s.queues = qs;
-        DiskOutcome { answer: 0, disk: s }
+        let asked = queue::entry(s.queues.nodereads, id);
+        let stored = node_at(self.device, s.records, asked.loc);
+        let wrong = node_not_stored(stored, b, node);
+        s.queues.nodereads = take(s.queues.nodereads, id, wrong)?;
+        Ok(s)
     }
 
-    fn ack_write_indirection_table(self, id: u64) -> DiskOutcome
-        ensures { result ≡ op_outcome self.device self.state (DiskOp.RespWriteIndirectionTableOp id) zero_node empty_table }
+    fn ack_write_indirection_table(self, id: u64) -> Result<DiskState, DiskRefusal>
+        ensures { settled_outcome result self.state ≡ op_outcome self.device self.state (DiskOp.RespWriteIndirectionTableOp id) zero_node empty_table }
     {
         let mut s = self.state;
-        let mut qs = s.queues;
-        let q = qs.tablewrites;
-        let t = take(q, id, false);
-        let n = t.answer;
-        if n != 0 {
-            return DiskOutcome { answer: n, disk: s };
-        }
-        let next = t.queue;
-        qs.tablewrites = next;
-        s.queues = qs;
-        DiskOutcome { answer: 0, disk: s }
+        s.queues.tablewrites = take(s.queues.tablewrites, id, false)?;
+        Ok(s)
     }
 
-    fn ack_write_node(self, id: u64) -> DiskOutcome
-        ensures { result ≡ op_outcome self.device self.state (DiskOp.RespWriteNodeOp id) zero_node empty_table }
+    fn ack_write_node(self, id: u64) -> Result<DiskState, DiskRefusal>
+        ensures { settled_outcome result self.state ≡ op_outcome self.device self.state (DiskOp.RespWriteNodeOp id) zero_node empty_table }
     {
         let mut s = self.state;
-        let mut qs = s.queues;
-        let q = qs.nodewrites;
-        let t = take(q, id, false);
-        let n = t.answer;
-        if n != 0 {
-            return DiskOutcome { answer: n, disk: s };
-        }
-        let next = t.queue;
-        qs.nodewrites = next;
-        s.queues = qs;
-        DiskOutcome { answer: 0, disk: s }
-    }
-
-    fn stutter(self) -> DiskOutcome
-        ensures { result ≡ op_outcome self.device self.state DiskOp.NoDiskOp zero_node empty_table }
-    {
-        let s = self.state;
-        DiskOutcome { answer: 0, disk: s }
+        s.queues.nodewrites = take(s.queues.nodewrites, id, false)?;
+        Ok(s)
     }
 
     // Any call on any disk. Its written form is asked of its parts, and the match on the operation stands here, since a function between
@@ -280,35 +203,31 @@ impl Disk {
     pub fn next(self, call: DiskCall) -> DiskOutcome
         ensures { result ≡ disk_step self.device self.state call }
     {
-        let op = call.op;
-        let node = call.node;
-        let table = call.table;
         let s = self.state;
-        let records = s.records;
-        let queues = s.queues;
-        let stored = records_ok(self.device, records);
-        let waiting = queues_ok(self.device, queues);
+        let stored = records_ok(self.device, s.records);
+        let waiting = queues_ok(self.device, s.queues);
         let form = disk_ok(self.device, s.rule, stored, waiting);
-        let node_ok = sector::node_form(node);
-        let table_ok = sector::table_form(table);
+        let node_ok = sector::node_form(call.node);
+        let table_ok = sector::table_form(call.table);
         let good = form & node_ok & table_ok;
         if !good {
             return DiskOutcome { answer: 1, disk: s };
         }
-        match op {
+        let next = match call.op {
             DiskOp::ReqReadIndirectionTableOp(id, loc) => self.recv_read_indirection_table(id, loc),
             DiskOp::ReqReadNodeOp(id, loc) => self.recv_read_node(id, loc),
             DiskOp::ReqWriteIndirectionTableOp(id, loc) => self.recv_write_indirection_table(
-                id, loc, table,
+                id, loc, call.table,
             ),
-            DiskOp::ReqWriteNodeOp(id, loc) => self.recv_write_node(id, loc, node),
+            DiskOp::ReqWriteNodeOp(id, loc) => self.recv_write_node(id, loc, call.node),
             DiskOp::RespReadIndirectionTableOp(id, b) => self.ack_read_indirection_table(
-                id, b, table,
+                id, b, call.table,
             ),
-            DiskOp::RespReadNodeOp(id, b) => self.ack_read_node(id, b, node),
+            DiskOp::RespReadNodeOp(id, b) => self.ack_read_node(id, b, call.node),
             DiskOp::RespWriteIndirectionTableOp(id) => self.ack_write_indirection_table(id),
             DiskOp::RespWriteNodeOp(id) => self.ack_write_node(id),
-            DiskOp::NoDiskOp => self.stutter(),
-        }
+            DiskOp::NoDiskOp => Ok(s),
+        };
+        settled(next, s)
     }
 }

@@ -1,21 +1,19 @@
--- What the answer brings is compared with the record at the place asked for, found by the request's id; that is the definition's test.
--- Refused: the disk as it was. Accepted: by what the callees ensure. Assumes nothing.
-use borrow.Author.Tests.{ne_eqb}
-use Rattle.blockdisk.specs.Ops.{answer_outcome, table_not_stored}
+-- Refused or accepted as the queue says. Assumes nothing.
+use mathlib.Core.Path.{◌∙◌, ◌≡◌, ap, refl, sym}
+use borrow.Author.Rules.{rules}
+use Rattle.std.specs.Prelude.{Err}
+use Rattle.blockdisk.specs.Ops.{table_not_stored, with_queues, with_table_reads}
+use Rattle.disk.proofs.Requests.{answered_no, answered_yes}
 use Rattle.disk.proofs.Disk.ack_read_indirection_table.Goals as goal
 
-pub returns-then-n-ne0 : goal.returns-then-n-ne0
-unfolding answer_outcome table_not_stored
-returns-then-n-ne0 c =
-    let at = c.table_at-x.ensures in
-    let w = c.entry-w.ensures in
-    let e = simp (c.take-t.ensures, c.table_not_stored-wrong.ensures, at, w) at c.if-n-ne0.true in
-    simp (c.take-t.ensures, c.table_not_stored-wrong.ensures, at, w, ne_eqb _ _ e)
+pub returns-in_err-s : goal.returns-in_err-s
+unfolding table_not_stored
+returns-in_err-s c =
+    let r : c.from_residual.result ≡ Err c.in_err-s.field-0.0 = search rules in
+    answered_no _ _ _ _ _ (rw (c.table_not_stored-wrong.ensures, c.table_at-stored.ensures, c.entry-asked.ensures) refl) (sym c.take.ensures ∙ c.in_err-s.was) r
 
 pub returns : goal.returns
-unfolding answer_outcome table_not_stored
+unfolding table_not_stored
 returns c =
-    let at = c.table_at-x.ensures in
-    let w = c.entry-w.ensures in
-    let e = simp (c.take-t.ensures, c.table_not_stored-wrong.ensures, at, w) at c.if-n-ne0.false in
-    simp (c.take-t.ensures, c.table_not_stored-wrong.ensures, at, w, e)
+    let s = c.args.self.state in
+    answered_yes _ _ _ (λ q. with_queues s (with_table_reads s.queues q)) s (rw (c.table_not_stored-wrong.ensures, c.table_at-stored.ensures, c.entry-asked.ensures) refl) (sym c.take.ensures ∙ c.in_ok-s.was) refl

@@ -1,16 +1,17 @@
--- Refused: the disk as it was. Accepted: by what the callees ensure. Assumes nothing.
-use borrow.Author.Tests.{ne_eqb}
-use Rattle.blockdisk.specs.Ops.{answer_outcome}
+-- Refused or accepted as the queue says. Assumes nothing.
+use mathlib.Core.Path.{◌∙◌, ◌≡◌, ap, refl, sym}
+use borrow.Author.Rules.{rules}
+use Rattle.std.specs.Prelude.{Err}
+use Rattle.blockdisk.specs.Ops.{with_queues, with_table_writes}
+use Rattle.disk.proofs.Requests.{answered_no, answered_yes}
 use Rattle.disk.proofs.Disk.ack_write_indirection_table.Goals as goal
 
-pub returns-then-n-ne0 : goal.returns-then-n-ne0
-unfolding answer_outcome
-returns-then-n-ne0 c =
-    let e = simp c.take-t.ensures at c.if-n-ne0.true in
-    simp (c.take-t.ensures, ne_eqb _ _ e)
+pub returns-in_err-s : goal.returns-in_err-s
+returns-in_err-s c =
+    let r : c.from_residual.result ≡ Err c.in_err-s.field-0.0 = search rules in
+    answered_no _ _ _ _ _ (refl) (sym c.take.ensures ∙ c.in_err-s.was) r
 
 pub returns : goal.returns
-unfolding answer_outcome
 returns c =
-    let e = simp c.take-t.ensures at c.if-n-ne0.false in
-    simp (c.take-t.ensures, e)
+    let s = c.args.self.state in
+    answered_yes _ _ _ (λ q. with_queues s (with_table_writes s.queues q)) s (refl) (sym c.take.ensures ∙ c.in_ok-s.was) refl

@@ -1,15 +1,18 @@
--- Not in its written form: 1. Else arm by arm: the operation is the arm's, and the transition's own contract is the definition there. The
--- test of the form is the definition's, by what the callees ensure of the two parts of the disk, the node and the table. Assumes nothing.
+-- Not in its written form: 1. Else what the operation's own transition ensures. The test of the form is the definition's, by what the
+-- callees ensure of the two parts of the disk, the node and the table. Assumes nothing.
 use Prim.Native.Nat.{ℕ}
 use mathlib.Core.Bool.{◌&&◌, true}
-use mathlib.Core.Path.{◌≡◌}
+use mathlib.Core.Path.{◌≡◌, ◌∙◌, refl}
 use Rattle.base.specs.Refusals.{answer}
 use Rattle.blockdisk.specs.Form.{disk_form}
-use Rattle.blockdisk.specs.Ops.{disk_step, op_outcome}
+use Rattle.blockdisk.specs.Ops.{disk_step, op_outcome, settled_outcome}
 use Rattle.blockdisk.specs.declared.DiskCall.{DiskCall}
 use Rattle.blockdisk.specs.declared.DiskState.{DiskState}
 use Rattle.sectortype.specs.Form.{node_form, table_form}
 use Rattle.disk.proofs.Disk.next.Goals as goal
+use Rattle.disk.proofs.Disk.next.Goals.{in-ReqReadIndirectionTableOp, in-ReqReadNodeOp, in-ReqWriteIndirectionTableOp, in-ReqWriteNodeOp}
+use Rattle.disk.proofs.Disk.next.Goals.{in-RespReadIndirectionTableOp, in-RespReadNodeOp, in-RespWriteIndirectionTableOp}
+use Rattle.disk.proofs.Disk.next.Goals.{in-RespWriteNodeOp, in-NoDiskOp}
 
 -- past the test, the operation alone decides
 formed : (d : ℕ) (s : DiskState) (q : DiskCall) → (disk_form d s && node_form q.node && table_form q.table) ≡ true →
@@ -30,9 +33,23 @@ returns-then-not-good c =
     )
     at c.if-not-good.true)
 
-pub returns-in-ReqReadIndirectionTableOp : goal.returns-in-ReqReadIndirectionTableOp
-unfolding disk_form
-returns-in-ReqReadIndirectionTableOp c =
+pub returns : goal.returns
+unfolding disk_form answer
+returns c =
+    let d = c.args.self.device in
+    let s = c.args.self.state in
+    let q = c.args.call in
+    let next : settled_outcome c.match-call.next s ≡ op_outcome d s q.op q.node q.table = elim c.match-call.branch [
+      | in-ReqReadIndirectionTableOp w ↦ rw (w.next-is, w.in-ReqReadIndirectionTableOp.is) w.recv_read_indirection_table-next.ensures
+      | in-ReqReadNodeOp w ↦ rw (w.next-is, w.in-ReqReadNodeOp.is) w.recv_read_node-next.ensures
+      | in-ReqWriteIndirectionTableOp w ↦ rw (w.next-is, w.in-ReqWriteIndirectionTableOp.is) w.recv_write_indirection_table-next.ensures
+      | in-ReqWriteNodeOp w ↦ rw (w.next-is, w.in-ReqWriteNodeOp.is) w.recv_write_node-next.ensures
+      | in-RespReadIndirectionTableOp w ↦ rw (w.next-is, w.in-RespReadIndirectionTableOp.is) w.ack_read_indirection_table-next.ensures
+      | in-RespReadNodeOp w ↦ rw (w.next-is, w.in-RespReadNodeOp.is) w.ack_read_node-next.ensures
+      | in-RespWriteIndirectionTableOp w ↦ rw (w.next-is, w.in-RespWriteIndirectionTableOp.is) w.ack_write_indirection_table-next.ensures
+      | in-RespWriteNodeOp w ↦ rw (w.next-is, w.in-RespWriteNodeOp.is) w.ack_write_node-next.ensures
+      | in-NoDiskOp w ↦ rw (w.next-is, w.in-NoDiskOp.is) refl
+    ] in
     let e = rw (
       c.table_form-table_ok.ensures,
       c.node_form-node_ok.ensures,
@@ -41,120 +58,4 @@ returns-in-ReqReadIndirectionTableOp c =
       c.records_ok-stored.ensures,
     )
     at c.if-not-good.false in
-    simp (
-      formed c.args.self.device c.args.self.state c.args.call e,
-      c.in-ReqReadIndirectionTableOp.is,
-    ) c.recv_read_indirection_table.ensures
-
-pub returns-in-ReqReadNodeOp : goal.returns-in-ReqReadNodeOp
-unfolding disk_form
-returns-in-ReqReadNodeOp c =
-    let e = rw (
-      c.table_form-table_ok.ensures,
-      c.node_form-node_ok.ensures,
-      c.disk_ok-form.ensures,
-      c.queues_ok-waiting.ensures,
-      c.records_ok-stored.ensures,
-    )
-    at c.if-not-good.false in
-    simp (formed c.args.self.device c.args.self.state c.args.call e, c.in-ReqReadNodeOp.is) c.recv_read_node.ensures
-
-pub returns-in-ReqWriteIndirectionTableOp : goal.returns-in-ReqWriteIndirectionTableOp
-unfolding disk_form
-returns-in-ReqWriteIndirectionTableOp c =
-    let e = rw (
-      c.table_form-table_ok.ensures,
-      c.node_form-node_ok.ensures,
-      c.disk_ok-form.ensures,
-      c.queues_ok-waiting.ensures,
-      c.records_ok-stored.ensures,
-    )
-    at c.if-not-good.false in
-    simp (
-      formed c.args.self.device c.args.self.state c.args.call e,
-      c.in-ReqWriteIndirectionTableOp.is,
-    ) c.recv_write_indirection_table.ensures
-
-pub returns-in-ReqWriteNodeOp : goal.returns-in-ReqWriteNodeOp
-unfolding disk_form
-returns-in-ReqWriteNodeOp c =
-    let e = rw (
-      c.table_form-table_ok.ensures,
-      c.node_form-node_ok.ensures,
-      c.disk_ok-form.ensures,
-      c.queues_ok-waiting.ensures,
-      c.records_ok-stored.ensures,
-    )
-    at c.if-not-good.false in
-    simp (formed c.args.self.device c.args.self.state c.args.call e, c.in-ReqWriteNodeOp.is) c.recv_write_node.ensures
-
-pub returns-in-RespReadIndirectionTableOp : goal.returns-in-RespReadIndirectionTableOp
-unfolding disk_form
-returns-in-RespReadIndirectionTableOp c =
-    let e = rw (
-      c.table_form-table_ok.ensures,
-      c.node_form-node_ok.ensures,
-      c.disk_ok-form.ensures,
-      c.queues_ok-waiting.ensures,
-      c.records_ok-stored.ensures,
-    )
-    at c.if-not-good.false in
-    simp (
-      formed c.args.self.device c.args.self.state c.args.call e,
-      c.in-RespReadIndirectionTableOp.is,
-    ) c.ack_read_indirection_table.ensures
-
-pub returns-in-RespReadNodeOp : goal.returns-in-RespReadNodeOp
-unfolding disk_form
-returns-in-RespReadNodeOp c =
-    let e = rw (
-      c.table_form-table_ok.ensures,
-      c.node_form-node_ok.ensures,
-      c.disk_ok-form.ensures,
-      c.queues_ok-waiting.ensures,
-      c.records_ok-stored.ensures,
-    )
-    at c.if-not-good.false in
-    simp (formed c.args.self.device c.args.self.state c.args.call e, c.in-RespReadNodeOp.is) c.ack_read_node.ensures
-
-pub returns-in-RespWriteIndirectionTableOp : goal.returns-in-RespWriteIndirectionTableOp
-unfolding disk_form
-returns-in-RespWriteIndirectionTableOp c =
-    let e = rw (
-      c.table_form-table_ok.ensures,
-      c.node_form-node_ok.ensures,
-      c.disk_ok-form.ensures,
-      c.queues_ok-waiting.ensures,
-      c.records_ok-stored.ensures,
-    )
-    at c.if-not-good.false in
-    simp (
-      formed c.args.self.device c.args.self.state c.args.call e,
-      c.in-RespWriteIndirectionTableOp.is,
-    ) c.ack_write_indirection_table.ensures
-
-pub returns-in-RespWriteNodeOp : goal.returns-in-RespWriteNodeOp
-unfolding disk_form
-returns-in-RespWriteNodeOp c =
-    let e = rw (
-      c.table_form-table_ok.ensures,
-      c.node_form-node_ok.ensures,
-      c.disk_ok-form.ensures,
-      c.queues_ok-waiting.ensures,
-      c.records_ok-stored.ensures,
-    )
-    at c.if-not-good.false in
-    simp (formed c.args.self.device c.args.self.state c.args.call e, c.in-RespWriteNodeOp.is) c.ack_write_node.ensures
-
-pub returns-in-NoDiskOp : goal.returns-in-NoDiskOp
-unfolding disk_form
-returns-in-NoDiskOp c =
-    let e = rw (
-      c.table_form-table_ok.ensures,
-      c.node_form-node_ok.ensures,
-      c.disk_ok-form.ensures,
-      c.queues_ok-waiting.ensures,
-      c.records_ok-stored.ensures,
-    )
-    at c.if-not-good.false in
-    simp (formed c.args.self.device c.args.self.state c.args.call e, c.in-NoDiskOp.is) c.stutter.ensures
+    rw (c.settled.ensures, formed d s q e) next

@@ -1,16 +1,17 @@
--- Refused: the disk as it was. Accepted: by what the callees ensure. Assumes nothing.
-use borrow.Author.Tests.{ne_eqb}
-use Rattle.blockdisk.specs.Ops.{request_outcome}
+-- Refused or accepted as the queue says. Assumes nothing.
+use mathlib.Core.Path.{◌∙◌, ◌≡◌, ap, refl, sym}
+use borrow.Author.Rules.{rules}
+use Rattle.std.specs.Prelude.{Err}
+use Rattle.blockdisk.specs.Ops.{with_node_reads, with_queues}
+use Rattle.disk.proofs.Requests.{asked_no, asked_yes}
 use Rattle.disk.proofs.Disk.recv_read_node.Goals as goal
 
-pub returns-then-n-ne0 : goal.returns-then-n-ne0
-unfolding request_outcome
-returns-then-n-ne0 c =
-    let e = simp (c.ask-t.ensures, c.node_place-allowed.ensures) at c.if-n-ne0.true in
-    simp (c.ask-t.ensures, c.node_place-allowed.ensures, ne_eqb _ _ e)
+pub returns-in_err-s : goal.returns-in_err-s
+returns-in_err-s c =
+    let r : c.from_residual.result ≡ Err c.in_err-s.field-0.0 = search rules in
+    asked_no _ _ _ _ _ _ (ap (λ x. x.yes) c.node_place-allowed.ensures) (sym c.ask.ensures ∙ c.in_err-s.was) r
 
 pub returns : goal.returns
-unfolding request_outcome
 returns c =
-    let e = simp (c.ask-t.ensures, c.node_place-allowed.ensures) at c.if-n-ne0.false in
-    simp (c.ask-t.ensures, c.node_place-allowed.ensures, e)
+    let s = c.args.self.state in
+    asked_yes _ _ _ _ (λ q. with_queues s (with_node_reads s.queues q)) s (ap (λ x. x.yes) c.node_place-allowed.ensures) (sym c.ask.ensures ∙ c.in_ok-s.was) refl

@@ -14,6 +14,6 @@ returns c =
     let old : length c.args.old ≡ 128 = search rules in
     let new : length c.args.new ≡ 128 = search rules in
     let e =
-        all_from_yields_List (λ (w : NodeRecord × NodeRecord). kept_node c.args.q w.0 w.1) c.all.new.self _ _ c.all.ensures.ran
-        (YieldsList-from_zip {s = c.zip.result} (YieldsList-from_slice c.args.old cc) (YieldsList-from_slice c.args.new cc)) (λ x b q k. search rules) in
+    all_from_yields_List (λ (w : NodeRecord × NodeRecord). kept_node c.args.q w.0 w.1) c.all.new.self _ _ c.all.ensures.ran
+    (YieldsList-from_zip {s = c.zip.result} (YieldsList-from_slice c.args.old cc) (YieldsList-from_slice c.args.new cc)) (λ x b q k. search rules) in
     e ∙ nodes_kept_all c.args.q c.args.old c.args.new old new
