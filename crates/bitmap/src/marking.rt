@@ -45,15 +45,10 @@ fn table_marks(device: u64, t: Table) -> Marks
     ensures { result ≡ table_marks device t }
 {
     let mut marks = NONE;
-    let mut i: usize = 0;
-    while i < 64 {
-        let e = t.entries[i];
-        let located = e.located;
-        if located {
-            let loc = e.loc;
-            marks = with_addr(device, marks, loc.addr);
+    for e in t.entries.iter() {
+        if e.located {
+            marks = with_addr(device, marks, e.loc.addr);
         }
-        i += 1;
     }
     marks
 }
@@ -64,14 +59,10 @@ fn writes_marks(device: u64, q: Requests) -> Marks
 {
     let n = q.count as usize;
     let mut marks = NONE;
-    let mut i: usize = 0;
-    while i < 16 {
+    for (i, w) in q.at.iter().enumerate() {
         if i < n {
-            let w = q.at[i];
-            let loc = w.loc;
-            marks = with_addr(device, marks, loc.addr);
+            marks = with_addr(device, marks, w.loc.addr);
         }
-        i += 1;
     }
     marks
 }

@@ -3,20 +3,18 @@ use mathlib.Core.Path.{◌∙◌}
 use borrow.Author.Rules.{rules}
 use Rattle.bitmap.proofs.MarksMade.{scan_end, scan_none, scan_skip, scan_turn, table_scanned}
 use Rattle.bitmap.proofs.marking.table_marks.Goals as goal
-use Rattle.bitmap.proofs.marking.table_marks.Goals.{then-located, else-located}
+use Rattle.bitmap.proofs.marking.table_marks.Goals.{then-e, else-e}
 
-pub loop-i-init : goal.loop-i-init
-loop-i-init c = (search rules, scan_none _ _ _)
+pub loop-e-init : goal.loop-e-init
+loop-e-init c = scan_none _ _ _
 
-pub loop-i-preserved : goal.loop-i-preserved
-loop-i-preserved c =
-    let l = c.loop-i in (
-      search rules,
-      elim c.if-located.branch [
-        | then-located w ↦ w.marks-is ∙ w.with_addr-marks.ensures ∙ scan_turn _ _ _ _ l.invariant.1 w.if-located.true
-        | else-located w ↦ w.marks-is ∙ scan_skip _ _ _ _ l.invariant.1 w.if-located.false
-      ],
-    )
+pub loop-e-preserved : goal.loop-e-preserved
+loop-e-preserved c =
+    let l = c.loop-e in
+    elim c.if-e.branch [
+      | then-e w ↦ w.marks-is ∙ w.with_addr-marks.ensures ∙ scan_turn _ _ _ _ l.invariant w.if-e.true
+      | else-e w ↦ w.marks-is ∙ scan_skip _ _ _ _ l.invariant w.if-e.false
+    ]
 
 pub returns : goal.returns
-returns c = let l = c.loop-i in scan_end _ _ _ l.invariant.1 l.invariant.0 c.loop-i-test.false ∙ table_scanned _ _
+returns c = let l = c.loop-e in scan_end _ _ _ l.invariant l.auto.e-index-end c.loop-e-test.false ∙ table_scanned _ _

@@ -1,4 +1,3 @@
-use Prim.Native.Nat.{◌-◌, ◌≤◌}
 use mathlib.Core.Path.{◌≡◌}
 use lib.Dec.{ltb}
 use Rattle.queue.specs.Queue.{request_at}
@@ -6,7 +5,4 @@ use Rattle.bitmap.proofs.MarksMade.{scanned}
 use Rattle.bitmap.proofs.marking.writes_marks.Given as goal
 
 abbrev pub invariant-loop-i : goal.invariant-loop-i
-invariant-loop-i l = (l.i ≤ 16) × (l.marks ≡ scanned l.device (λ k. ltb k l.q.count) (λ k. (request_at l.q k).loc.addr) l.i)
-
-abbrev pub decreases-loop-i : goal.decreases-loop-i
-decreases-loop-i l = 16 - l.i
+invariant-loop-i l = (l.marks ≡ scanned l.device (λ k. ltb k l.fn.q.count) (λ k. (request_at l.fn.q k).loc.addr) l.i)
