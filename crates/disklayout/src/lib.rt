@@ -3,7 +3,7 @@
 #![tactic(auto)]
 
 // A place on the device: len bytes from addr on. Upstream's Addr is a u64.
-#[derive(Clone, Copy)]
+#[derive(Clone, Copy, PartialEq, Eq)]
 pub struct Location {
     pub addr: u64,
     pub len: u64,
