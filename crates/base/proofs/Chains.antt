@@ -5,10 +5,10 @@ use mathlib.Core.Bool.{Bool, ◌&&◌, ◌||◌, cond, false, not, true}
 use mathlib.Core.List.{List, [], ◌∷◌}
 use Prim.Native.Nat.{ℕ, min, zero, suc, ◌+◌, ◌<◌, ◌≤◌}
 use native.Mathlib.Omega.{arith}
-use lib.Dec.{ltb}
+use lib.Dec.{leb, ltb}
 use lib.ListN.{length, get_or, length-take, take}
-use lib.Seq.{get_or-take}
-use borrow.Author.Tests.{le-ltb, lt-ltb, ltb-false, ltb-true}
+use lib.Seq.{get_or-take, length-take-le}
+use borrow.Author.Tests.{le-leb, le-ltb, lt-leb, lt-ltb, ltb-false, ltb-true}
 use Rattle.std.specs.List.{list_any, list_all, count_by, enumerate_from, position, position_or_len, zip}
 use Rattle.std.specs.Prelude.{Option, Some, None, unwrap_or}
 use Rattle.std.proofs.lemmas.List.FromFn.{get_or-enumerate_from, length-enumerate_from}
@@ -16,7 +16,7 @@ use Rattle.std.proofs.lemmas.List.Sums.{position_or_len_is, sum_by-cons}
 use Rattle.base.specs.Scan.{all_below, bit, count_below, first_below, some_below}
 use Rattle.base.proofs.Scan.{all_of, all_same, count_same, count_zero, none_at, some_of_none, some_same}
 use Rattle.base.proofs.Scan.{first_before, first_found, first_is, first_le, first_miss, first_passes, first_same}
-use Rattle.base.proofs.Tests.{split}
+use Rattle.base.proofs.Tests.{or_inr, split}
 
 -- A TEST OF THE FIRST NUMBER, AND OF THE REST
 
@@ -63,6 +63,16 @@ place_or_none i n = cond (ltb i n) (Some i) None
 pub place_or : (i n : ℕ) → i ≤ n → unwrap_or (place_or_none i n) n ≡ i
 place_or i n b = split (ltb i n) (λ t. rw t) (λ t. let j : n ≤ i = ltb-false i n t in rw t (omega arith))
 
+pub place_some : (i n : ℕ) {p : ℕ} → place_or_none i n ≡ Some p → (i ≡ p) × (p < n)
+place_some i n {p} e =
+    split (ltb i n)
+    (λ t. let s : ◌≡◌ {A = Option ℕ} (Some i) (Some p) = rw t at e in let q : i ≡ p = cc in let b : i < n = ltb-true i n t in (q, omega arith))
+    (λ t. let s : ◌≡◌ {A = Option ℕ} None (Some p) = rw t at e in cc)
+
+pub place_none : (i n : ℕ) → i ≤ n → place_or_none i n ≡ None → i ≡ n
+place_none i n b e =
+    split (ltb i n) (λ t. let s : ◌≡◌ {A = Option ℕ} (Some i) None = rw t at e in cc) (λ t. let c : n ≤ i = ltb-false i n t in omega arith)
+
 -- of n places, none of which passes from m on
 pub place_cut : (g : ℕ → Bool) (m n : ℕ) → m ≤ n → ((k : ℕ) → m ≤ k → k < n → g k ≡ false) →
     place_or_none (first_below g m) m ≡ place_or_none (first_below g n) n
@@ -83,6 +93,29 @@ place_cut g m n b none = split (some_below g m) found missed
         let x : m ≡ first_below g m = first_miss g m (sym t) in
         let y : n ≡ first_below g n = first_miss g n (sym (some_of_none g n (failing t))) in
         rw (le-ltb (first_below g m) m (omega arith), le-ltb (first_below g n) n (omega arith))
+
+-- the first of m, or m, is the first that passes or is no place of m
+pub first_front : (g : ℕ → Bool) (m n : ℕ) → m ≤ n → first_below g m ≡ first_below (λ k. leb m k || g k) n
+first_front g m n b = split (some_below g m) found missed
+  where
+    before : (k : ℕ) → k < m → g k ≡ false → (leb m k || g k) ≡ false
+    before k c e = rw (lt-leb m k c, e)
+
+    found : some_below g m ≡ true → first_below g m ≡ first_below (λ k. leb m k || g k) n
+    found t =
+        let f : first_below g m < m = first_found g m t in
+        sym (first_is (λ k. leb m k || g k) n (first_below g m) (omega arith) (or_inr _ (first_passes g m f))
+        (λ j c. before j (omega arith) (first_before g m j c)))
+
+    missed : some_below g m ≡ false → first_below g m ≡ first_below (λ k. leb m k || g k) n
+    missed t =
+        let x : m ≡ first_below g m = first_miss g m (sym t) in
+        split (ltb m n)
+        (λ u. sym x ∙ sym (first_is (λ k. leb m k || g k) n m (ltb-true m n u) (rw (le-leb m m (omega arith)))
+        (λ j c. before j c (none_at g m j t c))))
+        (λ u. let c : n ≤ m = ltb-false m n u in let e : m ≡ n = omega arith in
+        sym x ∙ e ∙ first_miss (λ k. leb m k || g k) n
+        (sym (some_of_none _ n (λ k d. before k (omega arith) (none_at g m k t (omega arith))))))
 
 -- THE WHOLE LIST
 
@@ -161,6 +194,12 @@ module _ {A : Type 0} (p : A → Bool) (d : A) where
       unwrap_or (position p (take n xs)) c ≡ first_below (λ k. ltb k n && p (get_or xs k d)) c
   position_front_or_end c n xs e =
       rw (← e) (ap (λ o. unwrap_or o (length xs)) (position_front_is_first n xs) ∙ place_or _ (length xs) (first_le _ (length xs)))
+
+  pub position_front_or_front : (n : ℕ) (xs : List A) → n ≤ length xs →
+      unwrap_or (position p (take n xs)) n ≡ first_below (λ k. leb n k || p (get_or xs k d)) (length xs)
+  position_front_or_front n xs b =
+      position_or_end (take n xs) n (length-take-le n xs b)
+      ∙ first_same _ _ n (λ k c. ap p (get_or-take n xs k d c)) ∙ first_front (λ k. p (get_or xs k d)) n (length xs) b
 
 -- EACH ELEMENT WITH ITS PLACE
 

@@ -9,4 +9,5 @@ pub mod PlainCall
 pub mod QueueForm
 pub mod Refusals
 pub mod Scan
+pub mod Shifted
 pub mod Tests
