@@ -15,34 +15,18 @@ use queue::Requests;
 fn writes_form(q: Requests) -> bool
     ensures { result ≡ writes_form q }
 {
-    let form = queue::form(q);
-    let n = q.count as usize;
-    let mut good = true;
-    let mut i: usize = 0;
-    while i < 16 {
-        let w = q.at[i];
-        good = good & (!(i < n) | (w.reference <= 63));
-        i += 1;
-    }
-    form & good
+    let used = usize::from(q.count);
+    let good = q.at.iter().take(used).all(|w| w.reference <= 63);
+    queue::form(q) & good
 }
 
 // Each read that is outstanding is of a reference; its place is kept zero.
 fn reads_form(q: Requests) -> bool
     ensures { result ≡ reads_form q }
 {
-    let form = queue::form(q);
-    let n = q.count as usize;
-    let mut good = true;
-    let mut i: usize = 0;
-    while i < 16 {
-        let w = q.at[i];
-        let loc = w.loc;
-        let nowhere = sector::loc_zero(loc);
-        good = good & (!(i < n) | ((w.reference <= 63) & nowhere));
-        i += 1;
-    }
-    form & good
+    let used = usize::from(q.count);
+    let good = q.at.iter().take(used).all(|w| (w.reference <= 63) & sector::loc_zero(w.loc));
+    queue::form(q) & good
 }
 
 fn tables_form(ts: Tables) -> bool

@@ -11,49 +11,23 @@ use sectortype::Table;
 pub(crate) fn reads_of(q: Requests, r: u64) -> bool
     ensures { result ≡ reads q r }
 {
-    let n = q.count as usize;
-    let mut hit = false;
-    let mut i: usize = 0;
-    while i < 16 {
-        let w = q.at[i];
-        let x = wide(w.reference);
-        hit = hit | ((i < n) & (x == r));
-        i += 1;
-    }
-    hit
-}
-
-fn wide(r: u8) -> u64
-    ensures { result ≡ r }
-{
-    r as u64
+    let used = usize::from(q.count);
+    q.at.iter().take(used).any(|w| u64::from(w.reference) == r)
 }
 
 // Whether a write of this reference to this very location is outstanding.
 pub(crate) fn writes_to(q: Requests, r: u64, l: Location) -> bool
     ensures { result ≡ writes_to q r l }
 {
-    let n = q.count as usize;
-    let mut hit = false;
-    let mut i: usize = 0;
-    while i < 16 {
-        let w = q.at[i];
-        let x = wide(w.reference);
-        let loc = w.loc;
-        let same = layout::same_loc(loc, l);
-        hit = hit | ((i < n) & (x == r) & same);
-        i += 1;
-    }
-    hit
+    let used = usize::from(q.count);
+    q.at.iter().take(used).any(|w| (u64::from(w.reference) == r) & (w.loc == l))
 }
 
 // Whether place j of a list of `count`, which holds s, is in use and names r.
 fn names_at(count: u8, j: usize, s: u8, r: u64) -> bool
     ensures { result ≡ names_at count j s r }
 {
-    let n = count as usize;
-    let x = wide(s);
-    (j < n) & (x == r)
+    (j < usize::from(count)) & (u64::from(s) == r)
 }
 
 // Whether some list in the graph names r, its own included: left at the first predecessor found.
@@ -61,21 +35,15 @@ pub(crate) fn has_predecessor(t: Table, r: u64) -> bool
     ensures { result ≡ has_predecessor t r }
 {
     let mut hit = false;
-    let mut i: usize = 0;
-    'search: while i < 64 {
-        let e = t.entries[i];
-        let used = e.allocated;
+    'search: for e in t.entries.iter() {
         let s = e.succs;
-        let mut j: usize = 0;
-        while j < 8 {
-            let here = used & names_at(s.count, j, s.at[j], r);
+        for (j, named) in s.at.iter().enumerate() {
+            let here = e.allocated & names_at(s.count, j, *named, r);
             if here {
                 hit = true;
                 break 'search;
             }
-            j += 1;
         }
-        i += 1;
     }
     hit
 }

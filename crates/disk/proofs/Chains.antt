@@ -16,11 +16,6 @@ use Rattle.blockdisk.specs.Crash.{kept_node, nodes_kept}
 use Rattle.blockdisk.specs.Form.{node_queue_form, node_request_ok, table_queue_form, table_request_ok}
 use Rattle.blockdisk.specs.Records.{default_node_record}
 
--- each request in use passes a test
-pub used_all : (p : Request → Bool) (q : Requests) → length q.at ≡ 16 →
-    list_all p (take q.count q.at) ≡ all_below (λ k. not (ltb k q.count) || p (request_at q k)) 16
-used_all p q l = all_front_is_all p zero_request q.count q.at ∙ rw l
-
 pub nodes_kept_all : (q : Requests) (old new : List NodeRecord) → length old ≡ 128 → length new ≡ 128 →
     list_all (λ w. kept_node q w.0 w.1) (zip old new) ≡ nodes_kept q old new
 unfolding nodes_kept

@@ -1,27 +1,37 @@
 -- What a chain over the requests in use says, as the definitions say it: whether one passes, and where the first stands. Assumes nothing.
-use mathlib.Core.Bool.{◌||◌}
+use mathlib.Core.Bool.{Bool, ◌&&◌, ◌||◌, not}
 use mathlib.Core.Path.{◌∙◌, ◌≡◌, sym}
 use Prim.Native.Nat.{ℕ, ◌<◌, ◌≤◌}
 use native.Mathlib.Omega.{arith}
-use lib.Dec.{eqb, leb}
+use lib.Dec.{eqb, leb, ltb}
 use lib.ListN.{length, take}
 use borrow.Author.Tests.{le-leb}
-use Rattle.std.specs.List.{list_any, position}
+use Rattle.std.specs.List.{list_all, list_any, position}
 use Rattle.std.specs.Prelude.{None, Some, unwrap_or}
-use Rattle.base.proofs.Chains.{any_front_is_some, place_none, place_some, position_front_is_first, position_front_or_front}
+use Rattle.base.specs.Scan.{all_below, some_below}
+use Rattle.base.proofs.Chains.{all_front_is_all, any_front_is_some, place_none, place_some, position_front_is_first, position_front_or_front}
 use Rattle.base.proofs.Scan.{first_at_most, first_le}
 use Rattle.base.proofs.Tests.{or_inl}
 use Rattle.queue.specs.Queue.{find_of, has_addr, has_of, place_of, request_at, zero_request}
+use Rattle.queue.specs.declared.Request.{Request}
 use Rattle.queue.specs.declared.Requests.{Requests}
+
+-- any test of the requests in use
+module _ (p : Request → Bool) (q : Requests) (e : length q.at ≡ 16) where
+  pub used_all : list_all p (take q.count q.at) ≡ all_below (λ k. not (ltb k q.count) || p (request_at q k)) 16
+  used_all = rw (← e) (all_front_is_all p zero_request q.count q.at)
+
+  pub used_any : list_any p (take q.count q.at) ≡ some_below (λ k. ltb k q.count && p (request_at q k)) 16
+  used_any = rw (← e) (any_front_is_some p zero_request q.count q.at)
 
 module _ (q : Requests) (id : ℕ) (e : length q.at ≡ 16) where
   pub chain_has : list_any (λ w. eqb w.id id) (take q.count q.at) ≡ has_of q id
   unfolding has_of
-  chain_has = rw (← e) (any_front_is_some (λ w. eqb w.id id) zero_request q.count q.at)
+  chain_has = used_any (λ w. eqb w.id id) q e
 
   pub chain_has_addr : list_any (λ w. eqb w.loc.addr id) (take q.count q.at) ≡ has_addr q id
   unfolding has_addr
-  chain_has_addr = rw (← e) (any_front_is_some (λ w. eqb w.loc.addr id) zero_request q.count q.at)
+  chain_has_addr = used_any (λ w. eqb w.loc.addr id) q e
 
   pub chain_found : {p : ℕ} → position (λ w. eqb w.id id) (take q.count q.at) ≡ Some p → (find_of q id ≡ p) × (p < 16)
   unfolding find_of

@@ -1,16 +1,19 @@
--- A scan with a flag, after the queue's own form. Assumes nothing.
-use mathlib.Core.Path.{refl}
+-- A chain over the requests in use, after the queue's own form. Assumes nothing.
+use mathlib.Core.Path.{◌∙◌, ◌≡◌}
 use borrow.Author.Rules.{rules}
-use Rattle.base.proofs.Scan.{all_end, all_none, all_turn}
-use Rattle.blockcache.specs.Form.{writes_form}
+use lib.ListN.{length}
+use Rattle.std.proofs.lemmas.Iterator.{YieldsList-from_slice, YieldsList-from_take}
+use Rattle.std.proofs.lemmas.Iterator.Search.{all_from_yields_List}
+use Rattle.blockcache.specs.Form.{write_ok, writes_form}
+use Rattle.queue.proofs.Scans.{used_all}
 use Rattle.cache.proofs.form.writes_form.Goals as goal
-
-pub loop-i-init : goal.loop-i-init
-loop-i-init c = (search rules, all_none _)
-
-pub loop-i-preserved : goal.loop-i-preserved
-loop-i-preserved c = (search rules, all_turn _ _ c.loop-i.invariant.1 refl)
 
 pub returns : goal.returns
 unfolding writes_form
-returns c = simp (all_end _ c.loop-i.invariant.1 c.loop-i.invariant.0 c.loop-i-test.false, c.form-form.ensures)
+returns c =
+    let q = c.args.q in
+    let l : length q.at ≡ 16 = search rules in
+    let e =
+        all_from_yields_List write_ok _ _ _ c.all-good.ensures.ran
+        (YieldsList-from_take q.count (YieldsList-from_slice q.at cc) cc) (λ x b q k. search rules) in
+    rw (c.form.ensures, e ∙ used_all _ q l)

@@ -1,15 +1,20 @@
--- A scan with a flag. Assumes nothing.
+-- A chain over the requests in use. Assumes nothing.
+use mathlib.Core.Path.{◌∙◌, ◌≡◌}
 use borrow.Author.Rules.{rules}
-use Rattle.base.proofs.Scan.{some_end, some_none, some_turn}
+use lib.Dec.{eqb}
+use lib.ListN.{length}
+use Rattle.std.proofs.lemmas.Iterator.{YieldsList-from_slice, YieldsList-from_take}
+use Rattle.std.proofs.lemmas.Iterator.Search.{any_from_yields_List}
 use Rattle.blockcache.specs.Scan.{reads}
+use Rattle.queue.proofs.Scans.{used_any}
 use Rattle.cache.proofs.scan.reads_of.Goals as goal
-
-pub loop-i-init : goal.loop-i-init
-loop-i-init c = (search rules, some_none _)
-
-pub loop-i-preserved : goal.loop-i-preserved
-loop-i-preserved c = (search rules, some_turn _ _ c.loop-i.invariant.1 (rw c.wide-x.ensures))
 
 pub returns : goal.returns
 unfolding reads
-returns c = some_end _ c.loop-i.invariant.1 c.loop-i.invariant.0 c.loop-i-test.false
+returns c =
+    let q = c.args.q in
+    let l : length q.at ≡ 16 = search rules in
+    let e =
+        any_from_yields_List (λ w. eqb w.reference c.args.r) _ _ _ c.any.ensures.ran
+        (YieldsList-from_take q.count (YieldsList-from_slice q.at cc) cc) (λ x b q k. search rules) in
+    e ∙ used_any _ q l

@@ -5,7 +5,7 @@ use lib.ListN.{length}
 use Rattle.std.proofs.lemmas.Iterator.{YieldsList-from_slice, YieldsList-from_take}
 use Rattle.std.proofs.lemmas.Iterator.Search.{all_from_yields_List}
 use Rattle.blockdisk.specs.Form.{node_queue_form, node_request_ok}
-use Rattle.disk.proofs.Chains.{used_all}
+use Rattle.queue.proofs.Scans.{used_all}
 use Rattle.disk.proofs.form.node_queue_ok.Goals as goal
 
 pub returns : goal.returns
