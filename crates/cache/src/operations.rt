@@ -143,10 +143,8 @@ impl Cache {
         let n = limit(length);
         let g = settings_of(self);
         let mut w = self.begun(q, length);
-        let mut i: usize = 0;
-        while i < n {
-            w = advanced(g, w, list[i], i);
-            i += 1;
+        for (i, o) in list[..n].iter().enumerate() {
+            w = advanced(g, w, *o, i);
         }
         self.finished(w)
     }
