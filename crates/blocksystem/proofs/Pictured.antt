@@ -42,17 +42,3 @@ pub pictures_next : (l : List Operation) (i : ℕ) (d : Operation) (t : Pictures
 pictures_next l i d t h =
     sym (ap (λ k. operations_pictures (take k l) t) (add-one i) ∙ ap (λ os. operations_pictures os t) (take-suc l i d h)
     ∙ pictures_more (take i l) (get_or l i d) t)
-
--- n, or m where n is more: of m operations
-abbrev pub capped : ℕ → ℕ → ℕ
-capped m n = cond (ltb m n) m n
-
-pub capped_le : (m n : ℕ) → capped m n ≤ m
-capped_le m n = split (ltb m n) (λ t. rw t (omega arith)) (λ t. rw t (ltb-false m n t))
-
--- more than all are all
-pub take_capped : (m n : ℕ) (l : List Operation) → length l ≡ m → take (capped m n) l ≡ take n l
-take_capped m n l e =
-    split (ltb m n)
-    (λ t. rw t (take_all m l (omega (arith, e)) ∙ sym (take_all n l (omega (arith, e, ltb-true m n t)))))
-    (λ t. rw t)

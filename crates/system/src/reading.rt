@@ -1,6 +1,5 @@
 // Reading through a named place, and the count of references lost, added and altered.
 ghost use Rattle.std.specs.Prelude.{◌≡◌};
-ghost use Rattle.base.specs.Scan.{bit};
 ghost use Rattle.blocksystem.specs.Audit.{through_table, is_lost, is_added, is_altered, tally, counted};
 
 use crate::Store;
@@ -12,30 +11,22 @@ use sectortype::{Entry, Slot};
 fn through_table(device: u64, r: Records, x: TableRecord, e: Entry) -> NodeRecord
     ensures { result ≡ through_table device r x e }
 {
-    let loc = e.loc;
-    let there = x.present & e.located;
-    if there {
-        return disk::node_at(device, r, loc);
+    if x.present & e.located {
+        return disk::node_at(device, r, e.loc);
     }
     disk::zero_node_record()
-}
-
-fn one_if(b: bool) -> u64
-    ensures { result ≡ bit b }
-{
-    if b { 1 } else { 0 }
 }
 
 fn lost(x: NodeRecord, s: Slot) -> u64
     ensures { result ≡ tally (is_lost x s) }
 {
-    one_if(s.present & !x.present)
+    u64::from(s.present & !x.present)
 }
 
 fn added(x: NodeRecord, s: Slot) -> u64
     ensures { result ≡ tally (is_added x s) }
 {
-    one_if(x.present & !s.present)
+    u64::from(x.present & !s.present)
 }
 
 fn altered(x: NodeRecord, s: Slot) -> u64
@@ -44,7 +35,7 @@ fn altered(x: NodeRecord, s: Slot) -> u64
     let a = x.node;
     let b = s.node;
     let same = sector::same_node(a, b);
-    one_if(x.present & s.present & !same)
+    u64::from(x.present & s.present & !same)
 }
 
 impl Store {
@@ -52,25 +43,17 @@ impl Store {
     pub fn audit(self, m: Named) -> Counts
         ensures { result ≡ counted self.device self.disk.records m }
     {
-        let device = self.device;
-        let s = self.disk;
-        let r = s.records;
-        let place = m.place;
-        let picture = m.picture;
-        let x = disk::table_at(device, r, place);
-        let t = x.table;
+        let records = self.disk.records;
+        let through = disk::table_at(self.device, records, m.place);
         let mut a: u64 = 0;
         let mut b: u64 = 0;
         let mut c: u64 = 0;
-        let mut i: usize = 0;
-        while i < 64 {
-            let e = t.entries[i];
-            let slot = picture.slots[i];
-            let y = through_table(device, r, x, e);
+        for (i, e) in through.table.entries.iter().enumerate() {
+            let slot = m.picture.slots[i];
+            let y = through_table(self.device, records, through, *e);
             a += lost(y, slot);
             b += added(y, slot);
             c += altered(y, slot);
-            i += 1;
         }
         Counts {
             lost: a,

@@ -33,12 +33,8 @@ fn graph_stored(device: u64, r: Records, t: Table) -> bool
     ensures { result ≡ graph_stored device r t }
 {
     let mut good = true;
-    let mut i: usize = 0;
-    while i < 64 {
-        let e = t.entries[i];
-        let p = ref_agrees(device, r, t, e);
-        good = good & p;
-        i += 1;
+    for e in t.entries.iter() {
+        good = good & ref_agrees(device, r, t, *e);
     }
     good
 }

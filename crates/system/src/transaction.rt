@@ -1,7 +1,6 @@
-// Step 20 on cache and disk: a lent list of operations, and what it does to the pictures. `operations` passes the slice on to the
-// cache; `operations_of` is for programs, which make the list as an array and say how many of it are meant. Nothing here touches an
-// element of a slice.
-ghost use Rattle.std.specs.Prelude.{cond, ◌≡◌, ◌≤◌, ltb, take};
+// Step 20 on cache and disk: a lent list of operations, and what it does to the pictures. `operations` passes the slice on to the cache;
+// `operations_of` is for programs, which make the list as an array and say how many of it are meant.
+ghost use Rattle.std.specs.Prelude.{◌≡◌, take};
 ghost use Rattle.blockcache.specs.Operations.{operation_call, operation_number};
 ghost use Rattle.blocksystem.specs.Joined.{settings_of};
 ghost use Rattle.blocksystem.specs.Names.{pictures_after};
@@ -19,45 +18,41 @@ use disk::Disk;
 fn cache_of(s: Store) -> Cache
     ensures { result ≡ record { settings = settings_of s.device s.disk; state = s.cache } }
 {
-    let device = s.device;
-    let rule = s.disk.rule;
-    let settings = Settings { device, rule };
-    let state = s.cache;
-    Cache { settings, state }
+    Cache {
+        settings: Settings {
+            device: s.device,
+            rule: s.disk.rule,
+        },
+        state: s.cache,
+    }
 }
 
 // What the cache gives, joined with the disk, which is asked with no operation.
 fn join_operations(s: Store, q: Call, o: OperationsOutcome) -> JoinedOperationsOutcome
     ensures { result ≡ joined_with s.device q o s.cache s.disk }
 {
-    let device = s.device;
-    let state = s.disk;
-    let d = Disk { device, state };
-    let node = q.node;
-    let table = q.table;
+    let d = Disk {
+        device: s.device,
+        state: s.disk,
+    };
     let x = d.next(DiskCall {
         op: DiskOp::NoDiskOp,
-        node,
-        table,
+        node: q.node,
+        table: q.table,
     });
-    let refused = x.answer;
-    if refused != 0 {
-        let cache = s.cache;
-        let disk = d.state;
+    if x.answer != 0 {
         return JoinedOperationsOutcome {
-            answer: refused,
+            answer: x.answer,
             place: 0,
-            cache,
-            disk,
+            cache: s.cache,
+            disk: s.disk,
         };
     }
-    let cache = o.cache;
-    let disk = x.disk;
     JoinedOperationsOutcome {
         answer: o.answer,
         place: o.place,
-        cache,
-        disk,
+        cache: o.cache,
+        disk: x.disk,
     }
 }
 
@@ -69,33 +64,13 @@ impl Store {
         let o = c.operations(q, list);
         join_operations(self, q, o)
     }
-}
 
-// The one function that lends: the first n operations of an array.
-fn lend(s: Store, q: Call, list: [Operation; 40], n: usize) -> JoinedOperationsOutcome
-    requires { n ≤ 40 }
-    ensures { result ≡ joined_operations s.device q (take n list) s.cache s.disk }
-{
-    s.operations(q, &list[..n])
-}
-
-// How many operations of an array are meant by n: no more than it has.
-fn meant(n: usize) -> usize
-    ensures { result ≡ cond (ltb 40 n) 40 n }
-{
-    if 40 < n {
-        return 40;
-    }
-    n
-}
-
-impl Store {
-    // The first n operations of an array, or all 40 where n is more. A list has at most 32, so one that is too long can be lent too.
+    // The first n operations of an array, or all 40 where n is more. A list has at most 32, so one that is too long can be lent too. (An array
+    // and a count: a program may name a count that no slice of the array has.)
     pub fn operations_of(self, q: Call, list: [Operation; 40], n: usize) -> JoinedOperationsOutcome
         ensures { result ≡ joined_operations self.device q (take n list) self.cache self.disk }
     {
-        let m = meant(n);
-        lend(self, q, list, m)
+        self.operations(q, &list[..n.min(40)])
     }
 }
 
@@ -108,17 +83,13 @@ fn pictured(t: Pictures, o: Operation) -> Pictures
     set_node(t, r, node)
 }
 
-// Names and pictures after an accepted list, the first n operations of an array: in list order.
-pub fn pictures_after_operations(t: Pictures, list: [Operation; 40], n: usize) -> Pictures
-    ensures { result ≡ operations_pictures (take n list) t }
+// Names and pictures after an accepted list: in list order.
+pub fn pictures_after_operations(t: Pictures, list: &[Operation]) -> Pictures
+    ensures { result ≡ operations_pictures list.now t }
 {
-    let m = meant(n);
     let mut after = t;
-    let mut i: usize = 0;
-    while i < m {
-        let o = list[i];
-        after = pictured(after, o);
-        i += 1;
+    for o in list {
+        after = pictured(after, *o);
     }
     after
 }

@@ -1,7 +1,8 @@
--- By what the callees ensure. Assumes nothing.
+-- The test, as a number. Assumes nothing.
+use borrow.Author.Rules.{rules}
 use Rattle.blocksystem.specs.Audit.{tally}
 use Rattle.system.proofs.reading.altered.Goals as goal
 
 pub returns : goal.returns
 unfolding tally
-returns c = simp (c.one_if.ensures, c.same_node-same.ensures)
+returns c = search rules

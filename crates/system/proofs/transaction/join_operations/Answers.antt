@@ -5,16 +5,16 @@ use borrow.Author.Tests.{eq-eqb, ne_eqb}
 use Rattle.blocksystem.specs.Operations.{idle_disk, joined_with}
 use Rattle.system.proofs.transaction.join_operations.Goals as goal
 
-pub returns-then-refused-ne0 : goal.returns-then-refused-ne0
+pub returns-then-x-ne0 : goal.returns-then-x-ne0
 unfolding joined_with
-returns-then-refused-ne0 c =
+returns-then-x-ne0 c =
     let a = c.args in
     let said = ap (λ o. o.answer) c.next-x.ensures in
-    simp (c.next-x.ensures, ne_eqb (idle_disk a.s.device a.q a.s.disk).answer 0 (λ e. c.if-refused-ne0.true (said ∙ e)))
+    simp (c.next-x.ensures, ne_eqb (idle_disk a.s.device a.q a.s.disk).answer 0 (λ e. c.if-x-ne0.true (said ∙ e)))
 
 pub returns : goal.returns
 unfolding joined_with
 returns c =
     let a = c.args in
     let said = ap (λ o. o.answer) c.next-x.ensures in
-    simp (c.next-x.ensures, eq-eqb (idle_disk a.s.device a.q a.s.disk).answer 0 (sym said ∙ c.if-refused-ne0.false))
+    simp (c.next-x.ensures, eq-eqb (idle_disk a.s.device a.q a.s.disk).answer 0 (sym said ∙ c.if-x-ne0.false))

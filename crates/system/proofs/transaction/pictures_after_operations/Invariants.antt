@@ -1,11 +1,7 @@
-use Prim.Native.Nat.{◌-◌, ◌≤◌}
 use mathlib.Core.Path.{◌≡◌}
-use lib.ListN.{length, take}
+use lib.ListN.{take}
 use Rattle.blocksystem.specs.Operations.{operations_pictures}
 use Rattle.system.proofs.transaction.pictures_after_operations.Given as goal
 
-abbrev pub invariant-loop-i : goal.invariant-loop-i
-invariant-loop-i l = (l.i ≤ l.m) × (l.m ≤ 40) × (length l.list ≡ 40) × (l.after ≡ operations_pictures (take l.i l.list) l.initial.after)
-
-abbrev pub decreases-loop-i : goal.decreases-loop-i
-decreases-loop-i l = l.m - l.i
+abbrev pub invariant-loop-o : goal.invariant-loop-o
+invariant-loop-o l = l.after ≡ operations_pictures (take l.o-index l.list) l.initial.after
