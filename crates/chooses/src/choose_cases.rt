@@ -2,7 +2,6 @@
 // 262144 + k * 65536.
 use blockcache::{Awaited, CacheState};
 use blockdisk::DiskState;
-use fixtures::changed::same_cache;
 use fixtures::ranges::table_of;
 use fixtures::show::choice;
 use fixtures::{
@@ -30,7 +29,7 @@ pub(crate) fn asked_with(
     let after = r.cache;
     let b = c.blocks;
     let back = with_last(after, b.last);
-    let kept = same_cache(c, back);
+    let kept = c == back;
     choice(out, name, r, kept);
     after
 }
