@@ -1,7 +1,7 @@
 -- The `==` that the records derive is the equality that is defined here. It is asked of records as the code has them: each list has its 8
 -- places. Assumes nothing.
 use mathlib.Core.Bool.{Bool, ◌&&◌, beq, false, true}
-use mathlib.Core.Path.{◌∙◌, ◌≡◌, ap, refl, sym}
+use mathlib.Core.Path.{◌≡◌, ap, refl}
 use lib.Dec.{eqb}
 use lib.ListN.{length}
 use lib.Pointwise.{pointwise}
