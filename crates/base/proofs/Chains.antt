@@ -5,8 +5,10 @@ use mathlib.Core.Bool.{Bool, ◌&&◌, ◌||◌, cond, false, not, true}
 use mathlib.Core.List.{List, [], ◌∷◌}
 use Prim.Native.Nat.{ℕ, min, zero, suc, ◌+◌, ◌<◌, ◌≤◌}
 use native.Mathlib.Omega.{arith}
+use mir.Val.{bool_byte}
 use lib.Dec.{leb, ltb}
 use lib.ListN.{length, get_or, length-take, take}
+use lib.Pointwise.{pointwise}
 use lib.Seq.{get_or-take, length-take-le}
 use borrow.Author.Tests.{le-leb, le-ltb, lt-leb, lt-ltb, ltb-false, ltb-true}
 use Rattle.std.specs.List.{list_any, list_all, count_by, enumerate_from, position, position_or_len, zip}
@@ -137,6 +139,16 @@ module _ {A : Type 0} (p : A → Bool) (d : A) where
       sum_by-cons (λ y. cond (p y) 1 0) x xs ∙ ap (λ n. bit (p x) + n) (count_is_count xs)
       ∙ sym (count_front (λ k. p (get_or (x ∷ xs) k d)) (length xs))
 
+  -- of a list of n
+  pub any_is_some_of : (n : ℕ) (xs : List A) → length xs ≡ n → list_any p xs ≡ some_below (λ k. p (get_or xs k d)) n
+  any_is_some_of n xs e = any_is_some xs ∙ ap (some_below (λ k. p (get_or xs k d))) e
+
+  pub all_is_all_of : (n : ℕ) (xs : List A) → length xs ≡ n → list_all p xs ≡ all_below (λ k. p (get_or xs k d)) n
+  all_is_all_of n xs e = all_is_all xs ∙ ap (all_below (λ k. p (get_or xs k d))) e
+
+  pub count_is_count_of : (n : ℕ) (xs : List A) → length xs ≡ n → count_by p xs ≡ count_below (λ k. p (get_or xs k d)) n
+  count_is_count_of n xs e = count_is_count xs ∙ ap (count_below (λ k. p (get_or xs k d))) e
+
   pub first_is_first : (xs : List A) → position_or_len p xs ≡ first_below (λ k. p (get_or xs k d)) (length xs)
   first_is_first xs =
       position_or_len_is p xs (first_below (λ k. p (get_or xs k d)) (length xs)) d (first_le _ (length xs))
@@ -180,6 +192,15 @@ module _ {A : Type 0} (p : A → Bool) (d : A) where
       ∙ sym (count_front (λ k. ltb k (suc n) && p (get_or (x ∷ xs) k d)) (length xs) ∙ rw (lt-ltb 0 (suc n) (omega arith))
       (ap (λ b. bit (p x) + b) (count_same _ _ (length xs) (λ k b. ap (λ t. t && p (get_or xs k d)) (ltb_next k n)))))
 
+  -- of a list of c
+  pub any_front_is_some_of : (c n : ℕ) (xs : List A) → length xs ≡ c →
+      list_any p (take n xs) ≡ some_below (λ k. ltb k n && p (get_or xs k d)) c
+  any_front_is_some_of c n xs e = any_front_is_some n xs ∙ ap (some_below (λ k. ltb k n && p (get_or xs k d))) e
+
+  pub all_front_is_all_of : (c n : ℕ) (xs : List A) → length xs ≡ c →
+      list_all p (take n xs) ≡ all_below (λ k. not (ltb k n) || p (get_or xs k d)) c
+  all_front_is_all_of c n xs e = all_front_is_all n xs ∙ ap (all_below (λ k. not (ltb k n) || p (get_or xs k d))) e
+
   pub position_front_is_first : (n : ℕ) (xs : List A) →
       position p (take n xs) ≡ place_or_none (first_below (λ k. ltb k n && p (get_or xs k d)) (length xs)) (length xs)
   position_front_is_first n xs =
@@ -219,6 +240,15 @@ module _ {A : Type 0} (h : ℕ → A → Bool) (d : A) where
       all_is_all (λ (e : ℕ × A). h e.0 e.1) (0, d) (enumerate_from 0 xs) ∙ rw (length-enumerate_from 0 xs)
       (all_same _ _ (length xs) (λ k b. ap (λ (e : ℕ × A). h e.0 e.1) (placed xs k b)))
 
+  -- of a list of n
+  pub any_placed_is_some_of : (n : ℕ) (xs : List A) → length xs ≡ n →
+      list_any (λ (e : ℕ × A). h e.0 e.1) (enumerate_from 0 xs) ≡ some_below (λ k. h k (get_or xs k d)) n
+  any_placed_is_some_of n xs e = any_placed_is_some xs ∙ ap (some_below (λ k. h k (get_or xs k d))) e
+
+  pub all_placed_is_all_of : (n : ℕ) (xs : List A) → length xs ≡ n →
+      list_all (λ (e : ℕ × A). h e.0 e.1) (enumerate_from 0 xs) ≡ all_below (λ k. h k (get_or xs k d)) n
+  all_placed_is_all_of n xs e = all_placed_is_all xs ∙ ap (all_below (λ k. h k (get_or xs k d))) e
+
   pub count_placed_is_count : (xs : List A) →
       count_by (λ (e : ℕ × A). h e.0 e.1) (enumerate_from 0 xs) ≡ count_below (λ k. h k (get_or xs k d)) (length xs)
   count_placed_is_count xs =
@@ -244,3 +274,23 @@ module _ {A B : Type 0} (p : A × B → Bool) (d : A) (e : B) where
   all_zip_is_all (x ∷ xs) (y ∷ ys) l =
       ap (λ b. p (x, y) && b) (all_zip_is_all xs ys (omega (arith, l)))
       ∙ sym (all_front (λ k. p (get_or (x ∷ xs) k d, get_or (y ∷ ys) k e)) (length xs))
+
+-- TWO LISTS OF ONE LENGTH, COMPARED
+
+pub pointwise_is_all : {A B : Type 0} (h : A → B → Bool) (d : A) (e : B) (xs : List A) (ys : List B) (n : ℕ) → length xs ≡ n → length ys ≡ n →
+    pointwise h xs ys ≡ all_below (λ k. h (get_or xs k d) (get_or ys k e)) n
+unfolding all_below
+pointwise_is_all h d e [] [] zero p q = refl
+pointwise_is_all h d e [] [] (suc n) p q = absurd (omega arith)
+pointwise_is_all h d e [] (y ∷ ys) n p q = absurd (omega arith)
+pointwise_is_all h d e (x ∷ xs) [] n p q = absurd (omega arith)
+pointwise_is_all h d e (x ∷ xs) (y ∷ ys) zero p q = absurd (omega arith)
+pointwise_is_all h d e (x ∷ xs) (y ∷ ys) (suc n) p q =
+    ap (λ b. h x y && b) (pointwise_is_all h d e xs ys n (omega arith) (omega arith))
+    ∙ sym (all_front (λ k. h (get_or (x ∷ xs) k d) (get_or (y ∷ ys) k e)) n)
+
+-- A TEST AS A BYTE
+
+pub byte_is_bit : (b : Bool) → bool_byte b ≡ bit b
+byte_is_bit true = refl
+byte_is_bit false = refl

@@ -1,7 +1,6 @@
-// A node's contents, two numbers: zeroed, compared, and carried over from the one number of an older node. Nothing else in this crate
-// looks inside.
+// A node's contents, two numbers: zeroed, and carried over from the one number of an older node. Nothing else in this crate looks inside.
 ghost use Rattle.std.specs.Prelude.{◌≡◌};
-ghost use Rattle.sectortype.specs.HighLow.{carried_contents, contents_zero, same_contents, zero_contents};
+ghost use Rattle.sectortype.specs.HighLow.{carried_contents, contents_zero, zero_contents};
 ghost use Rattle.sectortype.specs.Older.{carried};
 
 use sectortype::{Contents, Node, OlderNode};
@@ -15,13 +14,7 @@ pub fn zero_contents() -> Contents
 pub(crate) fn contents_zero(c: Contents) -> bool
     ensures { result ≡ contents_zero c }
 {
-    (c.high == 0) & (c.low == 0)
-}
-
-pub(crate) fn same_contents(a: Contents, b: Contents) -> bool
-    ensures { result ≡ same_contents a b }
-{
-    (a.high == b.high) & (a.low == b.low)
+    c == zero_contents()
 }
 
 // The contents of an older node, from its one number: high 0.

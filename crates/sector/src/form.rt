@@ -1,11 +1,12 @@
 // Whether a record is in its one written form and within the limits: a reference is 0 to 63, a list has 0 to 8, unused places are
 // zeros, and a count is the number of places in use.
 ghost use Rattle.std.specs.Prelude.{◌≡◌};
-ghost use Rattle.base.specs.Scan.{bit, count_below};
+ghost use Rattle.base.specs.Scan.{count_below};
 ghost use Rattle.sectortype.specs.Form.{places_zero, succ_ok, succs_form, succs_zero, loc_zero, node_form, node_zero, entry_form};
 ghost use Rattle.sectortype.specs.Form.{table_form, slot_form, nodes_form, allocated_at, present_at};
 
 use crate::contents::contents_zero;
+use crate::update::zero_loc;
 use disklayout::Location;
 use sectortype::{Entry, Node, Nodes, Slot, Succs, Table};
 
@@ -13,8 +14,7 @@ use sectortype::{Entry, Node, Nodes, Slot, Succs, Table};
 fn succ_ok(count: u8, k: usize, r: u8) -> bool
     ensures { result ≡ succ_ok count k r }
 {
-    let n = count as usize;
-    let used = k < n;
+    let used = k < usize::from(count);
     (used & (r <= 63)) | (!used & (r == 0))
 }
 
@@ -22,29 +22,19 @@ fn succ_ok(count: u8, k: usize, r: u8) -> bool
 fn places_zero(s: Succs) -> bool
     ensures { result ≡ places_zero s }
 {
-    let mut all = true;
-    let mut i: usize = 0;
-    while i < 8 {
-        all = all & (s.at[i] == 0);
-        i += 1;
-    }
-    all
+    s.at == [0; 8]
 }
 
 // A list of zeros has only its count to be judged: asked first, since it is asked of hundreds of lists at each call.
 pub fn succs_form(s: Succs) -> bool
     ensures { result ≡ succs_form s }
 {
-    let zeros = places_zero(s);
-    if zeros {
+    if places_zero(s) {
         return s.count <= 8;
     }
     let mut good = true;
-    let mut i: usize = 0;
-    while i < 8 {
-        let p = succ_ok(s.count, i, s.at[i]);
-        good = good & p;
-        i += 1;
+    for (i, r) in s.at.iter().enumerate() {
+        good = good & succ_ok(s.count, i, *r);
     }
     (s.count <= 8) & good
 }
@@ -52,65 +42,40 @@ pub fn succs_form(s: Succs) -> bool
 pub fn succs_zero(s: Succs) -> bool
     ensures { result ≡ succs_zero s }
 {
-    let form = succs_form(s);
-    (s.count == 0) & form
+    (s.count == 0) & succs_form(s)
 }
 
 pub fn loc_zero(l: Location) -> bool
     ensures { result ≡ loc_zero l }
 {
-    (l.addr == 0) & (l.len == 0)
+    l == zero_loc()
 }
 
 pub fn node_form(n: Node) -> bool
     ensures { result ≡ node_form n }
 {
-    let s = n.succs;
-    succs_form(s)
+    succs_form(n.succs)
 }
 
 pub fn node_zero(n: Node) -> bool
     ensures { result ≡ node_zero n }
 {
-    let s = n.succs;
-    let zero = succs_zero(s);
-    let c = n.contents;
-    let blank = contents_zero(c);
-    blank & zero
+    contents_zero(n.contents) & succs_zero(n.succs)
 }
 
 fn entry_form(e: Entry) -> bool
     ensures { result ≡ entry_form e }
 {
-    let s = e.succs;
-    let loc = e.loc;
-    let form = succs_form(s);
-    let blank = s.count == 0;
-    let nowhere = loc_zero(loc);
-    let used = e.allocated;
-    let placed = e.located;
-    form & (placed | nowhere) & (used | (!placed & blank))
-}
-
-fn one_if(b: bool) -> u8
-    ensures { result ≡ bit b }
-{
-    if b { 1 } else { 0 }
+    succs_form(e.succs)
+        & (e.located | loc_zero(e.loc))
+        & (e.allocated | (!e.located & (e.succs.count == 0)))
 }
 
 // How many of a table's references are allocated.
 pub fn count_allocated(entries: [Entry; 64]) -> u8
     ensures { result ≡ count_below (allocated_at entries) 64 }
 {
-    let mut n: u8 = 0;
-    let mut i: usize = 0;
-    while i < 64 {
-        let e = entries[i];
-        let x = one_if(e.allocated);
-        n += x;
-        i += 1;
-    }
-    n
+    entries.iter().filter(|e| e.allocated).count() as u8
 }
 
 pub fn table_form(t: Table) -> bool
@@ -118,14 +83,9 @@ pub fn table_form(t: Table) -> bool
 {
     let mut n: u8 = 0;
     let mut good = true;
-    let mut i: usize = 0;
-    while i < 64 {
-        let e = t.entries[i];
-        let x = one_if(e.allocated);
-        let p = entry_form(e);
-        n += x;
-        good = good & p;
-        i += 1;
+    for e in t.entries.iter() {
+        n += u8::from(e.allocated);
+        good = good & entry_form(*e);
     }
     (t.count == n) & good
 }
@@ -133,25 +93,14 @@ pub fn table_form(t: Table) -> bool
 fn slot_form(s: Slot) -> bool
     ensures { result ≡ slot_form s }
 {
-    let node = s.node;
-    let form = node_form(node);
-    let zero = node_zero(node);
-    form & (s.present | zero)
+    node_form(s.node) & (s.present | node_zero(s.node))
 }
 
 // How many references a map of nodes has.
 pub fn count_present(slots: [Slot; 64]) -> u8
     ensures { result ≡ count_below (present_at slots) 64 }
 {
-    let mut n: u8 = 0;
-    let mut i: usize = 0;
-    while i < 64 {
-        let s = slots[i];
-        let x = one_if(s.present);
-        n += x;
-        i += 1;
-    }
-    n
+    slots.iter().filter(|s| s.present).count() as u8
 }
 
 pub fn nodes_form(m: Nodes) -> bool
@@ -159,14 +108,9 @@ pub fn nodes_form(m: Nodes) -> bool
 {
     let mut n: u8 = 0;
     let mut good = true;
-    let mut i: usize = 0;
-    while i < 64 {
-        let s = m.slots[i];
-        let x = one_if(s.present);
-        let p = slot_form(s);
-        n += x;
-        good = good & p;
-        i += 1;
+    for s in m.slots.iter() {
+        n += u8::from(s.present);
+        good = good & slot_form(*s);
     }
     (m.count == n) & good
 }

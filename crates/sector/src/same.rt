@@ -1,65 +1,34 @@
-// Equality: contents and list equal, order and repeats counted.
+// Equality: contents and list equal, order and repeats counted. It is the `==` that the records derive.
 ghost use Rattle.std.specs.Prelude.{◌≡◌};
-ghost use Rattle.sectortype.specs.Same.{same_bool, same_succs, same_node, same_entry, same_table};
+ghost use Rattle.sectortype.specs.Same.{same_entry, same_node, same_succs, same_table};
 
-use crate::contents::same_contents;
 use sectortype::{Entry, Node, Succs, Table};
 
-fn same_bool(a: bool, b: bool) -> bool
-    ensures { result ≡ same_bool a b }
+pub fn same_succs(s: Succs, t: Succs) -> bool
+    ensures { result ≡ same_succs s t }
 {
-    (a & b) | (!a & !b)
-}
-
-pub fn same_succs(a: Succs, b: Succs) -> bool
-    ensures { result ≡ same_succs a b }
-{
-    let mut good = true;
-    let mut i: usize = 0;
-    while i < 8 {
-        good = good & (a.at[i] == b.at[i]);
-        i += 1;
-    }
-    (a.count == b.count) & good
+    s == t
 }
 
 pub fn same_node(a: Node, b: Node) -> bool
     ensures { result ≡ same_node a b }
 {
-    let s = a.succs;
-    let t = b.succs;
-    let listed = same_succs(s, t);
-    let x = a.contents;
-    let y = b.contents;
-    let held = same_contents(x, y);
-    held & listed
+    a == b
 }
 
-fn same_entry(a: Entry, b: Entry) -> bool
-    ensures { result ≡ same_entry a b }
+// A place of its own, since a table says nothing of the length of each entry's list, and an entry that is handed over does.
+fn same_entry(e: Entry, f: Entry) -> bool
+    ensures { result ≡ same_entry e f }
 {
-    let used = same_bool(a.allocated, b.allocated);
-    let placed = same_bool(a.located, b.located);
-    let k = a.loc;
-    let l = b.loc;
-    let there = layout::same_loc(k, l);
-    let s = a.succs;
-    let t = b.succs;
-    let listed = same_succs(s, t);
-    used & placed & there & listed
+    e == f
 }
 
 pub fn same_table(a: Table, b: Table) -> bool
     ensures { result ≡ same_table a b }
 {
     let mut good = true;
-    let mut i: usize = 0;
-    while i < 64 {
-        let e = a.entries[i];
-        let f = b.entries[i];
-        let p = same_entry(e, f);
-        good = good & p;
-        i += 1;
+    for (i, e) in a.entries.iter().enumerate() {
+        good = good & same_entry(*e, b.entries[i]);
     }
     (a.count == b.count) & good
 }

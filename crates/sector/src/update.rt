@@ -82,44 +82,30 @@ pub fn empty_nodes() -> Nodes
     }
 }
 
-fn set_entry(entries: [Entry; 64], r: usize, e: Entry) -> [Entry; 64]
-    ensures { result ≡ set entries r e }
+// The places with x at r; for an r past them, as they are.
+fn set_at<T: Copy>(mut places: [T; 64], r: usize, x: T) -> [T; 64]
+    ensures { result ≡ set places r x }
 {
-    if 64 <= r {
-        return entries;
+    if r < 64 {
+        places[r] = x;
     }
-    let mut next = entries;
-    next[r] = e;
-    next
+    places
 }
 
 // The table with another entry at r; for an r past the table, with its count taken anew and nothing else.
 pub fn with_entry(t: Table, r: usize, e: Entry) -> Table
     ensures { result ≡ with_entry t r e }
 {
-    let old = t.entries;
-    let entries = set_entry(old, r, e);
+    let entries = set_at(t.entries, r, e);
     let count = count_allocated(entries);
     Table { count, entries }
-}
-
-fn set_slot(slots: [Slot; 64], r: usize, s: Slot) -> [Slot; 64]
-    ensures { result ≡ set slots r s }
-{
-    if 64 <= r {
-        return slots;
-    }
-    let mut next = slots;
-    next[r] = s;
-    next
 }
 
 // The map of nodes with another slot at r; for an r past it, with its count taken anew and nothing else.
 pub fn with_slot(m: Nodes, r: usize, s: Slot) -> Nodes
     ensures { result ≡ with_slot m r s }
 {
-    let old = m.slots;
-    let slots = set_slot(old, r, s);
+    let slots = set_at(m.slots, r, s);
     let count = count_present(slots);
     Nodes { count, slots }
 }

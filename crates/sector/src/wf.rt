@@ -20,43 +20,21 @@ fn loc_ok(device: u64, e: Entry) -> bool
 fn locs_valid(device: u64, t: Table) -> bool
     ensures { result ≡ locs_valid device t }
 {
-    let mut good = true;
-    let mut i: usize = 0;
-    while i < 64 {
-        let e = t.entries[i];
-        let p = loc_ok(device, e);
-        good = good & p;
-        i += 1;
-    }
-    good
+    t.entries.iter().all(|e| loc_ok(device, *e))
 }
 
 // A reference that has a location is allocated.
 fn locs_in_graph(t: Table) -> bool
     ensures { result ≡ locs_in_graph t }
 {
-    let mut good = true;
-    let mut i: usize = 0;
-    while i < 64 {
-        let e = t.entries[i];
-        good = good & (!e.located | e.allocated);
-        i += 1;
-    }
-    good
+    t.entries.iter().all(|e| !e.located | e.allocated)
 }
 
 // A reference that is allocated has a location.
 pub fn locs_complete(t: Table) -> bool
     ensures { result ≡ locs_complete t }
 {
-    let mut good = true;
-    let mut i: usize = 0;
-    while i < 64 {
-        let e = t.entries[i];
-        good = good & (!e.allocated | e.located);
-        i += 1;
-    }
-    good
+    t.entries.iter().all(|e| !e.allocated | e.located)
 }
 
 pub fn wf_indirection_table(device: u64, t: Table) -> bool

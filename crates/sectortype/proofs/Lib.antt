@@ -1,4 +1,5 @@
 -- The laws of the records.
+pub mod Derived
 pub mod Equal
 pub mod Forms
 pub mod Graphs

@@ -27,7 +27,7 @@ pub struct Node {
 }
 
 // A node as it was stored when its contents were one number. `carried` says which node it is now.
-#[derive(Clone, Copy)]
+#[derive(Clone, Copy, PartialEq, Eq)]
 pub struct OlderNode {
     pub contents: u64,
     pub succs: Succs,

@@ -1,27 +1,19 @@
--- The loop counts the places passed. Assumes nothing.
-use native.Mathlib.Omega.{arith}
+-- A chain that counts. Assumes nothing.
+use mathlib.Core.Path.{◌∙◌, ◌≡◌}
 use borrow.Author.Rules.{rules}
-use lib.ListN.{get_or}
-use Rattle.base.proofs.Scan.{at_end, bit_le, count_le, count_none, count_turn}
-use Rattle.base.specs.Scan.{count_below}
-use Rattle.sectortype.specs.Form.{allocated_at, default_entry}
+use lib.ListN.{length}
+use Rattle.std.proofs.lemmas.Iterator.{YieldsList-from_slice}
+use Rattle.std.proofs.lemmas.Iterator.Consumers.{YieldsList-from_filter, count_from_yields_List}
+use Rattle.std.proofs.lemmas.List.Sums.{length-filter}
+use Rattle.base.proofs.Chains.{count_is_count_of}
+use Rattle.base.proofs.Lists.{unmapped}
+use Rattle.sectortype.specs.Form.{default_entry}
 use Rattle.sector.proofs.form.count_allocated.Goals as goal
 
-pub loop-i-init : goal.loop-i-init
-loop-i-init c = (search rules, count_none _)
-
-pub overflow_add-n : goal.overflow_add-n
-overflow_add-n c =
-    omega (
-      arith,
-      count_le (allocated_at c.args.entries) c.loop-i.i,
-      c.loop-i.invariant.1,
-      c.one_if-x.ensures,
-      bit_le (get_or c.args.entries c.loop-i.i default_entry).allocated,
-    )
-
-pub loop-i-preserved : goal.loop-i-preserved
-loop-i-preserved c = (search rules, count_turn _ _ c.loop-i.invariant.1 c.one_if-x.ensures)
-
 pub returns : goal.returns
-returns c = at_end (count_below (allocated_at c.args.entries)) c.loop-i.invariant.1 c.loop-i.invariant.0 c.loop-i-test.false
+returns c =
+    let xs = c.args.entries in
+    let l : length xs ≡ 64 = search (rules, unmapped) in
+    count_from_yields_List _ _ c.count.ensures.ran
+    (YieldsList-from_filter _ (λ x. x.allocated) (YieldsList-from_slice xs cc) (cc) (λ x b q k. search rules))
+    ∙ length-filter (λ x. x.allocated) xs ∙ count_is_count_of (λ x. x.allocated) default_entry 64 xs l

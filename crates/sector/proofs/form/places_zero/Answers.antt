@@ -1,16 +1,17 @@
--- A scan with a flag. Assumes nothing.
-use mathlib.Core.Path.{refl}
+-- The derived test, place by place. Assumes nothing.
+use mathlib.Core.Path.{◌∙◌, ◌≡◌, ap, refl}
 use borrow.Author.Rules.{rules}
-use Rattle.base.proofs.Scan.{all_end, all_none, all_turn}
+use lib.Dec.{eqb}
+use lib.ListN.{length, get_or-replicate, replicate}
+use Rattle.base.proofs.Chains.{pointwise_is_all}
+use Rattle.base.proofs.Scan.{all_same}
 use Rattle.sectortype.specs.Form.{places_zero}
+use Rattle.sectortype.specs.Form.{succ_at}
 use Rattle.sector.proofs.form.places_zero.Goals as goal
-
-pub loop-i-init : goal.loop-i-init
-loop-i-init c = (search rules, all_none _)
-
-pub loop-i-preserved : goal.loop-i-preserved
-loop-i-preserved c = (search rules, all_turn _ _ c.loop-i.invariant.1 refl)
 
 pub returns : goal.returns
 unfolding places_zero
-returns c = all_end _ c.loop-i.invariant.1 c.loop-i.invariant.0 c.loop-i-test.false
+returns c =
+    let l : length c.args.s.at ≡ 8 = search rules in
+    c.eq.ensures ∙ pointwise_is_all eqb 0 0 c.args.s.at (replicate 8 0) 8 l refl
+    ∙ all_same _ _ 8 (λ k b. ap (eqb (succ_at c.args.s k)) (get_or-replicate 8 k 0 0 b))

@@ -1,15 +1,23 @@
--- A scan with a flag. Assumes nothing.
+-- A chain over the entries, each with its place. Assumes nothing.
+use mathlib.Core.Path.{◌∙◌, ◌≡◌}
 use borrow.Author.Rules.{rules}
-use Rattle.base.proofs.Scan.{all_end, all_none, all_turn}
-use Rattle.sectortype.specs.Graph.{apart_from}
+use Prim.Native.Nat.{ℕ}
+use lib.ListN.{length}
+use Rattle.std.proofs.lemmas.Iterator.{YieldsList-from_slice}
+use Rattle.std.proofs.lemmas.Iterator.Consumers.{YieldsList-from_enumerate}
+use Rattle.std.proofs.lemmas.Iterator.Search.{all_from_yields_List}
+use Rattle.base.proofs.Chains.{all_placed_is_all_of}
+use Rattle.base.proofs.Lists.{unmapped}
+use Rattle.sectortype.specs.Form.{default_entry}
+use Rattle.sectortype.specs.Graph.{apart_at, apart_from}
+use Rattle.sectortype.specs.declared.Entry.{Entry}
 use Rattle.sector.proofs.graph.apart_from.Goals as goal
-
-pub loop-i-init : goal.loop-i-init
-loop-i-init c = (search rules, all_none _)
-
-pub loop-i-preserved : goal.loop-i-preserved
-loop-i-preserved c = (search rules, all_turn _ _ c.loop-i.invariant.1 c.apart_at-p.ensures)
 
 pub returns : goal.returns
 unfolding apart_from
-returns c = all_end _ c.loop-i.invariant.1 c.loop-i.invariant.0 c.loop-i-test.false
+returns c =
+    let l : length c.args.t.now.entries ≡ 64 = search (rules, unmapped) in
+    let xs = c.args.t.now.entries in
+    all_from_yields_List (λ (p : ℕ × Entry). apart_at c.args.r p.0 c.args.e p.1) _ _ _ c.all.ensures.ran
+    (YieldsList-from_enumerate (YieldsList-from_slice xs cc) cc) (λ x b q k. search rules)
+    ∙ all_placed_is_all_of (λ q f. apart_at c.args.r q c.args.e f) default_entry 64 xs l

@@ -1,15 +1,19 @@
--- A scan with a flag. Assumes nothing.
+-- A chain over the places in use. Assumes nothing.
+use mathlib.Core.Path.{◌∙◌, ◌≡◌}
 use borrow.Author.Rules.{rules}
-use Rattle.base.proofs.Scan.{some_end, some_none, some_turn}
+use lib.Dec.{eqb}
+use lib.ListN.{length}
+use Rattle.std.proofs.lemmas.Iterator.{YieldsList-from_slice, YieldsList-from_take}
+use Rattle.std.proofs.lemmas.Iterator.Search.{any_from_yields_List}
+use Rattle.base.proofs.Chains.{any_front_is_some_of}
 use Rattle.sectortype.specs.Graph.{has_succ}
 use Rattle.sector.proofs.graph.has_succ.Goals as goal
 
-pub loop-i-init : goal.loop-i-init
-loop-i-init c = (search rules, c.index-n.ensures, some_none _)
-
-pub loop-i-preserved : goal.loop-i-preserved
-loop-i-preserved c = (search rules, c.loop-i.invariant.1, some_turn _ _ c.loop-i.invariant.2 (rw c.loop-i.invariant.1))
-
 pub returns : goal.returns
 unfolding has_succ
-returns c = some_end _ c.loop-i.invariant.2 c.loop-i.invariant.0 c.loop-i-test.false
+returns c =
+    let s = c.args.s in
+    let l : length s.at ≡ 8 = search rules in
+    any_from_yields_List (λ q. eqb q c.args.r) _ _ _ c.any.ensures.ran
+    (YieldsList-from_take s.count (YieldsList-from_slice s.at cc) cc) (λ x b q k. search rules)
+    ∙ any_front_is_some_of (λ q. eqb q c.args.r) 0 8 s.count s.at l

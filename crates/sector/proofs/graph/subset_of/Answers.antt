@@ -1,16 +1,19 @@
--- A scan with a flag. Assumes nothing.
+-- A chain over the places in use. Assumes nothing.
+use mathlib.Core.Path.{◌∙◌, ◌≡◌}
 use borrow.Author.Rules.{rules}
-use Rattle.base.proofs.Scan.{all_end, all_none, all_turn}
+use lib.ListN.{length}
+use Rattle.std.proofs.lemmas.Iterator.{YieldsList-from_slice, YieldsList-from_take}
+use Rattle.std.proofs.lemmas.Iterator.Search.{all_from_yields_List}
+use Rattle.base.proofs.Chains.{all_front_is_all_of}
+use Rattle.sectortype.specs.Graph.{has_succ}
 use Rattle.sectortype.specs.Graph.{subset}
 use Rattle.sector.proofs.graph.subset_of.Goals as goal
 
-pub loop-i-init : goal.loop-i-init
-loop-i-init c = (search rules, c.index-n.ensures, all_none _)
-
-pub loop-i-preserved : goal.loop-i-preserved
-loop-i-preserved c =
-    (search rules, c.loop-i.invariant.1, all_turn _ _ c.loop-i.invariant.2 (rw (c.loop-i.invariant.1, c.has_succ-there.ensures)))
-
 pub returns : goal.returns
 unfolding subset
-returns c = all_end _ c.loop-i.invariant.2 c.loop-i.invariant.0 c.loop-i-test.false
+returns c =
+    let s = c.args.a in
+    let l : length s.at ≡ 8 = search rules in
+    all_from_yields_List (has_succ c.args.b) _ _ _ c.all.ensures.ran
+    (YieldsList-from_take s.count (YieldsList-from_slice s.at cc) cc) (λ x b q k. search rules)
+    ∙ all_front_is_all_of (has_succ c.args.b) 0 8 s.count s.at l

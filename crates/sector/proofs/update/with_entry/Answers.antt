@@ -4,4 +4,4 @@ use Rattle.sector.proofs.update.with_entry.Goals as goal
 
 pub returns : goal.returns
 unfolding with_entry
-returns c = simp (c.count_allocated-count.ensures, c.set_entry-entries.ensures)
+returns c = simp (c.count_allocated-count.ensures, c.set_at-entries.ensures)

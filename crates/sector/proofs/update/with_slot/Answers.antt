@@ -4,4 +4,4 @@ use Rattle.sector.proofs.update.with_slot.Goals as goal
 
 pub returns : goal.returns
 unfolding with_slot
-returns c = simp (c.count_present-count.ensures, c.set_slot-slots.ensures)
+returns c = simp (c.count_present-count.ensures, c.set_at-slots.ensures)

@@ -1,15 +1,19 @@
--- A scan with a flag. Assumes nothing.
+-- A chain over the entries. Assumes nothing.
+use mathlib.Core.Path.{◌∙◌, ◌≡◌}
 use borrow.Author.Rules.{rules}
-use Rattle.base.proofs.Scan.{all_end, all_none, all_turn}
+use lib.ListN.{length}
+use Rattle.std.proofs.lemmas.Iterator.{YieldsList-from_slice}
+use Rattle.std.proofs.lemmas.Iterator.Search.{all_from_yields_List}
+use Rattle.base.proofs.Chains.{all_is_all_of}
+use Rattle.base.proofs.Lists.{unmapped}
+use Rattle.sectortype.specs.Form.{default_entry}
+use Rattle.sectortype.specs.Graph.{loc_ok}
 use Rattle.sectortype.specs.Graph.{locs_valid}
 use Rattle.sector.proofs.wf.locs_valid.Goals as goal
 
-pub loop-i-init : goal.loop-i-init
-loop-i-init c = (search rules, all_none _)
-
-pub loop-i-preserved : goal.loop-i-preserved
-loop-i-preserved c = (search rules, all_turn _ _ c.loop-i.invariant.1 c.loc_ok-p.ensures)
-
 pub returns : goal.returns
 unfolding locs_valid
-returns c = all_end _ c.loop-i.invariant.1 c.loop-i.invariant.0 c.loop-i-test.false
+returns c =
+    let l : length c.args.t.entries ≡ 64 = search (rules, unmapped) in
+    all_from_yields_List (loc_ok c.args.device) _ _ _ c.all.ensures.ran (YieldsList-from_slice c.args.t.entries cc) (λ x b q k. search rules)
+    ∙ all_is_all_of (loc_ok c.args.device) default_entry 64 c.args.t.entries l

@@ -1,4 +1,0 @@
-use Rattle.sector.proofs.graph.same_set.Goals as goal
-
-pub returns : goal.returns
-returns c = cc
