@@ -1,6 +1,6 @@
 -- A running address over the 128 blocks: what it is at each block, that it fits 64 bits, and what a walk that keeps it finds. Assumes nothing.
 use mathlib.Core.Path.{◌≡◌, refl, sym, ◌∙◌}
-use mathlib.Core.Bool.{true, false, ◌&&◌, and-false}
+use mathlib.Core.Bool.{Bool, true, ◌&&◌, and-false}
 use mathlib.Core.Option.{none}
 use Prim.Native.Nat.{ℕ, zero, suc, ◌+◌, ◌^◌, ◌<◌, ◌≤◌}
 use native.Mathlib.Nat.{add-mul, mul-le-mul_right}
@@ -11,12 +11,10 @@ use borrow.Author.Tests.{eqb-true, eqb-false, ltb-true, ltb-false, lt-ltb}
 use Rattle.base.specs.Maps.{is_some}
 use Rattle.base.proofs.Tests.{split, some_iff, none_iff}
 use Rattle.disklayout.specs.declared.Device.{Device}
-use Rattle.disklayout.specs.declared.Flag.{Flag}
+use Rattle.std.specs.Prelude.{Some, None}
 use Rattle.disklayout.specs.declared.Location.{Location}
-use Rattle.disklayout.specs.declared.Number.{Number}
-use Rattle.disklayout.specs.declared.NumberOption.{NumberOption}
 use Rattle.disklayout.specs.Blocks.{first_node_addr, node_block_addr, node_block_of, node_place_in, node_place_length, running_addr}
-use Rattle.disklayout.specs.Calls.{flag, number, number_option_when, running_on}
+use Rattle.disklayout.specs.Calls.{answered, number, running_on, told, yes}
 use Rattle.disklayout.specs.Device.{Good, device_of, made}
 use Rattle.disklayout.specs.Layout.{node_block_size, valid_node_addr, valid_node_location}
 use Rattle.disklayout.proofs.Devices.{device_good}
@@ -68,11 +66,10 @@ module _ (w : Device) (g : Good w) where
 
   -- the code's arms: at the block found, and where no block has the address
   pub walk_found : (a k : ℕ) → k < 128 → a ≡ running_addr w k →
-      ◌≡◌ {A = NumberOption} (record { answer = 0; exists = true; value = k }) (number_option_when true (node_block_of w a))
+      Some k ≡ told (node_block_of w a)
   walk_found a k h e = rw ((node_block_iff w g a k).1 (h, e ∙ running_addr_lem w k))
 
-  pub walk_none : (a : ℕ) → Missed w a 128 →
-      ◌≡◌ {A = NumberOption} (record { answer = 0; exists = false; value = 0 }) (number_option_when true (node_block_of w a))
+  pub walk_none : (a : ℕ) → Missed w a 128 → None ≡ told (node_block_of w a)
   walk_none a m = rw no_block
     where
       no_block : node_block_of w a ≡ none
@@ -96,22 +93,22 @@ module _ (w : Device) (g : Good w) where
 -- A WALK ON A DEVICE: it begins at the first node address that the device's call gives, and grows by the block size; both are 0 where the
 -- device is not made, and so is each sum
 module _ (d : ℕ) where
-  pub walk_first : {first : Number} → first ≡ number d (first_node_addr (device_of d)) → first.value ≡ running_on d 0
+  pub walk_first : {first : ℕ} → first ≡ number (answered d (first_node_addr (device_of d))) → first ≡ running_on d 0
   walk_first e = rw (e, running_first (device_of d))
 
-  pub walk_next : (k : ℕ) {a : ℕ} {size : Number} → a ≡ running_on d k → size ≡ number d (node_block_size (device_of d)) →
-      a + size.value ≡ running_on d (k + 1)
+  pub walk_next : (k : ℕ) {a size : ℕ} → a ≡ running_on d k → size ≡ number (answered d (node_block_size (device_of d))) →
+      a + size ≡ running_on d (k + 1)
   walk_next k e f = rw (e, f) (split (made d) (λ t. rw t (running_next (device_of d) k)) (λ t. rw t))
 
-  pub walk_fits : (k : ℕ) {a : ℕ} {size : Number} → k < 128 → a ≡ running_on d k → size ≡ number d (node_block_size (device_of d)) →
-      a + size.value < 2 ^ 64
+  pub walk_fits : (k : ℕ) {a size : ℕ} → k < 128 → a ≡ running_on d k → size ≡ number (answered d (node_block_size (device_of d))) →
+      a + size < 2 ^ 64
   walk_fits k h e f =
       rw (walk_next k e f) (split (made d) (λ t. rw t (running_fits (device_of d) (device_good d) (k + 1) (omega arith)))
       (λ t. rw t (omega arith)))
 
   -- and judges the places of each block by their address and length
-  pub place_on : (k : ℕ) (l : Location) {a : ℕ} {may : Flag} → k < 128 → a ≡ running_on d k →
-      may ≡ flag d (node_place_length (device_of d) l.len) →
-      (eqb l.addr a && may.yes) ≡ (flag d (node_place_in (device_of d) k l)).yes
+  pub place_on : (k : ℕ) (l : Location) {a : ℕ} {may : Bool} → k < 128 → a ≡ running_on d k →
+      may ≡ yes (answered d (node_place_length (device_of d) l.len)) →
+      (eqb l.addr a && may) ≡ yes (answered d (node_place_in (device_of d) k l))
   place_on k l h e f =
       rw (e, f) (split (made d) (λ t. rw t (place_at (device_of d) (device_good d) k l h)) (λ t. rw (t, and-false (eqb l.addr 0))))
