@@ -4,7 +4,7 @@ ghost use Rattle.disklayout.specs.Device.{Good, device_of, made};
 
 use disklayout::{Device, Refused};
 
-// Document 01's table. A const array of structs is accepted, so the rows stand as 01 has them.
+// Document 01's table, row by row as it stands there.
 const DEVICES: [Device; 3] = [
     Device {
         journal: 16,
