@@ -1,5 +1,6 @@
 -- The laws of the definitions in specs/.
 pub mod Bits
+pub mod Chains
 pub mod Flagged
 pub mod Lists
 pub mod Lookup
@@ -8,4 +9,5 @@ pub mod PlainCall
 pub mod QueueForm
 pub mod Refusals
 pub mod Scan
+pub mod Shifted
 pub mod Tests

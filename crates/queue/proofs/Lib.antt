@@ -2,3 +2,4 @@
 pub mod Decided
 pub mod Laws
 pub mod Mapped
+pub mod Scans

@@ -1,22 +1,21 @@
--- The element at the place that was found. Assumes nothing.
-use Prim.Native.Nat.{◌≤◌}
-use mathlib.Core.Path.{◌≡◌}
+-- The request that was found is the first with the id. Assumes nothing.
+use mathlib.Core.Path.{◌∙◌, ◌≡◌, sym}
 use native.Mathlib.Omega.{arith}
 use borrow.Author.Rules.{rules}
 use lib.ListN.{get_or-eq_default, length}
-use Rattle.base.proofs.Lists.{unmapped}
-use Rattle.queue.specs.Queue.{entry_of, find_of, zero_request}
+use Rattle.queue.proofs.Scans.{chain_found, chain_missing}
+use Rattle.queue.specs.Queue.{entry_of, zero_request}
 use Rattle.queue.proofs.entry.Goals as goal
 
-pub returns-then-p-lt16 : goal.returns-then-p-lt16
+pub returns-in-Some : goal.returns-in-Some
 unfolding entry_of
-returns-then-p-lt16 c = simp c.find-p.ensures
+returns-in-Some c =
+    let l : length c.args.q.at ≡ 16 = search rules in
+    rw (chain_found c.args.q c.args.id l (sym c.find.ensures ∙ c.in-Some.is)).0
 
-pub returns : goal.returns
-unfolding entry_of find_of
-returns c =
-    let q = c.args.q in
-    let l : length q.at ≡ 16 = search (rules, unmapped) in
-    let b : 16 ≤ find_of q c.args.id = rw c.find-p.ensures at c.if-p-lt16.false in
-    let d : length q.at ≤ find_of q c.args.id = omega arith in
-    rw (get_or-eq_default q.at zero_request d) c.zero_request.ensures
+pub returns-in-None : goal.returns-in-None
+unfolding entry_of
+returns-in-None c =
+    let l : length c.args.q.at ≡ 16 = search rules in
+    rw (c.zero_request.ensures, chain_missing c.args.q c.args.id l (sym c.find.ensures ∙ c.in-None.is))
+    (sym (get_or-eq_default c.args.q.at zero_request (omega arith)))

@@ -1,16 +1,17 @@
--- A scan with a flag. Assumes nothing.
-use mathlib.Core.Path.{refl}
+-- A chain over the requests in use. Assumes nothing.
+use mathlib.Core.Path.{◌∙◌, ◌≡◌}
 use borrow.Author.Rules.{rules}
-use Rattle.base.proofs.Scan.{some_end, some_none, some_turn}
-use Rattle.queue.specs.Queue.{has_of}
+use lib.Dec.{eqb}
+use lib.ListN.{length}
+use Rattle.std.proofs.lemmas.Iterator.{YieldsList-from_slice, YieldsList-from_take}
+use Rattle.std.proofs.lemmas.Iterator.Search.{any_from_yields_List}
+use Rattle.queue.proofs.Scans.{chain_has}
 use Rattle.queue.proofs.has.Goals as goal
 
-pub loop-i-init : goal.loop-i-init
-loop-i-init c = (search rules, some_none _)
-
-pub loop-i-preserved : goal.loop-i-preserved
-loop-i-preserved c = (search rules, some_turn _ _ c.loop-i.invariant.1 refl)
-
 pub returns : goal.returns
-unfolding has_of
-returns c = some_end _ c.loop-i.invariant.1 c.loop-i.invariant.0 c.loop-i-test.false
+returns c =
+    let q = c.args.q in
+    let l : length q.at ≡ 16 = search rules in
+    any_from_yields_List (λ w. eqb w.id c.args.id) _ _ _ c.any.ensures.ran
+    (YieldsList-from_take q.count (YieldsList-from_slice q.at cc) cc) (λ x b q k. search rules)
+    ∙ chain_has q c.args.id l

@@ -1,17 +1,17 @@
 -- By what the callees ensure. Assumes nothing.
+use native.Mathlib.Omega.{arith}
 use borrow.Author.Tests.{le-leb, lt-leb}
-use Rattle.base.proofs.Scan.{first_le}
+use Rattle.queue.proofs.Scans.{place_used}
 use Rattle.queue.specs.Queue.{insert_of, place_of}
 use Rattle.queue.proofs.insert.Goals as goal
 
-pub returns-then-n-ge16 : goal.returns-then-n-ge16
+pub returns-then-q-ge16 : goal.returns-then-q-ge16
 unfolding insert_of
-returns-then-n-ge16 c = simp (le-leb _ _ c.if-n-ge16.true)
+returns-then-q-ge16 c = simp (le-leb _ _ c.if-q-ge16.true)
 
-pub open_all-at-requires : goal.open_all-at-requires
-unfolding place_of
-open_all-at-requires c = rw c.place-p.ensures (first_le _ 16)
+pub opened-requires : goal.opened-requires
+opened-requires c = omega (arith, place_used c.args.q c.args.w.id)
 
 pub returns : goal.returns
 unfolding insert_of place_of
-returns c = simp (lt-leb _ _ c.if-n-ge16.false, c.open_all-at.ensures, c.place-p.ensures)
+returns c = simp (lt-leb _ _ c.if-q-ge16.false, c.opened.ensures, c.place-p.ensures)

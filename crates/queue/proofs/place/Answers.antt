@@ -1,20 +1,18 @@
--- A search, left at the first place that is free or has a larger id. Assumes nothing.
-use mathlib.Core.Path.{sym}
+-- The first of the requests in use with no smaller id, or none. Assumes nothing.
+use mathlib.Core.Path.{◌∙◌, ◌≡◌, ap}
 use borrow.Author.Rules.{rules}
-use Rattle.base.proofs.Scan.{first_end, first_hit, some_none, some_turn}
-use Rattle.queue.specs.Queue.{place_of}
+use lib.Dec.{leb}
+use lib.ListN.{length}
+use Rattle.std.proofs.lemmas.Iterator.{YieldsList-from_slice, YieldsList-from_take}
+use Rattle.std.proofs.lemmas.Iterator.Search.{position_from_yields_List}
+use Rattle.std.specs.Prelude.{unwrap_or}
+use Rattle.queue.proofs.Scans.{chain_place}
 use Rattle.queue.proofs.place.Goals as goal
 
-pub loop-i-init : goal.loop-i-init
-loop-i-init c = (search rules, some_none _)
-
-pub returns-then-here : goal.returns-then-here
-unfolding place_of
-returns-then-here c = first_hit _ 16 c.loop-i.i c.loop-i.invariant.1 c.if-here.true c.loop-i-test.true
-
-pub loop-i-preserved : goal.loop-i-preserved
-loop-i-preserved c = (search rules, some_turn _ _ c.loop-i.invariant.1 (sym c.if-here.false))
-
 pub returns : goal.returns
-unfolding place_of
-returns c = first_end _ c.loop-i.invariant.1 c.loop-i.invariant.0 c.loop-i-test.false
+returns c =
+    let q = c.args.q in
+    let l : length q.at ≡ 16 = search rules in
+    let f = position_from_yields_List (λ w. leb c.args.id w.id) _ _ _ c.position.ensures.ran
+    (YieldsList-from_take q.count (YieldsList-from_slice q.at cc) cc) (λ x b q k. search rules) in
+    rw (c.unwrap_or.ensures, c.from-n.ensures) (ap (λ o. unwrap_or o q.count) f ∙ chain_place q c.args.id l c.requires)

@@ -1,22 +1,21 @@
--- By what the callees ensure; a place that was found is in use, so the count is not 0. Assumes nothing.
-use Prim.Native.Nat.{◌<◌}
-use native.Mathlib.Omega.{arith}
-use borrow.Author.Tests.{le-leb, lt-leb}
-use Rattle.queue.proofs.Laws.{found_used}
+-- By what the callees ensure; a place that was found is of the 16. Assumes nothing.
+use mathlib.Core.Path.{◌∙◌, ◌≡◌, sym}
+use borrow.Author.Rules.{rules}
+use borrow.Author.Tests.{lt-leb}
+use lib.ListN.{length}
+use Rattle.queue.proofs.Scans.{chain_found, chain_missing}
 use Rattle.queue.specs.Queue.{find_of, remove_of}
 use Rattle.queue.proofs.remove.Goals as goal
 
-pub returns-then-p-ge16 : goal.returns-then-p-ge16
+pub returns-in_default : goal.returns-in_default
 unfolding remove_of
-returns-then-p-ge16 c = simp (le-leb _ _ (rw c.find-p.ensures at c.if-p-ge16.true))
-
-pub overflow_sub-result : goal.overflow_sub-result
-overflow_sub-result c =
-    let a = c.args in
-    let f : find_of a.q a.id < 16 = rw c.find-p.ensures at c.if-p-ge16.false in
-    let u = found_used a.q a.id f in
-    omega arith
+returns-in_default c =
+    let l : length c.args.q.at ≡ 16 = search rules in
+    simp (chain_missing c.args.q c.args.id l (sym c.find.ensures ∙ c.in_default.is))
 
 pub returns : goal.returns
 unfolding remove_of find_of
-returns c = simp (lt-leb _ _ (rw c.find-p.ensures at c.if-p-ge16.false), c.close_all-at.ensures, c.find-p.ensures)
+returns c =
+    let l : length c.args.q.at ≡ 16 = search rules in
+    let f = chain_found c.args.q c.args.id l (sym c.find.ensures ∙ c.in-Some.is) in
+    simp (lt-leb _ _ f.1, c.closed.ensures, f.0)

@@ -1,0 +1,45 @@
+-- What a chain over the requests in use says, as the definitions say it: whether one passes, and where the first stands. Assumes nothing.
+use mathlib.Core.Bool.{◌||◌}
+use mathlib.Core.Path.{◌∙◌, ◌≡◌, sym}
+use Prim.Native.Nat.{ℕ, ◌<◌, ◌≤◌}
+use native.Mathlib.Omega.{arith}
+use lib.Dec.{eqb, leb}
+use lib.ListN.{length, take}
+use borrow.Author.Tests.{le-leb}
+use Rattle.std.specs.List.{list_any, position}
+use Rattle.std.specs.Prelude.{None, Some, unwrap_or}
+use Rattle.base.proofs.Chains.{any_front_is_some, place_none, place_some, position_front_is_first, position_front_or_front}
+use Rattle.base.proofs.Scan.{first_at_most, first_le}
+use Rattle.base.proofs.Tests.{or_inl}
+use Rattle.queue.specs.Queue.{find_of, has_addr, has_of, place_of, request_at, zero_request}
+use Rattle.queue.specs.declared.Requests.{Requests}
+
+module _ (q : Requests) (id : ℕ) (e : length q.at ≡ 16) where
+  pub chain_has : list_any (λ w. eqb w.id id) (take q.count q.at) ≡ has_of q id
+  unfolding has_of
+  chain_has = rw (← e) (any_front_is_some (λ w. eqb w.id id) zero_request q.count q.at)
+
+  pub chain_has_addr : list_any (λ w. eqb w.loc.addr id) (take q.count q.at) ≡ has_addr q id
+  unfolding has_addr
+  chain_has_addr = rw (← e) (any_front_is_some (λ w. eqb w.loc.addr id) zero_request q.count q.at)
+
+  pub chain_found : {p : ℕ} → position (λ w. eqb w.id id) (take q.count q.at) ≡ Some p → (find_of q id ≡ p) × (p < 16)
+  unfolding find_of
+  chain_found f =
+      rw (← e) (place_some _ (length q.at) (sym (position_front_is_first (λ w. eqb w.id id) zero_request q.count q.at) ∙ f))
+
+  pub chain_missing : position (λ w. eqb w.id id) (take q.count q.at) ≡ None → find_of q id ≡ 16
+  unfolding find_of
+  chain_missing f =
+      rw (← e) (place_none _ (length q.at) (first_le _ (length q.at))
+      (sym (position_front_is_first (λ w. eqb w.id id) zero_request q.count q.at) ∙ f))
+
+  pub chain_place : q.count ≤ 16 → unwrap_or (position (λ w. leb id w.id) (take q.count q.at)) q.count ≡ place_of q id
+  unfolding place_of
+  chain_place b = rw (← e) (position_front_or_front (λ w. leb id w.id) zero_request q.count q.at (omega arith))
+
+-- a request belongs at a place in use, or at the first that is free
+pub place_used : (q : Requests) (id : ℕ) → place_of q id ≤ q.count
+unfolding place_of
+place_used q id =
+    first_at_most (λ k. leb q.count k || leb id (request_at q k).id) 16 q.count (or_inl _ (le-leb q.count q.count (omega arith)))
