@@ -40,13 +40,10 @@ fn same_entry(a: Entry, b: Entry) -> bool
 {
     let used = same_bool(a.allocated, b.allocated);
     let placed = same_bool(a.located, b.located);
-    let k = a.loc;
-    let l = b.loc;
-    let there = layout::same_loc(k, l);
     let s = a.succs;
     let t = b.succs;
     let listed = same_succs(s, t);
-    used & placed & there & listed
+    used & placed & (a.loc == b.loc) & listed
 }
 
 pub fn same_table(a: Table, b: Table) -> bool
