@@ -17,7 +17,7 @@ use Rattle.disklayout.specs.declared.Kind.TheVariants.{Superblock1, Superblock2,
 use Rattle.disklayout.specs.declared.Location.{Location}
 use Rattle.disklayout.specs.declared.Refused.{Refused}
 use Rattle.disklayout.specs.Blocks.{first_node_addr}
-use Rattle.disklayout.specs.Calls.{answered, yes}
+use Rattle.disklayout.specs.Calls.{answered, holds_on}
 use Rattle.disklayout.specs.Device.{Good, made, device_of}
 use Rattle.disklayout.specs.Kinds.{kind_of, kind_at_node, kind_number, validities, none_holds, kth_holds}
 use Rattle.disklayout.specs.Layout.{journal_start_addr, superblock1_location, superblock2_location}
@@ -26,7 +26,6 @@ use Rattle.disklayout.specs.Layout.{valid_superblock2_location, valid_journal_lo
 use Rattle.disklayout.specs.Layout.{valid_node_location}
 use Rattle.disklayout.proofs.Devices.{device_good}
 use Rattle.disklayout.proofs.Facts.{refuted, node_addr_iff, superblock1_iff, superblock2_iff}
-use Rattle.disklayout.proofs.Results.{flag_yes}
 use Rattle.disklayout.proofs.Zones.{valid_as, zones_apart, zones_exclude, below_journal, past_first, past_superblocks, before_nodes}
 
 -- of a list in which none holds, no one does
@@ -204,10 +203,10 @@ kind_told d l k e f =
 -- so whoever asked one of the five questions asks for the kind
 pub table_told : (d : ℕ) (l : Location) {p : Result (Option Kind) Refused} {b : Bool} → p ≡ answered d (kind_of (device_of d) l) →
     b ≡ eqb (kind_number (result_unwrap_or p None)) 4 →
-    b ≡ yes (answered d (valid_indirection_table_location (device_of d) l))
-table_told d l e f = kind_told d l 3 e f ∙ sym (flag_yes d (valid_indirection_table_location (device_of d) l))
+    b ≡ holds_on d (valid_indirection_table_location (device_of d) l)
+table_told d l e f = kind_told d l 3 e f
 
 pub node_told : (d : ℕ) (l : Location) {p : Result (Option Kind) Refused} {b : Bool} → p ≡ answered d (kind_of (device_of d) l) →
     b ≡ eqb (kind_number (result_unwrap_or p None)) 5 →
-    b ≡ yes (answered d (valid_node_location (device_of d) l))
-node_told d l e f = kind_told d l 4 e f ∙ sym (flag_yes d (valid_node_location (device_of d) l))
+    b ≡ holds_on d (valid_node_location (device_of d) l)
+node_told d l e f = kind_told d l 4 e f

@@ -1,13 +1,14 @@
 -- What a result says where the device is made, and where it is not. Assumes nothing.
 use mathlib.Core.Path.{◌≡◌}
-use mathlib.Core.Bool.{Bool, true, false, ◌&&◌}
+use mathlib.Core.Bool.{Bool, true, false}
 use mathlib.Core.Logic.{◌↔◌}
 use Prim.Native.Nat.{ℕ, ◌≤◌}
 use borrow.Author.Tests.{leb-true, le-leb}
 use Rattle.std.specs.Prelude.{Ok, Err}
+use Rattle.std.specs.Result.{result_unwrap_or}
 use Rattle.base.proofs.Tests.{and_iff, split}
 use Rattle.disklayout.specs.declared.Refused.TheVariants.{Undefined}
-use Rattle.disklayout.specs.Calls.{answered, answered_if, yes}
+use Rattle.disklayout.specs.Calls.{answered, answered_if, holds_on, number_on}
 use Rattle.disklayout.specs.Device.{made}
 
 pub made_iff : (d : ℕ) → (made d ≡ true) ↔ (d ≤ 2)
@@ -15,11 +16,14 @@ made_iff d = (leb-true d 2, le-leb d 2)
 
 module _ (d : ℕ) where
   -- a question passes where the device is made and the answer is yes
-  pub flag_yes : (b : Bool) → yes (answered d b) ≡ (made d && b)
-  flag_yes b = split (made d) (λ t. rw t) (λ f. rw f)
+  pub answered_yes : (b : Bool) → result_unwrap_or (answered d b) false ≡ holds_on d b
+  answered_yes b = split (made d) (λ t. rw t) (λ f. rw f)
 
-  pub flag_yes_iff : (b : Bool) → (yes (answered d b) ≡ true) ↔ ((made d ≡ true) × (b ≡ true))
-  flag_yes_iff b = rw (flag_yes b) (and_iff (made d) b)
+  pub flag_yes_iff : (b : Bool) → (holds_on d b ≡ true) ↔ ((made d ≡ true) × (b ≡ true))
+  flag_yes_iff b = and_iff (made d) b
+
+  pub answered_number : (v : ℕ) → result_unwrap_or (answered d v) 0 ≡ number_on d v
+  answered_number v = split (made d) (λ t. rw t) (λ f. rw f)
 
   module _ {A : Type 0} (v : A) where
     pub answered_made : made d ≡ true → answered d v ≡ Ok v

@@ -1,6 +1,5 @@
 -- What a layout call returns: its result, or the refusal where the device is not made or the test of what upstream requires, `pre`, fails.
-use Rattle.std.specs.Prelude.{Bool, ◌&&◌, cond, false, ℕ, Option, Some, None, Result, Ok, Err}
-use Rattle.std.specs.Result.{result_unwrap_or}
+use Rattle.std.specs.Prelude.{Bool, ◌&&◌, cond, ℕ, Option, Some, None, Result, Ok, Err}
 use Rattle.std.proofs.Math.Option as maybe
 use Rattle.disklayout.specs.declared.Location.{Location}
 use Rattle.disklayout.specs.declared.Refused.{Refused}
@@ -29,15 +28,14 @@ answered d v = answered_when (made d) v
 abbrev pub answered_if : {A : Type 0} → ℕ → Bool → A → Result A Refused
 answered_if d pre v = answered_when (made d && pre) v
 
--- WHAT AN ANSWER SAYS WHERE NONE IS TOLD APART FROM NO AND 0
+-- FOR WHOEVER TAKES A REFUSAL FOR NO, OR FOR 0 (`answered_yes` and `answered_number`, proofs/Results.antt)
 
--- a question passes where it is answered by yes
-abbrev pub yes : Result Bool Refused → Bool
-yes r = result_unwrap_or r false
+-- the question is answered by yes
+abbrev pub holds_on : ℕ → Bool → Bool
+holds_on d b = made d && b
 
--- a number, 0 where the call is refused
-abbrev pub number : Result ℕ Refused → ℕ
-number r = result_unwrap_or r 0
+abbrev pub number_on : ℕ → ℕ → ℕ
+number_on d v = cond (made d) v 0
 
 -- THE NUMBER OF AN ANSWER: 0, or 01's number of the refusal
 
@@ -51,4 +49,4 @@ answer_number (Err e) = refused_number e
 -- the running address of a walk over a device's blocks, which begins at what `first_node_addr` gives and grows by what `node_block_size` gives:
 -- 0 at each block where the device is not made
 abbrev pub running_on : ℕ → ℕ → ℕ
-running_on d k = number (answered d (running_addr (device_of d) k))
+running_on d k = number_on d (running_addr (device_of d) k)

@@ -1,7 +1,7 @@
 // What a place is (document 02, Q-5): the one question that stands for upstream's five, on a row and as a call. The tests of single
 // kinds are private: whoever wants to know what a place is asks for its kind, a walk over the blocks for the kind at a node address.
 ghost use Rattle.std.specs.Prelude.{◌≡◌};
-ghost use Rattle.disklayout.specs.Calls.{answered, yes};
+ghost use Rattle.disklayout.specs.Calls.{answered, holds_on};
 ghost use Rattle.disklayout.specs.Device.{device_of};
 ghost use Rattle.disklayout.specs.Kinds.{kind_of, kind_at_node, kind_holds, kind_number};
 ghost use Rattle.disklayout.specs.Layout.{valid_journal_location, valid_indirection_table_location};
@@ -100,7 +100,7 @@ pub fn kind_of(device: u64, loc: Location) -> Result<Option<Kind>, Refused>
 
 // Whether a place is of this kind on a device; it is of none where no such device is made.
 pub fn is_kind(device: u64, loc: Location, kind: Kind) -> bool
-    ensures { result ≡ yes (answered device (kind_holds kind (device_of device) loc)) }
+    ensures { result ≡ holds_on device (kind_holds kind (device_of device) loc) }
 {
     kind_of(device, loc) == Ok(Some(kind))
 }

@@ -2,7 +2,7 @@
 use mathlib.Core.Path.{sym, ◌∙◌}
 use Rattle.disklayout.specs.Kinds.{kind_holds}
 use Rattle.disklayout.proofs.Facts.{journal_iff}
-use Rattle.disklayout.proofs.Results.{flag_yes, flag_yes_iff}
+use Rattle.disklayout.proofs.Results.{flag_yes_iff}
 use Rattle.layout.proofs.journal.journal_block_idx.Goals as goal
 
 pub block_idx-requires : goal.block_idx-requires
@@ -12,8 +12,8 @@ block_idx-requires c =
 
 pub returns-then-is_kind : goal.returns-then-is_kind
 unfolding kind_holds
-returns-then-is_kind c = rw (sym (flag_yes c.args.device _) ∙ sym c.is_kind.ensures ∙ c.if-is_kind.true, c.block_idx.ensures)
+returns-then-is_kind c = rw (sym c.is_kind.ensures ∙ c.if-is_kind.true, c.block_idx.ensures)
 
 pub returns-else-is_kind : goal.returns-else-is_kind
 unfolding kind_holds
-returns-else-is_kind c = rw (sym (flag_yes c.args.device _) ∙ sym c.is_kind.ensures ∙ c.if-is_kind.false)
+returns-else-is_kind c = rw (sym c.is_kind.ensures ∙ c.if-is_kind.false)
