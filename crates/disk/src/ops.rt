@@ -6,7 +6,7 @@ ghost use Rattle.sectortype.specs.Same.{same_node, same_table};
 ghost use Rattle.blockdisk.specs.Ops.{request_of, request_outcome, answer_outcome, something_in, op_outcome, disk_step};
 
 use crate::Disk;
-use crate::form::{disk_ok, queues_ok, records_ok, table_allowed};
+use crate::form::{disk_ok, node_allowed, queues_ok, records_ok, table_allowed};
 use crate::read::{node_at, table_at, with_node, with_table};
 use blockdisk::{Brought, DiskCall, DiskOp, DiskOutcome, NodeRecord, QueueOutcome, TableRecord};
 use disklayout::Location;
@@ -134,8 +134,8 @@ impl Disk {
         let mut s = self.state;
         let mut qs = s.queues;
         let q = qs.nodereads;
-        let allowed = layout::node_place(self.device, loc);
-        let t = ask(q, id, loc, allowed.yes);
+        let allowed = node_allowed(self.device, loc);
+        let t = ask(q, id, loc, allowed);
         let n = t.answer;
         if n != 0 {
             return DiskOutcome { answer: n, disk: s };
@@ -175,8 +175,8 @@ impl Disk {
         let mut s = self.state;
         let mut qs = s.queues;
         let q = qs.nodewrites;
-        let allowed = layout::node_place(self.device, loc);
-        let t = ask(q, id, loc, allowed.yes);
+        let allowed = node_allowed(self.device, loc);
+        let t = ask(q, id, loc, allowed);
         let n = t.answer;
         if n != 0 {
             return DiskOutcome { answer: n, disk: s };

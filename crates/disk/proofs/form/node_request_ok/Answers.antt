@@ -6,4 +6,4 @@ returns-then-not-used c = rw c.if-not-used.true
 
 pub returns : goal.returns
 returns c =
-    rw (c.if-not-used.false, c.node_place-allowed.ensures)
+    rw (c.if-not-used.false, c.node_allowed-allowed.ensures)
