@@ -5,7 +5,7 @@ use mathlib.Core.Logic.{◌↔◌}
 use mathlib.Core.Option.{Option, map, none, some}
 use mathlib.Core.Path.{◌∙◌, ◌≡◌, fun_ext, refl, sym}
 use Rattle.base.proofs.Tests.{split}
-use Rattle.base.specs.Maps.{flagged, is_some}
+use Rattle.base.specs.Maps.{flagged}
 use Rattle.blockdisk.proofs.Forms.{node_form_of, node_placed_iff, records_form_iff, records_placed_iff, table_form_of, table_placed_iff}
 use Rattle.blockdisk.proofs.RecordArray.{Formed, Laws, Placed, RecordArray, read_in, reads}
 use Rattle.blockdisk.specs.Form.{records_checked}
@@ -20,7 +20,8 @@ use Rattle.disklayout.proofs.NodeBlocks.{node_block_iff, node_place_iff, node_pl
 use Rattle.disklayout.proofs.Places.{node_overlap_iff, table_overlap_iff}
 use Rattle.disklayout.proofs.TableAreas.{device_table, table_area_iff, table_place_iff, table_place_in_of}
 use Rattle.disklayout.specs.Blocks.{node_block_of, node_place, table_area_of}
-use Rattle.disklayout.specs.Calls.{or_zero}
+use Rattle.std.specs.Prelude.{is_some as is_told, unwrap_or}
+use Rattle.disklayout.specs.Calls.{told}
 use Rattle.disklayout.specs.Device.{Good, device_of, made}
 use Rattle.disklayout.specs.Layout.{valid_indirection_table_location, same_loc}
 use Rattle.disklayout.specs.declared.Device.{Device}
@@ -123,8 +124,8 @@ module _ (d : ℕ) (r : Records) (on : made d ≡ true) where
       -- the record found in block k, or zeros
       found : Location → Option ℕ → NodeRecord
       found l o =
-          cond (is_some o && (node_record_at r (or_zero o)).present && same_loc (node_record_at r (or_zero o)).loc l)
-          (node_record_at r (or_zero o)) zero_node_record
+          cond (is_told (told o) && (node_record_at r (unwrap_or (told o) 0)).present && same_loc (node_record_at r (unwrap_or (told o) 0)).loc l)
+          (node_record_at r (unwrap_or (told o) 0)) zero_node_record
 
       go : (l : Location) (o : Option ℕ) → flagged (found l o).present (found l o).node ≡ read_in (node_array d) r.nodes l o
       go l none = refl
@@ -138,8 +139,8 @@ module _ (d : ℕ) (r : Records) (on : made d ≡ true) where
     where
       found : Location → Option ℕ → TableRecord
       found l o =
-          cond (is_some o && (table_record_at r (or_zero o)).present && same_loc (table_record_at r (or_zero o)).loc l)
-          (table_record_at r (or_zero o)) zero_table_record
+          cond (is_told (told o) && (table_record_at r (unwrap_or (told o) 0)).present && same_loc (table_record_at r (unwrap_or (told o) 0)).loc l)
+          (table_record_at r (unwrap_or (told o) 0)) zero_table_record
 
       go : (l : Location) (o : Option ℕ) → flagged (found l o).present (found l o).table ≡ read_in (table_array d) r.tables l o
       go l none = refl

@@ -23,7 +23,8 @@ use Rattle.blockdisk.proofs.RecordArray.{Formed, Laws, RecordArray, record_at}
 use Rattle.blockdisk.proofs.RecordArrays.{node_laws, node_array, nodes_are_formed, table_laws, table_array, tables_are_formed}
 use Rattle.blockdisk.specs.Crash.{crash_rows, disk_crash}
 use Rattle.blockdisk.specs.Ops.{answer_rows, disk_rows, disk_step, next_disk, op_rows}
-use Rattle.blockdisk.specs.Records.{area_of, block_of, node_record_at, read_node, read_table, table_record_at}
+use Rattle.std.specs.Prelude.{is_some}
+use Rattle.blockdisk.specs.Records.{area_number, area_of, block_number, block_of, node_record_at, read_node, read_table, table_record_at}
 use Rattle.blockdisk.specs.Unwritten.{StoredUnchanged, Unwritten, is_write_req, has_no_writes}
 use Rattle.blockdisk.specs.declared.DiskCall.{DiskCall}
 use Rattle.blockdisk.specs.declared.DiskOp.{DiskOp}
@@ -174,19 +175,19 @@ module _ (d : ℕ) (old new : Records) (u : StoredUnchanged old new) (l : Locati
   pub unchanged_table : (read_table d old l).present ≡ true → read_table d new l ≡ read_table d old l
   unfolding read_table
   unchanged_table there =
-      let x = table_record_at old (area_of d l).value in
-      let found = (area_of d l).exists && x.present && same_loc x.loc l in
+      let x = table_record_at old (area_number d l) in
+      let found = is_some (area_of d l) && x.present && same_loc x.loc l in
       split found
-      (λ t. let h = (and_iff ((area_of d l).exists && x.present) (same_loc x.loc l)).0 t in
-      rw (u.tables (area_of d l).value ((and_iff (area_of d l).exists x.present).0 h.0).1))
+      (λ t. let h = (and_iff (is_some (area_of d l) && x.present) (same_loc x.loc l)).0 t in
+      rw (u.tables (area_number d l) ((and_iff (is_some (area_of d l)) x.present).0 h.0).1))
       (λ t. clash there (rw t))
 
   pub unchanged_node : (read_node d old l).present ≡ true → read_node d new l ≡ read_node d old l
   unfolding read_node
   unchanged_node there =
-      let x = node_record_at old (block_of d l).value in
-      let found = (block_of d l).exists && x.present && same_loc x.loc l in
+      let x = node_record_at old (block_number d l) in
+      let found = is_some (block_of d l) && x.present && same_loc x.loc l in
       split found
-      (λ t. let h = (and_iff ((block_of d l).exists && x.present) (same_loc x.loc l)).0 t in
-      rw (u.nodes (block_of d l).value ((and_iff (block_of d l).exists x.present).0 h.0).1))
+      (λ t. let h = (and_iff (is_some (block_of d l) && x.present) (same_loc x.loc l)).0 t in
+      rw (u.nodes (block_number d l) ((and_iff (is_some (block_of d l)) x.present).0 h.0).1))
       (λ t. clash there (rw t))

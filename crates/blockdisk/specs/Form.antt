@@ -9,7 +9,7 @@ use Rattle.blockdisk.specs.declared.Queues.{Queues}
 use Rattle.blockdisk.specs.declared.Records.{Records}
 use Rattle.blockdisk.specs.declared.TableRecord.{TableRecord}
 use Rattle.disklayout.specs.Blocks.{node_place, node_place_in, table_place_in}
-use Rattle.disklayout.specs.Calls.{flag}
+use Rattle.disklayout.specs.Calls.{holds_on}
 use Rattle.disklayout.specs.Device.{device_of, made}
 use Rattle.disklayout.specs.Layout.{valid_indirection_table_location}
 use Rattle.disklayout.specs.declared.Location.{Location}
@@ -23,7 +23,7 @@ unfoldable pub table_record_checked : ℕ → ℕ → TableRecord → Checked
 table_record_checked d k r =
     record {
       form = table_form r.table && (r.present || (loc_zero r.loc && eqb r.table.count 0));
-      placed = not r.present || (flag d (table_place_in (device_of d) k r.loc)).yes;
+      placed = not r.present || holds_on d (table_place_in (device_of d) k r.loc);
     }
 
 -- an absent record is zeros; one that is there lies in block k
@@ -31,7 +31,7 @@ unfoldable pub node_record_checked : ℕ → ℕ → NodeRecord → Checked
 node_record_checked d k r =
     record {
       form = node_form r.node && (r.present || (loc_zero r.loc && node_zero r.node));
-      placed = not r.present || (flag d (node_place_in (device_of d) k r.loc)).yes;
+      placed = not r.present || holds_on d (node_place_in (device_of d) k r.loc);
     }
 
 unfoldable pub tables_checked : ℕ → List TableRecord → Checked
@@ -60,10 +60,10 @@ records_checked d r =
 
 -- a place that 16 allows
 abbrev pub table_allowed : ℕ → Location → Bool
-table_allowed d l = (flag d (valid_indirection_table_location (device_of d) l)).yes
+table_allowed d l = holds_on d (valid_indirection_table_location (device_of d) l)
 
 abbrev pub node_allowed : ℕ → Location → Bool
-node_allowed d l = (flag d (node_place (device_of d) l)).yes
+node_allowed d l = holds_on d (node_place (device_of d) l)
 
 -- a queued request has no reference, and an allowed place
 abbrev pub table_request_ok : ℕ → Request → Bool

@@ -1,13 +1,13 @@
 -- What is stored: an area or block with one record or none, reading at exactly a place, and a record replaced.
-use Rattle.std.specs.Prelude.{ℕ, ◌&&◌, cond, false, true, [], get_or, replicate, set}
+use Rattle.std.specs.Prelude.{ℕ, ◌&&◌, cond, false, true, [], get_or, replicate, set, Option, None, is_some, unwrap_or}
+use Rattle.std.specs.Result.{result_unwrap_or}
 use Rattle.blockdisk.specs.declared.NodeRecord.{NodeRecord}
 use Rattle.blockdisk.specs.declared.Records.{Records}
 use Rattle.blockdisk.specs.declared.TableRecord.{TableRecord}
 use Rattle.disklayout.specs.Blocks.{node_block_of, table_area_of}
-use Rattle.disklayout.specs.Calls.{number_option, zero_loc}
+use Rattle.disklayout.specs.Calls.{answered, told, zero_loc}
 use Rattle.disklayout.specs.Device.{device_of}
 use Rattle.disklayout.specs.declared.Location.{Location}
-use Rattle.disklayout.specs.declared.NumberOption.{NumberOption}
 use Rattle.sectortype.specs.Form.{empty_table, default_node, zero_node}
 use Rattle.disklayout.specs.Layout.{same_loc}
 use Rattle.sectortype.specs.declared.Node.{Node}
@@ -35,29 +35,36 @@ table_record_at r k = get_or r.tables k default_table_record
 abbrev pub node_record_at : Records → ℕ → NodeRecord
 node_record_at r k = get_or r.nodes k default_node_record
 
--- the area, the block that has a place's address
-abbrev pub area_of : ℕ → Location → NumberOption
-area_of d l = number_option d (table_area_of (device_of d) l.addr)
+-- the area, the block that has a place's address; none on a device that is not made
+abbrev pub area_of : ℕ → Location → Option ℕ
+area_of d l = result_unwrap_or (answered d (told (table_area_of (device_of d) l.addr))) None
 
-abbrev pub block_of : ℕ → Location → NumberOption
-block_of d l = number_option d (node_block_of (device_of d) l.addr)
+abbrev pub block_of : ℕ → Location → Option ℕ
+block_of d l = result_unwrap_or (answered d (told (node_block_of (device_of d) l.addr))) None
+
+-- and its number, 0 where there is none
+abbrev pub area_number : ℕ → Location → ℕ
+area_number d l = unwrap_or (area_of d l) 0
+
+abbrev pub block_number : ℕ → Location → ℕ
+block_number d l = unwrap_or (block_of d l) 0
 
 -- what is stored at exactly the place, address and length; else nothing
 unfoldable pub read_table : ℕ → Records → Location → TableRecord
 read_table d r l =
-    cond ((area_of d l).exists && (table_record_at r (area_of d l).value).present && same_loc (table_record_at r (area_of d l).value).loc l)
-    (table_record_at r (area_of d l).value)
+    cond (is_some (area_of d l) && (table_record_at r (area_number d l)).present && same_loc (table_record_at r (area_number d l)).loc l)
+    (table_record_at r (area_number d l))
     zero_table_record
 
 unfoldable pub read_node : ℕ → Records → Location → NodeRecord
 read_node d r l =
-    cond ((block_of d l).exists && (node_record_at r (block_of d l).value).present && same_loc (node_record_at r (block_of d l).value).loc l)
-    (node_record_at r (block_of d l).value)
+    cond (is_some (block_of d l) && (node_record_at r (block_number d l)).present && same_loc (node_record_at r (block_number d l)).loc l)
+    (node_record_at r (block_number d l))
     zero_node_record
 
 -- a write replaces its area's or block's record and nothing else
 unfoldable pub with_table : ℕ → Records → Location → Table → Records
-with_table d r l t = record { tables = set r.tables (area_of d l).value (record { present = true; loc = l; table = t }); nodes = r.nodes }
+with_table d r l t = record { tables = set r.tables (area_number d l) (record { present = true; loc = l; table = t }); nodes = r.nodes }
 
 unfoldable pub with_node : ℕ → Records → Location → Node → Records
-with_node d r l n = record { tables = r.tables; nodes = set r.nodes (block_of d l).value (record { present = true; loc = l; node = n }) }
+with_node d r l n = record { tables = r.tables; nodes = set r.nodes (block_number d l) (record { present = true; loc = l; node = n }) }

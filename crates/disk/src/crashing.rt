@@ -11,25 +11,19 @@ use queue::Requests;
 fn same_table_record(a: TableRecord, b: TableRecord) -> bool
     ensures { result ≡ same_table_record a b }
 {
-    let k = a.loc;
-    let l = b.loc;
-    let placed = layout::same_loc(k, l);
     let s = a.table;
     let t = b.table;
     let same = sector::same_table(s, t);
-    b.present & placed & same
+    b.present & (a.loc == b.loc) & same
 }
 
 fn same_node_record(a: NodeRecord, b: NodeRecord) -> bool
     ensures { result ≡ same_node_record a b }
 {
-    let k = a.loc;
-    let l = b.loc;
-    let placed = layout::same_loc(k, l);
     let s = a.node;
     let t = b.node;
     let same = sector::same_node(s, t);
-    b.present & placed & same
+    b.present & (a.loc == b.loc) & same
 }
 
 // A stored record is offered unchanged, unless a write to its area is outstanding. A stored record is at its area's address.

@@ -1,16 +1,15 @@
 // The disk's one written form (number 1): each record in its own form and place, each queue in its form with places that 16 allows, a rule that is 1 or 2.
 ghost use Rattle.std.specs.Prelude.{◌&&◌, ◌||◌, not, ◌≡◌, ℕ, ◌<◌, eqb};
 ghost use Rattle.disklayout.specs.Blocks.{table_place_in};
-ghost use Rattle.disklayout.specs.Calls.{flag, running_on};
+ghost use Rattle.disklayout.specs.Calls.{holds_on, running_on};
 ghost use Rattle.disklayout.specs.Device.{device_of, made};
 ghost use Rattle.sectortype.specs.Form.{loc_zero};
 ghost use Rattle.blockdisk.specs.Form.{disk_form, node_record_checked, tables_checked, nodes_checked, records_checked, is_rule};
-ghost use Rattle.blockdisk.specs.Form.{table_allowed, table_request_ok, node_request_ok, table_queue_form, node_queue_form, queues_form};
+ghost use Rattle.blockdisk.specs.Form.{node_allowed, table_allowed, table_request_ok, node_request_ok, table_queue_form, node_queue_form, queues_form};
 
 use crate::Disk;
 use blockdisk::{Checked, NodeRecord, Queues, Records, TableRecord};
-use disklayout::Location;
-use layout::TABLE_KIND;
+use disklayout::{Kind, Location};
 use queue::{Request, Requests};
 
 // The form of a table record, from that of its table and the table's count: an absent record is zeros. The record is not handed on whole, as
@@ -23,14 +22,14 @@ fn table_record_form(there: bool, loc: Location, form: bool, count: u8) -> bool
 }
 
 // A table record that is there lies in area k.
+#[tactic(auto, using(disklayout::proofs::Results::answered_yes))]
 fn table_record_placed(device: u64, k: u64, there: bool, loc: Location) -> bool
-    ensures { result ≡ (not there || (flag device (table_place_in (device_of device) k loc)).yes) }
+    ensures { result ≡ (not there || holds_on device (table_place_in (device_of device) k loc)) }
 {
     if !there {
         return true;
     }
-    let allowed = layout::table_place_in(device, k, loc);
-    allowed.yes
+    layout::table_place_in(device, k, loc).unwrap_or(false)
 }
 
 // One record, of whichever of the 128 blocks begins at `at`.
@@ -42,10 +41,10 @@ fn node_record_ok(device: u64, at: u64, r: NodeRecord) -> Checked
     let node = r.node;
     let form = sector::node_form(node);
     if there {
-        let may = layout::node_place_length(device, loc.len);
+        let may = layout::node_place_length(device, loc.len).unwrap_or(false);
         return Checked {
             form,
-            placed: (loc.addr == at) & may.yes,
+            placed: (loc.addr == at) & may,
         };
     }
     let zero = sector::node_zero(node);
@@ -81,16 +80,15 @@ fn tables_ok(device: u64, tables: [TableRecord; 2]) -> Checked
 fn nodes_ok(device: u64, nodes: [NodeRecord; 128]) -> Checked
     ensures { result ≡ nodes_checked device nodes }
 {
-    let first = layout::first_node_addr(device);
-    let size = layout::node_block_size(device);
-    let mut at = first.value;
+    let size = layout::node_block_size(device).unwrap_or(0);
+    let mut at = layout::first_node_addr(device).unwrap_or(0);
     let mut form = true;
     let mut placed = true;
     for r in nodes.iter() {
         let c = node_record_ok(device, at, *r);
         form = form & c.form;
         placed = placed & c.placed;
-        at += size.value;
+        at += size;
     }
     Checked { form, placed }
 }
@@ -109,12 +107,19 @@ pub(crate) fn records_ok(device: u64, r: Records) -> Checked
     }
 }
 
-// Whether refusal 16 allows a table's place; of a node's, `layout::node_place` says so.
+// Whether refusal 16 allows a table's place, and a node's.
+#[tactic(auto, unfolding(disklayout::specs::Kinds::kind_holds))]
 pub(crate) fn table_allowed(device: u64, loc: Location) -> bool
     ensures { result ≡ table_allowed device loc }
 {
-    let asked = layout::kind_of(device, loc);
-    layout::is_kind(asked, TABLE_KIND)
+    layout::is_kind(device, loc, Kind::Table)
+}
+
+#[tactic(auto, using(disklayout::proofs::Results::answered_yes))]
+pub(crate) fn node_allowed(device: u64, loc: Location) -> bool
+    ensures { result ≡ node_allowed device loc }
+{
+    layout::node_place(device, loc).unwrap_or(false)
 }
 
 // One place of a queue of table requests. Nothing is asked of one that is not used.
@@ -128,8 +133,7 @@ fn table_request_ok(device: u64, w: Request) -> bool
 fn node_request_ok(device: u64, w: Request) -> bool
     ensures { result ≡ node_request_ok device w }
 {
-    let allowed = layout::node_place(device, w.loc);
-    (w.reference == 0) & allowed.yes
+    (w.reference == 0) & node_allowed(device, w.loc)
 }
 
 fn table_queue_ok(device: u64, q: Requests) -> bool

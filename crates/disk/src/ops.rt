@@ -7,7 +7,7 @@ ghost use Rattle.blockdisk.specs.Ops.{request_of, request_outcome, answer_outcom
 ghost use Rattle.blockdisk.specs.Ops.{disk_step};
 
 use crate::Disk;
-use crate::form::{disk_ok, queues_ok, records_ok, table_allowed};
+use crate::form::{disk_ok, node_allowed, queues_ok, records_ok, table_allowed};
 use crate::read::{node_at, table_at, with_node, with_table};
 use blockdisk::{
     Brought, DiskCall, DiskOp, DiskOutcome, DiskRefusal, DiskState, NodeRecord, TableRecord,
@@ -123,7 +123,7 @@ impl Disk {
         ensures { settled_outcome result self.state ≡ op_outcome self.device self.state (DiskOp.ReqReadNodeOp id loc) zero_node empty_table }
     {
         let mut s = self.state;
-        let allowed = layout::node_place(self.device, loc).yes;
+        let allowed = node_allowed(self.device, loc);
         s.queues.nodereads = ask(s.queues.nodereads, id, loc, allowed)?;
         Ok(s)
     }
@@ -149,7 +149,7 @@ impl Disk {
         ensures { settled_outcome result self.state ≡ op_outcome self.device self.state (DiskOp.ReqWriteNodeOp id loc) node empty_table }
     {
         let mut s = self.state;
-        let allowed = layout::node_place(self.device, loc).yes;
+        let allowed = node_allowed(self.device, loc);
         s.queues.nodewrites = ask(s.queues.nodewrites, id, loc, allowed)?;
         s.records = with_node(self.device, s.records, loc, node);
         Ok(s)

@@ -1,6 +1,6 @@
 // What is stored at exactly a place, address and length; and the records with another at its place.
 ghost use Rattle.std.specs.Prelude.{◌≡◌};
-ghost use Rattle.blockdisk.specs.Records.{read_table, read_node, with_table, with_node, empty_records, zero_table_record, zero_node_record};
+ghost use Rattle.blockdisk.specs.Records.{area_of, block_of, read_table, read_node, with_table, with_node, empty_records, zero_table_record, zero_node_record};
 
 use blockdisk::{NodeRecord, Records, TableRecord};
 use disklayout::Location;
@@ -42,68 +42,75 @@ pub fn empty_records() -> Records
     }
 }
 
+// The area and the block that has a place's address.
+fn area_of(device: u64, loc: Location) -> Option<u64>
+    ensures { result ≡ area_of device loc }
+{
+    layout::table_area_of(device, loc.addr).unwrap_or(None)
+}
+
+fn block_of(device: u64, loc: Location) -> Option<u64>
+    ensures { result ≡ block_of device loc }
+{
+    layout::node_block_by_walk(device, loc.addr).unwrap_or(None)
+}
+
 // The record at exactly this place, or an empty one.
+#[tactic(auto, using(blockdisk::proofs::Numbers::area_small, blockdisk::proofs::Numbers::table_found, blockdisk::proofs::Numbers::table_missing, blockdisk::proofs::Numbers::table_nowhere))]
 pub fn table_at(device: u64, r: Records, loc: Location) -> TableRecord
     ensures { result ≡ read_table device r loc }
 {
-    let area = layout::table_area_of(device, loc.addr);
-    let k = (area.value % 2) as usize;
-    let x = r.tables[k];
-    let at = x.loc;
-    let same = layout::same_loc(at, loc);
-    let here = area.exists & x.present & same;
-    if here {
-        return x;
+    if let Some(area) = area_of(device, loc) {
+        let in_area = r.tables[area as usize];
+        if in_area.present & (in_area.loc == loc) {
+            return in_area;
+        }
     }
     zero_table_record()
 }
 
 // The record at exactly this place, or an empty one.
+#[tactic(auto, using(blockdisk::proofs::Numbers::block_small, blockdisk::proofs::Numbers::node_found, blockdisk::proofs::Numbers::node_missing, blockdisk::proofs::Numbers::node_nowhere))]
 pub fn node_at(device: u64, r: Records, loc: Location) -> NodeRecord
     ensures { result ≡ read_node device r loc }
 {
-    let block = layout::node_block_by_walk(device, loc.addr);
-    let k = (block.value % 128) as usize;
-    let x = r.nodes[k];
-    let at = x.loc;
-    let same = layout::same_loc(at, loc);
-    let here = block.exists & x.present & same;
-    if here {
-        return x;
+    if let Some(block) = block_of(device, loc) {
+        let in_block = r.nodes[block as usize];
+        if in_block.present & (in_block.loc == loc) {
+            return in_block;
+        }
     }
     zero_node_record()
 }
 
 // The records with this one in its area, and every other as it was.
+#[tactic(auto, using(blockdisk::proofs::Numbers::area_below), unfolding(blockdisk::specs::Records::with_table))]
 pub(crate) fn with_table(device: u64, r: Records, loc: Location, table: Table) -> Records
     ensures { result ≡ with_table device r loc table }
 {
-    let area = layout::table_area_of(device, loc.addr);
-    let k = (area.value % 2) as usize;
+    let area = area_of(device, loc).unwrap_or(0);
     let mut tables = r.tables;
-    let x = TableRecord {
+    tables[area as usize] = TableRecord {
         present: true,
         loc,
         table,
     };
-    tables[k] = x;
     let nodes = r.nodes;
     Records { tables, nodes }
 }
 
 // The records with this one in its block, and every other as it was.
+#[tactic(auto, using(blockdisk::proofs::Numbers::block_below), unfolding(blockdisk::specs::Records::with_node))]
 pub(crate) fn with_node(device: u64, r: Records, loc: Location, node: Node) -> Records
     ensures { result ≡ with_node device r loc node }
 {
-    let block = layout::node_block_by_walk(device, loc.addr);
-    let k = (block.value % 128) as usize;
+    let block = block_of(device, loc).unwrap_or(0);
     let mut nodes = r.nodes;
-    let x = NodeRecord {
+    nodes[block as usize] = NodeRecord {
         present: true,
         loc,
         node,
     };
-    nodes[k] = x;
     let tables = r.tables;
     Records { tables, nodes }
 }

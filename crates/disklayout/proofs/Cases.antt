@@ -9,7 +9,9 @@ use Prim.Native.Nat.{ℕ, ◌^◌}
 use lib.Dec.{ltb}
 use Rattle.disklayout.specs.declared.Device.{Device}
 use Rattle.disklayout.specs.declared.Location.{Location}
-use Rattle.disklayout.specs.Calls.{number_if, place_kind}
+use Rattle.std.specs.Prelude.{None}
+use Rattle.std.specs.Result.{result_unwrap_or}
+use Rattle.disklayout.specs.Calls.{answered, answered_if, answer_number}
 use Rattle.disklayout.specs.Device.{device_of, devices}
 use Rattle.disklayout.specs.Blocks.{first_node_addr, node_blocks_end, node_block_of}
 use Rattle.disklayout.specs.Layout.{indirection_table1_addr, indirection_table2_addr, journal_end_addr, journal_start_addr}
@@ -47,8 +49,10 @@ ask (overlaps l k) = says (overlap l k)
 ask (front s n) = at (journal_front_location (device_of 0) s n)
 ask (back s n) = at (journal_back_location (device_of 0) s n)
 ask (pos_add s n) =
-    let r = number_if 0 (ltb (journal_pos_add (device_of 0) s n) (2 ^ 64)) (journal_pos_add (device_of 0) s n) in returns r.answer r.value
-ask (kind_on d l) = let r = place_kind d (kind_of (device_of d) l) in returns r.answer (kind_number r.kind)
+    let r = answered_if 0 (ltb (journal_pos_add (device_of 0) s n) (2 ^ 64)) (journal_pos_add (device_of 0) s n) in
+    returns (answer_number r) (result_unwrap_or r 0)
+ask (kind_on d l) =
+    let r = answered d (kind_of (device_of d) l) in returns (answer_number r) (kind_number (result_unwrap_or r None))
 ask (block_on d a) = block (node_block_of (device_of d) a)
 
 infix 40 ◌gives◌

@@ -1,5 +1,5 @@
 -- Every device of document 01's table has a good row: one test, computed over the table. Assumes nothing.
-use mathlib.Core.Path.{◌≡◌, refl, sym}
+use mathlib.Core.Path.{◌≡◌, refl}
 use mathlib.Core.Bool.{Bool, true, ◌&&◌, not}
 use mathlib.Core.List.{List, [], ◌∷◌}
 use mathlib.Core.Logic.{◌↔◌}
@@ -15,7 +15,7 @@ use Rattle.base.proofs.Tests.{split, tests}
 use Rattle.disklayout.specs.declared.Device.{Device}
 use Rattle.disklayout.specs.Layout.{node_block_size, indirection_table2_addr, indirection_table_max_length}
 use Rattle.disklayout.specs.Blocks.{first_node_addr, node_blocks_end}
-use Rattle.disklayout.specs.Device.{Good, devices, device_of, device0, RowOf}
+use Rattle.disklayout.specs.Device.{Good, devices, device_of, device0}
 
 unfoldable pub good : Device → Bool
 good w =
@@ -55,10 +55,3 @@ device_good d =
   where
     known : (d : ℕ) → d < 3 → Good (device_of d)
     known d h = (good_iff (device_of d)).0 (all_at (λ d. good (device_of d)) 3 d table_good h)
-
--- what the code reads: within the table with any default, past it row 0
-pub read_within : (d : ℕ) (z : Device) → d < 3 → RowOf d (get_or devices d z)
-read_within d z h = record { is = row_within d z h; good = rw (row_within d z h) (device_good d) }
-
-pub read_past : (d : ℕ) → 3 ≤ d → RowOf d device0
-read_past d h = record { is = sym (row_past d h); good = rw (← row_past d h) (device_good d) }

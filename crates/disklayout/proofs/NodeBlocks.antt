@@ -14,8 +14,8 @@ use Rattle.base.proofs.Maps.{flagged_some}
 use Rattle.base.proofs.Tests.{split, tests}
 use Rattle.disklayout.specs.declared.Device.{Device}
 use Rattle.disklayout.specs.declared.Location.{Location}
-use Rattle.disklayout.specs.declared.NumberOption.{NumberOption}
-use Rattle.disklayout.specs.Calls.{number_option_when}
+use Rattle.std.specs.Prelude.{Some, None}
+use Rattle.disklayout.specs.Calls.{told}
 use Rattle.disklayout.specs.Device.{Good}
 use Rattle.disklayout.specs.Layout.{valid_node_addr, valid_node_location, overlap}
 use Rattle.disklayout.specs.Blocks.{node_block_addr, node_blocks_end, node_block_of, node_place_in, node_place}
@@ -87,18 +87,15 @@ module _ (w : Device) (g : Good w) where
 
   -- it is told by a quotient: the three cases
   pub block_found : (a : ℕ) → valid_node_addr w a ≡ true → a / w.block - w.first < 128 →
-      ◌≡◌ {A = NumberOption} (record { answer = 0; exists = true; value = a / w.block - w.first })
-      (number_option_when true (node_block_of w a))
+      Some (a / w.block - w.first) ≡ told (node_block_of w a)
   unfolding node_block_of
   block_found a v h = rw (v, lt-ltb (a / w.block - w.first) 128 h)
 
-  pub block_far : (a : ℕ) → 128 ≤ a / w.block - w.first →
-      ◌≡◌ {A = NumberOption} (record { answer = 0; exists = false; value = 0 }) (number_option_when true (node_block_of w a))
+  pub block_far : (a : ℕ) → 128 ≤ a / w.block - w.first → None ≡ told (node_block_of w a)
   unfolding node_block_of
   block_far a h = rw (le-ltb (a / w.block - w.first) 128 h, and-false (valid_node_addr w a))
 
-  pub block_invalid : (a : ℕ) → valid_node_addr w a ≡ false →
-      ◌≡◌ {A = NumberOption} (record { answer = 0; exists = false; value = 0 }) (number_option_when true (node_block_of w a))
+  pub block_invalid : (a : ℕ) → valid_node_addr w a ≡ false → None ≡ told (node_block_of w a)
   unfolding node_block_of
   block_invalid a f = rw f
 

@@ -5,19 +5,22 @@ use mathlib.Core.List.{List, [], ◌∷◌}
 use mathlib.Core.Logic.{◌⊎◌, ◌↔◌}
 use Prim.Native.Nat.{ℕ, zero, suc, ◌<◌, ◌≤◌}
 use native.Mathlib.Omega.{arith}
-use lib.Dec.{eqb, leb}
+use lib.Dec.{eqb}
 use lib.ListN.{get_or}
-use borrow.Author.Tests.{eq-eqb, ne_eqb, eqb-true, eqb-false}
-use Rattle.base.proofs.Tests.{split, and_iff, not_true_iff, or_cases, bool_ext}
+use borrow.Author.Tests.{eq-eqb, eqb-true, eqb-false, ne_eqb}
+use Rattle.base.proofs.Tests.{and_iff, not_true_iff, or_cases, bool_ext, split}
+use Rattle.std.specs.Prelude.{Option, Some, None, Result}
+use Rattle.std.specs.Result.{result_unwrap_or}
 use Rattle.disklayout.specs.declared.Device.{Device}
-use Rattle.disklayout.specs.declared.Kind.TheVariants.{Superblock1, Superblock2, Journal, Table, Node, None}
+use Rattle.disklayout.specs.declared.Kind.{Kind}
+use Rattle.disklayout.specs.declared.Kind.TheVariants.{Superblock1, Superblock2, Journal, Table, Node}
 use Rattle.disklayout.specs.declared.Location.{Location}
-use Rattle.disklayout.specs.declared.PlaceKind.{PlaceKind}
+use Rattle.disklayout.specs.declared.Refused.{Refused}
 use Rattle.disklayout.specs.Blocks.{first_node_addr}
-use Rattle.disklayout.specs.Calls.{place_kind, flag}
+use Rattle.disklayout.specs.Calls.{answered, holds_on}
 use Rattle.disklayout.specs.Device.{Good, made, device_of}
 use Rattle.disklayout.specs.Kinds.{kind_of, kind_at_node, kind_number, validities, none_holds, kth_holds}
-use Rattle.disklayout.specs.Layout.{journal_start_addr, node_block_size, superblock1_location, superblock2_location}
+use Rattle.disklayout.specs.Layout.{journal_start_addr, superblock1_location, superblock2_location}
 use Rattle.disklayout.specs.Layout.{valid_superblock_location, valid_location, same_loc, overlap, valid_superblock1_location}
 use Rattle.disklayout.specs.Layout.{valid_superblock2_location, valid_journal_location, valid_indirection_table_location, valid_node_addr}
 use Rattle.disklayout.specs.Layout.{valid_node_location}
@@ -42,7 +45,7 @@ kth_one bs one (suc m) (suc n) p q = ap suc (one m n p q)
 -- the first of five that holds has its number
 first_holds : (a b c d e : Bool) →
     kth_holds (a ∷ b ∷ c ∷ d ∷ e ∷ [])
-    (kind_number (cond a Superblock1 (cond b Superblock2 (cond c Journal (cond d Table (cond e Node None)))))) ≡ true
+    (kind_number (cond a (Some Superblock1) (cond b (Some Superblock2) (cond c (Some Journal) (cond d (Some Table) (cond e (Some Node) None)))))) ≡ true
 unfolding kind_number
 first_holds true b c d e = refl
 first_holds false true c d e = refl
@@ -158,11 +161,11 @@ module _ (w : Device) (g : Good w) where
 
   module _ (l : Location) where
     pub kind_low : l.addr < journal_start_addr →
-        kind_of w l ≡ cond (valid_superblock1_location l) Superblock1 (cond (valid_superblock2_location l) Superblock2 None)
+        kind_of w l ≡ cond (valid_superblock1_location l) (Some Superblock1) (cond (valid_superblock2_location l) (Some Superblock2) None)
     unfolding kind_of
     kind_low h = rw (below_journal w g l h 2 (omega arith), below_journal w g l h 3 (omega arith), below_journal w g l h 4 (omega arith))
 
-    pub kind_high : first_node_addr w ≤ l.addr → kind_of w l ≡ cond (valid_node_location w l) Node None
+    pub kind_high : first_node_addr w ≤ l.addr → kind_of w l ≡ cond (valid_node_location w l) (Some Node) None
     unfolding kind_of
     kind_high h =
         rw (
@@ -178,14 +181,9 @@ module _ (w : Device) (g : Good w) where
     kind_at_node_lem v = rw (kind_high ((node_addr_iff w l.addr).0 v).high, v)
 
     pub kind_between : journal_start_addr ≤ l.addr → l.addr < first_node_addr w →
-        kind_of w l ≡ cond (valid_journal_location w l) Journal (cond (valid_indirection_table_location w l) Table None)
+        kind_of w l ≡ cond (valid_journal_location w l) (Some Journal) (cond (valid_indirection_table_location w l) (Some Table) None)
     unfolding kind_of
     kind_between h k = rw (past_superblocks w g l h 0 (omega arith), past_superblocks w g l h 1 (omega arith), before_nodes w l k)
-
--- the kind at a node address has a node's number exactly if the length is no more than a block
-pub at_node_number : (w : Device) (n : ℕ) → eqb (kind_number (kind_at_node w n)) 5 ≡ leb n (node_block_size w)
-unfolding kind_number
-at_node_number w n = split (leb n (node_block_size w)) (λ t. rw t) (λ f. rw f)
 
 -- what ValidSuperblockLocation ensures
 pub superblock_cases : (l : Location) → valid_superblock_location l ≡ true →
@@ -194,8 +192,8 @@ unfolding valid_superblock_location valid_superblock1_location valid_superblock2
 superblock_cases l e = or_cases (same_loc l superblock1_location) (same_loc l superblock2_location) e
 
 -- ON A DEVICE: the answer is the kind of the k-th predicate exactly where the device is made and the predicate holds
-pub kind_told : (d : ℕ) (l : Location) (k : ℕ) {p : PlaceKind} {b : Bool} → p ≡ place_kind d (kind_of (device_of d) l) →
-    b ≡ eqb (kind_number p.kind) (suc k) →
+pub kind_told : (d : ℕ) (l : Location) (k : ℕ) {p : Result (Option Kind) Refused} {b : Bool} → p ≡ answered d (kind_of (device_of d) l) →
+    b ≡ eqb (kind_number (result_unwrap_or p None)) (suc k) →
     b ≡ (made d && valid_as k (device_of d) l)
 unfolding kind_number
 kind_told d l k e f =
@@ -203,12 +201,12 @@ kind_told d l k e f =
     (λ t. rw t (ne_eqb 0 (suc k) (λ (z : 0 ≡ suc k). omega arith))))
 
 -- so whoever asked one of the five questions asks for the kind
-pub table_told : (d : ℕ) (l : Location) {p : PlaceKind} {b : Bool} → p ≡ place_kind d (kind_of (device_of d) l) →
-    b ≡ eqb (kind_number p.kind) 4 →
-    b ≡ (flag d (valid_indirection_table_location (device_of d) l)).yes
-table_told d l = kind_told d l 3
+pub table_told : (d : ℕ) (l : Location) {p : Result (Option Kind) Refused} {b : Bool} → p ≡ answered d (kind_of (device_of d) l) →
+    b ≡ eqb (kind_number (result_unwrap_or p None)) 4 →
+    b ≡ holds_on d (valid_indirection_table_location (device_of d) l)
+table_told d l e f = kind_told d l 3 e f
 
-pub node_told : (d : ℕ) (l : Location) {p : PlaceKind} {b : Bool} → p ≡ place_kind d (kind_of (device_of d) l) →
-    b ≡ eqb (kind_number p.kind) 5 →
-    b ≡ (flag d (valid_node_location (device_of d) l)).yes
-node_told d l = kind_told d l 4
+pub node_told : (d : ℕ) (l : Location) {p : Result (Option Kind) Refused} {b : Bool} → p ≡ answered d (kind_of (device_of d) l) →
+    b ≡ eqb (kind_number (result_unwrap_or p None)) 5 →
+    b ≡ holds_on d (valid_node_location (device_of d) l)
+node_told d l e f = kind_told d l 4 e f

@@ -1,7 +1,7 @@
 -- The journal's points and ranges: what upstream ensures of them, for any good row, and an arm of the code for each law.
 -- Assumes nothing.
 use mathlib.Core.Path.{◌≡◌}
-use mathlib.Core.Bool.{true, false, ◌&&◌, ◌||◌}
+use mathlib.Core.Bool.{true, ◌&&◌, ◌||◌}
 use mathlib.Core.Option.{some}
 use Prim.Native.Nat.{ℕ, ◌+◌, ◌-◌, ◌*◌, ◌/◌, ◌%◌, ◌^◌, ◌<◌, ◌≤◌}
 use native.Mathlib.Nat.{add-mul-mod_self_right, mul-mod_left, mul-div_cancel}
@@ -11,9 +11,9 @@ use borrow.Author.Tests.{eq-eqb, ne_eqb, le-leb, lt-leb, lt-ltb, le-ltb, leb-tru
 use Rattle.base.proofs.Tests.{split, never, tests}
 use Rattle.disklayout.specs.declared.Device.{Device}
 use Rattle.disklayout.specs.declared.Location.{Location}
-use Rattle.disklayout.specs.declared.Number.{Number}
-use Rattle.disklayout.specs.declared.PlaceOption.{PlaceOption}
-use Rattle.disklayout.specs.Calls.{number_when, place_option_when, zero_loc}
+use Rattle.disklayout.specs.declared.Refused.TheVariants.{Undefined}
+use Rattle.std.specs.Prelude.{Ok, Err, Some, None}
+use Rattle.disklayout.specs.Calls.{answered_when, told}
 use Rattle.disklayout.specs.Device.{Good}
 use Rattle.disklayout.specs.Layout.{journal_start_addr, journal_end_addr, valid_journal_location}
 use Rattle.disklayout.specs.Journal.{journal_point, journal_range_requires, journal_range_location, loc_contained_in_circular_journal_range}
@@ -84,10 +84,10 @@ idx_range w s n = let e : 8192 + s * 4096 - 8192 ≡ s * 4096 = omega arith in r
 -- POSITIONS
 
 -- a number that fits 64 bits is answered, one that does not is refused
-fits_answered : (x v : ℕ) → x ≡ v → v < 2 ^ 64 → ◌≡◌ {A = Number} (record { answer = 0; value = v }) (number_when (ltb x (2 ^ 64)) x)
+fits_answered : (x v : ℕ) → x ≡ v → v < 2 ^ 64 → Ok v ≡ answered_when (ltb x (2 ^ 64)) x
 fits_answered x v e h = rw (e, lt-ltb v (2 ^ 64) h)
 
-past_refused : (x v : ℕ) → x ≡ v → 2 ^ 64 ≤ v → ◌≡◌ {A = Number} (record { answer = 1; value = 0 }) (number_when (ltb x (2 ^ 64)) x)
+past_refused : (x v : ℕ) → x ≡ v → 2 ^ 64 ≤ v → Err Undefined ≡ answered_when (ltb x (2 ^ 64)) x
 past_refused x v e h = rw (e, le-ltb v (2 ^ 64) h)
 
 -- the code's four arms: no sum in them passes 64 bits
@@ -96,50 +96,41 @@ module _ (w : Device) (s n : ℕ) where
   past h = rw (le-leb w.journal (s + n) (omega arith)) (omega arith)
 
   pub pos_past : s < 2 ^ 64 → w.journal ≤ s → n ≤ 18446744073709551615 - (s - w.journal) →
-      ◌≡◌ {A = Number} (record { answer = 0; value = s - w.journal + n })
-      (number_when (ltb (journal_pos_add w s n) (2 ^ 64)) (journal_pos_add w s n))
+      Ok (s - w.journal + n) ≡ answered_when (ltb (journal_pos_add w s n) (2 ^ 64)) (journal_pos_add w s n)
   pos_past b h k = fits_answered (journal_pos_add w s n) (s - w.journal + n) (past h) (omega arith)
 
   pub pos_refused : w.journal ≤ s → 18446744073709551615 - (s - w.journal) < n →
-      ◌≡◌ {A = Number} (record { answer = 1; value = 0 }) (number_when (ltb (journal_pos_add w s n) (2 ^ 64)) (journal_pos_add w s n))
+      Err Undefined ≡ answered_when (ltb (journal_pos_add w s n) (2 ^ 64)) (journal_pos_add w s n)
   pos_refused h k = past_refused (journal_pos_add w s n) (s - w.journal + n) (past h) (omega arith)
 
   pub pos_below : w.journal < 2 ^ 64 → n < w.journal - s →
-      ◌≡◌ {A = Number} (record { answer = 0; value = s + n }) (number_when (ltb (journal_pos_add w s n) (2 ^ 64)) (journal_pos_add w s n))
+      Ok (s + n) ≡ answered_when (ltb (journal_pos_add w s n) (2 ^ 64)) (journal_pos_add w s n)
   pos_below b k = fits_answered (journal_pos_add w s n) (s + n) (rw (lt-leb w.journal (s + n) (omega arith))) (omega arith)
 
   pub pos_round : n < 2 ^ 64 → s < w.journal → w.journal - s ≤ n →
-      ◌≡◌ {A = Number} (record { answer = 0; value = n - (w.journal - s) })
-      (number_when (ltb (journal_pos_add w s n) (2 ^ 64)) (journal_pos_add w s n))
+      Ok (n - (w.journal - s)) ≡ answered_when (ltb (journal_pos_add w s n) (2 ^ 64)) (journal_pos_add w s n)
   pos_round b h k =
       fits_answered (journal_pos_add w s n) (n - (w.journal - s)) (rw (le-leb w.journal (s + n) (omega arith)) (omega arith)) (omega arith)
 
 -- FRONT AND BACK
 
--- what the code hands back: no place, or this one
-abbrev pub nowhere : PlaceOption
-nowhere = record { answer = 0; exists = false; loc = zero_loc }
-
-abbrev pub here : Location → PlaceOption
-here l = record { answer = 0; exists = true; loc = l }
-
 module _ (w : Device) (s n : ℕ) where
-  pub front_none : n ≡ 0 → nowhere ≡ place_option_when true (journal_front_location w s n)
+  pub front_none : n ≡ 0 → None ≡ told (journal_front_location w s n)
   front_none e = rw (eq-eqb n 0 e)
 
   pub front_whole : (l : Location) → (n ≡ 0 → ⊥) → n ≤ w.journal - s → l ≡ journal_range_location w s n →
-      here l ≡ place_option_when true (journal_front_location w s n)
+      Some l ≡ told (journal_front_location w s n)
   front_whole l z h e = rw (e, ne_eqb n 0 z, le-leb n (w.journal - s) h)
 
   pub front_part_lem : (l : Location) → (n ≡ 0 → ⊥) → w.journal - s < n → l ≡ journal_range_location w s (w.journal - s) →
-      here l ≡ place_option_when true (journal_front_location w s n)
+      Some l ≡ told (journal_front_location w s n)
   front_part_lem l z h e = rw (e, ne_eqb n 0 z, lt-leb n (w.journal - s) h)
 
-  pub back_none : n ≤ w.journal - s → nowhere ≡ place_option_when true (journal_back_location w s n)
+  pub back_none : n ≤ w.journal - s → None ≡ told (journal_back_location w s n)
   back_none h = split (eqb n 0) (λ t. rw t) (λ f. rw (f, le-leb n (w.journal - s) h))
 
   pub back_part_lem : (l : Location) → w.journal - s < n → l ≡ journal_range_location w 0 (n - (w.journal - s)) →
-      here l ≡ place_option_when true (journal_back_location w s n)
+      Some l ≡ told (journal_back_location w s n)
   back_part_lem l h e = rw (e, ne_eqb n 0 (λ (z : n ≡ 0). omega arith), lt-leb n (w.journal - s) h)
 
 -- CIRCULAR RANGES

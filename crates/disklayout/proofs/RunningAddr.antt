@@ -1,6 +1,6 @@
 -- A running address over the 128 blocks: what it is at each block, that it fits 64 bits, and what a walk that keeps it finds. Assumes nothing.
 use mathlib.Core.Path.{◌≡◌, refl, sym, ◌∙◌}
-use mathlib.Core.Bool.{true, false, ◌&&◌, and-false}
+use mathlib.Core.Bool.{Bool, true, ◌&&◌, and-false}
 use mathlib.Core.Option.{none}
 use Prim.Native.Nat.{ℕ, zero, suc, ◌+◌, ◌^◌, ◌<◌, ◌≤◌}
 use native.Mathlib.Nat.{add-mul, mul-le-mul_right}
@@ -11,15 +11,17 @@ use borrow.Author.Tests.{eqb-true, eqb-false, ltb-true, ltb-false, lt-ltb}
 use Rattle.base.specs.Maps.{is_some}
 use Rattle.base.proofs.Tests.{split, some_iff, none_iff}
 use Rattle.disklayout.specs.declared.Device.{Device}
-use Rattle.disklayout.specs.declared.Flag.{Flag}
+use Rattle.std.specs.Prelude.{Some, None}
 use Rattle.disklayout.specs.declared.Location.{Location}
-use Rattle.disklayout.specs.declared.Number.{Number}
-use Rattle.disklayout.specs.declared.NumberOption.{NumberOption}
 use Rattle.disklayout.specs.Blocks.{first_node_addr, node_block_addr, node_block_of, node_place_in, node_place_length, running_addr}
-use Rattle.disklayout.specs.Calls.{flag, number, number_option_when, running_on}
+use Rattle.std.specs.Prelude.{Result, false}
+use Rattle.std.specs.Result.{result_unwrap_or}
+use Rattle.disklayout.specs.declared.Refused.{Refused}
+use Rattle.disklayout.specs.Calls.{answered, holds_on, running_on, told}
 use Rattle.disklayout.specs.Device.{Good, device_of, made}
 use Rattle.disklayout.specs.Layout.{node_block_size, valid_node_addr, valid_node_location}
 use Rattle.disklayout.proofs.Devices.{device_good}
+use Rattle.disklayout.proofs.Results.{answered_number, answered_yes}
 use Rattle.disklayout.proofs.NodeBlocks.{block_fits, block_valid, node_block_iff}
 
 module _ (w : Device) where
@@ -68,11 +70,10 @@ module _ (w : Device) (g : Good w) where
 
   -- the code's arms: at the block found, and where no block has the address
   pub walk_found : (a k : ℕ) → k < 128 → a ≡ running_addr w k →
-      ◌≡◌ {A = NumberOption} (record { answer = 0; exists = true; value = k }) (number_option_when true (node_block_of w a))
+      Some k ≡ told (node_block_of w a)
   walk_found a k h e = rw ((node_block_iff w g a k).1 (h, e ∙ running_addr_lem w k))
 
-  pub walk_none : (a : ℕ) → Missed w a 128 →
-      ◌≡◌ {A = NumberOption} (record { answer = 0; exists = false; value = 0 }) (number_option_when true (node_block_of w a))
+  pub walk_none : (a : ℕ) → Missed w a 128 → None ≡ told (node_block_of w a)
   walk_none a m = rw no_block
     where
       no_block : node_block_of w a ≡ none
@@ -96,22 +97,26 @@ module _ (w : Device) (g : Good w) where
 -- A WALK ON A DEVICE: it begins at the first node address that the device's call gives, and grows by the block size; both are 0 where the
 -- device is not made, and so is each sum
 module _ (d : ℕ) where
-  pub walk_first : {first : Number} → first ≡ number d (first_node_addr (device_of d)) → first.value ≡ running_on d 0
-  walk_first e = rw (e, running_first (device_of d))
+  module _ {r : Result ℕ Refused} {first : ℕ} (e : r ≡ answered d (first_node_addr (device_of d))) (f : first ≡ result_unwrap_or r 0) where
+    pub walk_first : first ≡ running_on d 0
+    walk_first = rw (f, e, answered_number d (first_node_addr (device_of d)), running_first (device_of d))
 
-  pub walk_next : (k : ℕ) {a : ℕ} {size : Number} → a ≡ running_on d k → size ≡ number d (node_block_size (device_of d)) →
-      a + size.value ≡ running_on d (k + 1)
-  walk_next k e f = rw (e, f) (split (made d) (λ t. rw t (running_next (device_of d) k)) (λ t. rw t))
+  module _ {r : Result ℕ Refused} {size : ℕ} (e : r ≡ answered d (node_block_size (device_of d))) (f : size ≡ result_unwrap_or r 0)
+      (k : ℕ) {a : ℕ} (at : a ≡ running_on d k) where
+    pub walk_next : a + size ≡ running_on d (k + 1)
+    walk_next =
+        rw (at, f, e, answered_number d (node_block_size (device_of d)))
+        (split (made d) (λ t. rw t (running_next (device_of d) k)) (λ t. rw t))
 
-  pub walk_fits : (k : ℕ) {a : ℕ} {size : Number} → k < 128 → a ≡ running_on d k → size ≡ number d (node_block_size (device_of d)) →
-      a + size.value < 2 ^ 64
-  walk_fits k h e f =
-      rw (walk_next k e f) (split (made d) (λ t. rw t (running_fits (device_of d) (device_good d) (k + 1) (omega arith)))
-      (λ t. rw t (omega arith)))
+    pub walk_fits : k < 128 → a + size < 2 ^ 64
+    walk_fits h =
+        rw walk_next (split (made d) (λ t. rw t (running_fits (device_of d) (device_good d) (k + 1) (omega arith)))
+        (λ t. rw t (omega arith)))
 
   -- and judges the places of each block by their address and length
-  pub place_on : (k : ℕ) (l : Location) {a : ℕ} {may : Flag} → k < 128 → a ≡ running_on d k →
-      may ≡ flag d (node_place_length (device_of d) l.len) →
-      (eqb l.addr a && may.yes) ≡ (flag d (node_place_in (device_of d) k l)).yes
-  place_on k l h e f =
-      rw (e, f) (split (made d) (λ t. rw t (place_at (device_of d) (device_good d) k l h)) (λ t. rw (t, and-false (eqb l.addr 0))))
+  pub place_on : (k : ℕ) (l : Location) {a : ℕ} {r : Result Bool Refused} {may : Bool} → k < 128 → a ≡ running_on d k →
+      r ≡ answered d (node_place_length (device_of d) l.len) → may ≡ result_unwrap_or r false →
+      (eqb l.addr a && may) ≡ holds_on d (node_place_in (device_of d) k l)
+  place_on k l h e f g =
+      rw (e, g, f, answered_yes d (node_place_length (device_of d) l.len))
+      (split (made d) (λ t. rw t (place_at (device_of d) (device_good d) k l h)) (λ t. rw (t, and-false (eqb l.addr 0))))

@@ -1,84 +1,52 @@
--- What a layout call returns: 0 with its result, or 1 with zeros (a kind: none) where the device is not made or the test of what upstream
--- requires, `pre`, fails.
-use Rattle.std.specs.Prelude.{Bool, ◌&&◌, cond, ℕ}
-use Rattle.std.proofs.Math.Option.{Option, some, none}
-use Rattle.base.specs.Maps.{is_some}
-use Rattle.disklayout.specs.declared.Flag.{Flag}
-use Rattle.disklayout.specs.declared.Kind.{Kind}
-use Rattle.disklayout.specs.declared.Kind.TheVariants as kind
+-- What a layout call returns: its result, or the refusal where the device is not made or the test of what upstream requires, `pre`, fails.
+use Rattle.std.specs.Prelude.{Bool, ◌&&◌, cond, ℕ, Option, Some, None, Result, Ok, Err}
+use Rattle.std.proofs.Math.Option as maybe
 use Rattle.disklayout.specs.declared.Location.{Location}
-use Rattle.disklayout.specs.declared.Number.{Number}
-use Rattle.disklayout.specs.declared.NumberOption.{NumberOption}
-use Rattle.disklayout.specs.declared.Place.{Place}
-use Rattle.disklayout.specs.declared.PlaceKind.{PlaceKind}
-use Rattle.disklayout.specs.declared.PlaceOption.{PlaceOption}
+use Rattle.disklayout.specs.declared.Refused.{Refused}
+use Rattle.disklayout.specs.declared.Refused.TheVariants.{Undefined}
 use Rattle.disklayout.specs.Blocks.{running_addr}
 use Rattle.disklayout.specs.Device.{device_of, made}
 
 abbrev pub zero_loc : Location
 zero_loc = record { addr = 0; len = 0 }
 
--- what an option holds, or zeros
-abbrev pub or_zero : Option ℕ → ℕ
-or_zero none = 0
-or_zero (some n) = n
+-- what a map or a search of the definitions has, as the code's Option
+abbrev pub told : {A : Type 0} → maybe.Option A → Option A
+told maybe.none = None
+told (maybe.some a) = Some a
 
-abbrev pub or_zeros : Option Location → Location
-or_zeros none = zero_loc
-or_zeros (some l) = l
+-- THE ONE FORM OF A CALL'S ANSWER: the result where ok holds, else the refusal
 
--- ONE DEFINITION FOR EACH FORM OF RESULT: answered where ok holds
+abbrev pub answered_when : {A : Type 0} → Bool → A → Result A Refused
+answered_when ok v = cond ok (Ok v) (Err Undefined)
 
-abbrev pub number_when : Bool → ℕ → Number
-number_when ok v = record { answer = cond ok 0 1; value = cond ok v 0 }
+-- of a call that asks only for a made device
+abbrev pub answered : {A : Type 0} → ℕ → A → Result A Refused
+answered d v = answered_when (made d) v
 
-abbrev pub flag_when : Bool → Bool → Flag
-flag_when ok b = record { answer = cond ok 0 1; yes = ok && b }
+-- of one that asks for `pre` too
+abbrev pub answered_if : {A : Type 0} → ℕ → Bool → A → Result A Refused
+answered_if d pre v = answered_when (made d && pre) v
 
-abbrev pub place_when : Bool → Location → Place
-place_when ok l = record { answer = cond ok 0 1; loc = cond ok l zero_loc }
+-- FOR WHOEVER TAKES A REFUSAL FOR NO, OR FOR 0 (`answered_yes` and `answered_number`, proofs/Results.antt)
 
-abbrev pub place_option_when : Bool → Option Location → PlaceOption
-place_option_when ok o = record { answer = cond ok 0 1; exists = ok && is_some o; loc = cond ok (or_zeros o) zero_loc }
+-- the question is answered by yes
+abbrev pub holds_on : ℕ → Bool → Bool
+holds_on d b = made d && b
 
-abbrev pub number_option_when : Bool → Option ℕ → NumberOption
-number_option_when ok o = record { answer = cond ok 0 1; exists = ok && is_some o; value = cond ok (or_zero o) 0 }
+abbrev pub number_on : ℕ → ℕ → ℕ
+number_on d v = cond (made d) v 0
 
-abbrev pub place_kind_when : Bool → Kind → PlaceKind
-place_kind_when ok k = record { answer = cond ok 0 1; kind = cond ok k kind.None }
+-- THE NUMBER OF AN ANSWER: 0, or 01's number of the refusal
 
--- CALLS THAT ASK ONLY FOR A MADE DEVICE
+abbrev pub refused_number : Refused → ℕ
+refused_number Undefined = 1
 
-abbrev pub number : ℕ → ℕ → Number
-number d v = number_when (made d) v
-
-abbrev pub flag : ℕ → Bool → Flag
-flag d b = flag_when (made d) b
-
-abbrev pub place : ℕ → Location → Place
-place d l = place_when (made d) l
-
-abbrev pub place_kind : ℕ → Kind → PlaceKind
-place_kind d k = place_kind_when (made d) k
-
-abbrev pub number_option : ℕ → Option ℕ → NumberOption
-number_option d o = number_option_when (made d) o
+abbrev pub answer_number : {A : Type 0} → Result A Refused → ℕ
+answer_number (Ok v) = 0
+answer_number (Err e) = refused_number e
 
 -- the running address of a walk over a device's blocks, which begins at what `first_node_addr` gives and grows by what `node_block_size` gives:
 -- 0 at each block where the device is not made
 abbrev pub running_on : ℕ → ℕ → ℕ
-running_on d k = (number d (running_addr (device_of d) k)).value
-
--- CALLS THAT ASK FOR `pre` TOO
-
-abbrev pub number_if : ℕ → Bool → ℕ → Number
-number_if d pre v = number_when (made d && pre) v
-
-abbrev pub flag_if : ℕ → Bool → Bool → Flag
-flag_if d pre b = flag_when (made d && pre) b
-
-abbrev pub place_if : ℕ → Bool → Location → Place
-place_if d pre l = place_when (made d && pre) l
-
-abbrev pub place_option_if : ℕ → Bool → Option Location → PlaceOption
-place_option_if d pre o = place_option_when (made d && pre) o
+running_on d k = number_on d (running_addr (device_of d) k)

@@ -30,8 +30,3 @@ pub record Good (w : Device) : Type 0 where
   pub sized : node_block_size w ≡ 0 → ⊥
   pub past : indirection_table2_addr w + indirection_table_max_length w ≤ first_node_addr w
   pub fits : node_blocks_end w < 2 ^ 64
-
--- what fetching a device's row gives
-pub record RowOf (d : ℕ) (w : Device) : Type 0 where
-  pub is : w ≡ device_of d
-  pub good : Good w

@@ -1,9 +1,11 @@
 // Upstream's DiskLayout as definitions: the types, a device's row, which places are valid, and the laws of the layout for any good
-// row. No code: `layout` has the calls, each of which is proved to return what is defined here.
+// row. The only code is the number of a refusal: `layout` has the calls, each of which is proved to return what is defined here.
 #![tactic(auto)]
 
+ghost use Rattle.std.specs.Prelude.{◌≡◌};
+
 // A place on the device: len bytes from addr on. Upstream's Addr is a u64.
-#[derive(Clone, Copy, PartialEq, Eq)]
+#[derive(Clone, Copy, Debug, PartialEq, Eq)]
 pub struct Location {
     pub addr: u64,
     pub len: u64,
@@ -19,53 +21,31 @@ pub struct Device {
 }
 
 // What a place is (document 02, Q-5): upstream's five validity predicates as one answer. On a good row at most one of them holds.
-#[derive(Clone, Copy)]
+#[derive(Clone, Copy, Debug, PartialEq, Eq)]
 pub enum Kind {
     Superblock1,
     Superblock2,
     Journal,
     Table,
     Node,
-    None,
 }
 
-// What a call returns: its answer, 0 or 1, beside its result. Where the answer is 1 the rest is zeros.
-#[derive(Clone, Copy)]
-pub struct Number {
-    pub answer: u64,
-    pub value: u64,
+// Why a layout call has no result.
+#[derive(Clone, Copy, Debug, PartialEq, Eq)]
+pub enum Refused {
+    // There is no such device, what upstream requires fails, or the result doesn't fit 64 bits.
+    Undefined,
 }
 
-#[derive(Clone, Copy)]
-pub struct Flag {
-    pub answer: u64,
-    pub yes: bool,
-}
+// Document 01's number of it.
+impl From<Refused> for u64 {
+    ghost use Rattle.disklayout.specs.Calls.{refused_number};
 
-#[derive(Clone, Copy)]
-pub struct Place {
-    pub answer: u64,
-    pub loc: Location,
-}
+    ghost from_gives = { λ refused n. n ≡ refused_number refused };
 
-// 01's form of an Option is a flag beside the thing, which is zeros where the flag is false.
-#[derive(Clone, Copy)]
-pub struct PlaceOption {
-    pub answer: u64,
-    pub exists: bool,
-    pub loc: Location,
-}
-
-#[derive(Clone, Copy)]
-pub struct NumberOption {
-    pub answer: u64,
-    pub exists: bool,
-    pub value: u64,
-}
-
-// Where the answer is 1 the kind is none.
-#[derive(Clone, Copy)]
-pub struct PlaceKind {
-    pub answer: u64,
-    pub kind: Kind,
+    fn from(refused: Refused) -> u64 {
+        match refused {
+            Refused::Undefined => 1,
+        }
+    }
 }

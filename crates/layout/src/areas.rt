@@ -1,11 +1,11 @@
-// Where the areas lie and which addresses are theirs, over any good row.
+// Where the areas lie and which addresses are theirs.
 ghost use Rattle.std.specs.Prelude.{◌≡◌};
-ghost use Rattle.disklayout.specs.Device.{Good};
 ghost use Rattle.disklayout.specs.Layout.{indirection_table1_addr, indirection_table2_addr, other_indirection_table_addr};
-ghost use Rattle.disklayout.specs.Layout.{valid_indirection_table_addr, valid_node_addr, same_loc};
+ghost use Rattle.disklayout.specs.Layout.{valid_indirection_table_addr, valid_node_addr};
 ghost use Rattle.disklayout.specs.Blocks.{first_node_addr};
 
-use disklayout::{Device, Location};
+use crate::rows::GoodRow;
+use disklayout::Location;
 
 pub(crate) const PAGE: u64 = 4096;
 
@@ -18,57 +18,47 @@ pub(crate) const SUPERBLOCK2: Location = Location {
     len: 4096,
 };
 
-// Table area 1 begins where the journal ends.
-pub(crate) fn table1(w: Device) -> u64
-    requires { Good w }
-    ensures { result ≡ indirection_table1_addr w }
-{
-    JOURNAL_START + w.journal * PAGE
-}
+impl GoodRow {
+    // Table area 1 begins where the journal ends.
+    pub(crate) fn table1(self) -> u64
+        ensures { result ≡ indirection_table1_addr self.numbers }
+    {
+        JOURNAL_START + self.numbers.journal * PAGE
+    }
 
-pub(crate) fn table2(w: Device) -> u64
-    requires { Good w }
-    ensures { result ≡ indirection_table2_addr w }
-{
-    table1(w) + w.table
-}
+    pub(crate) fn table2(self) -> u64
+        ensures { result ≡ indirection_table2_addr self.numbers }
+    {
+        self.table1() + self.numbers.table
+    }
 
-pub(crate) fn other_table(w: Device, addr: u64) -> u64
-    requires { Good w }
-    ensures { result ≡ other_indirection_table_addr w addr }
-{
-    let one = table1(w);
-    let two = table2(w);
-    let first = addr == one;
-    if first { two } else { one }
-}
+    pub(crate) fn other_table(self, addr: u64) -> u64
+        ensures { result ≡ other_indirection_table_addr self.numbers addr }
+    {
+        if addr == self.table1() {
+            self.table2()
+        } else {
+            self.table1()
+        }
+    }
 
-pub(crate) fn first_node(w: Device) -> u64
-    requires { Good w }
-    ensures { result ≡ first_node_addr w }
-{
-    w.block * w.first
-}
+    pub(crate) fn first_node(self) -> u64
+        ensures { result ≡ first_node_addr self.numbers }
+    {
+        self.numbers.block * self.numbers.first
+    }
 
-pub(crate) fn is_table_addr(w: Device, addr: u64) -> bool
-    requires { Good w }
-    ensures { result ≡ valid_indirection_table_addr w addr }
-{
-    let one = table1(w);
-    let two = table2(w);
-    (addr == one) | (addr == two)
-}
+    #[tactic(auto, unfolding(disklayout::specs::Layout::valid_indirection_table_addr))]
+    pub(crate) fn is_table_addr(self, addr: u64) -> bool
+        ensures { result ≡ valid_indirection_table_addr self.numbers addr }
+    {
+        (addr == self.table1()) | (addr == self.table2())
+    }
 
-pub(crate) fn is_node_addr(w: Device, addr: u64) -> bool
-    requires { Good w }
-    ensures { result ≡ valid_node_addr w addr }
-{
-    let first = first_node(w);
-    (addr % w.block == 0) & (first <= addr)
-}
-
-pub fn same_loc(a: Location, b: Location) -> bool
-    ensures { result ≡ same_loc a b }
-{
-    (a.addr == b.addr) & (a.len == b.len)
+    #[tactic(auto, unfolding(disklayout::specs::Layout::valid_node_addr))]
+    pub(crate) fn is_node_addr(self, addr: u64) -> bool
+        ensures { result ≡ valid_node_addr self.numbers addr }
+    {
+        (addr % self.numbers.block == 0) & (self.first_node() <= addr)
+    }
 }

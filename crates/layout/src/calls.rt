@@ -1,6 +1,6 @@
 // The calls on addresses, and on places against each other.
 ghost use Rattle.std.specs.Prelude.{◌≡◌};
-ghost use Rattle.disklayout.specs.Calls.{number, flag, place};
+ghost use Rattle.disklayout.specs.Calls.{answered};
 ghost use Rattle.disklayout.specs.Device.{device_of};
 ghost use Rattle.disklayout.specs.Layout.{num_journal_blocks, indirection_table_max_length, node_block_size, min_node_block_index};
 ghost use Rattle.disklayout.specs.Layout.{indirection_table1_addr, indirection_table2_addr, journal_start_addr, journal_end_addr};
@@ -8,116 +8,102 @@ ghost use Rattle.disklayout.specs.Layout.{valid_indirection_table_addr, valid_no
 ghost use Rattle.disklayout.specs.Layout.{location_sub, other_indirection_table_addr};
 ghost use Rattle.disklayout.specs.Layout.{overlap as Layout·overlap};
 
-use crate::answers::{flag_when, number_when, place_when};
-use crate::areas::*;
+use crate::areas::{JOURNAL_START, SUPERBLOCK1, SUPERBLOCK2};
 use crate::rows::row;
 use crate::sums::{is_part, overlaps};
-use disklayout::{Flag, Location, Number, Place};
+use disklayout::{Location, Refused};
 
-pub fn num_journal_blocks(device: u64) -> Number
-    ensures { result ≡ number device (num_journal_blocks (device_of device)) }
+pub fn num_journal_blocks(device: u64) -> Result<u64, Refused>
+    ensures { result ≡ answered device (num_journal_blocks (device_of device)) }
 {
-    let w = row(device);
-    number_when(device <= 2, w.journal)
+    Ok(row(device)?.numbers.journal)
 }
 
-pub fn indirection_table_max_length(device: u64) -> Number
-    ensures { result ≡ number device (indirection_table_max_length (device_of device)) }
+pub fn indirection_table_max_length(device: u64) -> Result<u64, Refused>
+    ensures { result ≡ answered device (indirection_table_max_length (device_of device)) }
 {
-    let w = row(device);
-    number_when(device <= 2, w.table)
+    Ok(row(device)?.numbers.table)
 }
 
-pub fn node_block_size(device: u64) -> Number
-    ensures { result ≡ number device (node_block_size (device_of device)) }
+pub fn node_block_size(device: u64) -> Result<u64, Refused>
+    ensures { result ≡ answered device (node_block_size (device_of device)) }
 {
-    let w = row(device);
-    number_when(device <= 2, w.block)
+    Ok(row(device)?.numbers.block)
 }
 
-pub fn min_node_block_index(device: u64) -> Number
-    ensures { result ≡ number device (min_node_block_index (device_of device)) }
+pub fn min_node_block_index(device: u64) -> Result<u64, Refused>
+    ensures { result ≡ answered device (min_node_block_index (device_of device)) }
 {
-    let w = row(device);
-    number_when(device <= 2, w.first)
+    Ok(row(device)?.numbers.first)
 }
 
-pub fn indirection_table1_addr(device: u64) -> Number
-    ensures { result ≡ number device (indirection_table1_addr (device_of device)) }
+pub fn indirection_table1_addr(device: u64) -> Result<u64, Refused>
+    ensures { result ≡ answered device (indirection_table1_addr (device_of device)) }
 {
-    let w = row(device);
-    let addr = table1(w);
-    number_when(device <= 2, addr)
+    Ok(row(device)?.table1())
 }
 
-pub fn indirection_table2_addr(device: u64) -> Number
-    ensures { result ≡ number device (indirection_table2_addr (device_of device)) }
+pub fn indirection_table2_addr(device: u64) -> Result<u64, Refused>
+    ensures { result ≡ answered device (indirection_table2_addr (device_of device)) }
 {
-    let w = row(device);
-    let addr = table2(w);
-    number_when(device <= 2, addr)
+    Ok(row(device)?.table2())
 }
 
-pub fn journal_start_addr(device: u64) -> Number
-    ensures { result ≡ number device (journal_start_addr) }
+pub fn journal_start_addr(device: u64) -> Result<u64, Refused>
+    ensures { result ≡ answered device journal_start_addr }
 {
-    number_when(device <= 2, JOURNAL_START)
+    row(device)?;
+    Ok(JOURNAL_START)
 }
 
-pub fn journal_end_addr(device: u64) -> Number
-    ensures { result ≡ number device (journal_end_addr (device_of device)) }
+pub fn journal_end_addr(device: u64) -> Result<u64, Refused>
+    ensures { result ≡ answered device (journal_end_addr (device_of device)) }
 {
-    let w = row(device);
-    let addr = table1(w);
-    number_when(device <= 2, addr)
+    Ok(row(device)?.table1())
 }
 
-pub fn other_indirection_table_addr(device: u64, addr: u64) -> Number
-    ensures { result ≡ number device (other_indirection_table_addr (device_of device) addr) }
+pub fn other_indirection_table_addr(device: u64, addr: u64) -> Result<u64, Refused>
+    ensures { result ≡ answered device (other_indirection_table_addr (device_of device) addr) }
 {
-    let w = row(device);
-    let other = other_table(w, addr);
-    number_when(device <= 2, other)
+    Ok(row(device)?.other_table(addr))
 }
 
-pub fn valid_indirection_table_addr(device: u64, addr: u64) -> Flag
-    ensures { result ≡ flag device (valid_indirection_table_addr (device_of device) addr) }
+pub fn valid_indirection_table_addr(device: u64, addr: u64) -> Result<bool, Refused>
+    ensures { result ≡ answered device (valid_indirection_table_addr (device_of device) addr) }
 {
-    let w = row(device);
-    let yes = is_table_addr(w, addr);
-    flag_when(device <= 2, yes)
+    Ok(row(device)?.is_table_addr(addr))
 }
 
-pub fn valid_node_addr(device: u64, addr: u64) -> Flag
-    ensures { result ≡ flag device (valid_node_addr (device_of device) addr) }
+pub fn valid_node_addr(device: u64, addr: u64) -> Result<bool, Refused>
+    ensures { result ≡ answered device (valid_node_addr (device_of device) addr) }
 {
-    let w = row(device);
-    let yes = is_node_addr(w, addr);
-    flag_when(device <= 2, yes)
+    Ok(row(device)?.is_node_addr(addr))
 }
 
-pub fn superblock1_location(device: u64) -> Place
-    ensures { result ≡ place device superblock1_location }
+pub fn superblock1_location(device: u64) -> Result<Location, Refused>
+    ensures { result ≡ answered device superblock1_location }
 {
-    place_when(device <= 2, SUPERBLOCK1)
+    row(device)?;
+    Ok(SUPERBLOCK1)
 }
 
-pub fn superblock2_location(device: u64) -> Place
-    ensures { result ≡ place device superblock2_location }
+pub fn superblock2_location(device: u64) -> Result<Location, Refused>
+    ensures { result ≡ answered device superblock2_location }
 {
-    place_when(device <= 2, SUPERBLOCK2)
+    row(device)?;
+    Ok(SUPERBLOCK2)
 }
 
-pub fn overlap(device: u64, a: Location, b: Location) -> Flag
-    ensures { result ≡ flag device (Layout·overlap a b) }
+pub fn overlap(device: u64, a: Location, b: Location) -> Result<bool, Refused>
+    ensures { result ≡ answered device (Layout·overlap a b) }
 {
-    let yes = overlaps(a, b);
-    flag_when(device <= 2, yes)
+    row(device)?;
+    Ok(overlaps(a, b))
 }
 
-pub fn location_sub(device: u64, a: Location, b: Location) -> Flag
-    ensures { result ≡ flag device (location_sub a b) }
+pub fn location_sub(device: u64, a: Location, b: Location) -> Result<bool, Refused>
+    ensures { result ≡ answered device (location_sub a b) }
 {
-    let yes = is_part(a, b);
-    flag_when(device <= 2, yes)
+    row(device)?;
+    Ok(is_part(a, b))
 }

@@ -1,151 +1,125 @@
-// What a place is (document 02, Q-5): the one question that stands for upstream's five, over any good row and as a call. The tests of single
+// What a place is (document 02, Q-5): the one question that stands for upstream's five, on a row and as a call. The tests of single
 // kinds are private: whoever wants to know what a place is asks for its kind, a walk over the blocks for the kind at a node address.
-ghost use Rattle.std.specs.Prelude.{◌≡◌, eqb};
-ghost use Rattle.disklayout.specs.Calls.{place_kind, flag};
-ghost use Rattle.disklayout.specs.Device.{Good, device_of};
-ghost use Rattle.disklayout.specs.Kinds.{kind_of, kind_at_node, kind_number};
+ghost use Rattle.std.specs.Prelude.{◌≡◌};
+ghost use Rattle.disklayout.specs.Calls.{answered, holds_on};
+ghost use Rattle.disklayout.specs.Device.{device_of};
+ghost use Rattle.disklayout.specs.Kinds.{kind_of, kind_at_node, kind_holds, kind_number};
 ghost use Rattle.disklayout.specs.Layout.{valid_journal_location, valid_indirection_table_location};
 ghost use Rattle.disklayout.specs.Layout.{valid_superblock_location, valid_location};
 
-use crate::answers::{flag_when, kind_when};
-use crate::areas::{
-    JOURNAL_START, PAGE, SUPERBLOCK1, SUPERBLOCK2, first_node, is_node_addr, is_table_addr,
-    same_loc, table1,
-};
-use crate::rows::row;
+use crate::areas::{JOURNAL_START, PAGE, SUPERBLOCK1, SUPERBLOCK2};
+use crate::rows::{GoodRow, row};
 use crate::sums::sum_within;
-use disklayout::{Device, Flag, Kind, Location, PlaceKind};
+use disklayout::{Kind, Location, Refused};
 
-// Document 02's numbers of the kinds.
-const SUPERBLOCK1_KIND: u64 = 1;
-
-const SUPERBLOCK2_KIND: u64 = 2;
-
-pub(crate) const JOURNAL_KIND: u64 = 3;
-
-pub const TABLE_KIND: u64 = 4;
-
-pub const NODE_KIND: u64 = 5;
-
-// The number of a kind: 1 to 5, and 0 for none.
-pub fn kind_number(kind: Kind) -> u64
+// Document 02's number of a kind: 1 to 5, and 0 for none.
+#[tactic(auto, unfolding(disklayout::specs::Kinds::kind_number))]
+pub fn kind_number(kind: Option<Kind>) -> u64
     ensures { result ≡ kind_number kind }
 {
     match kind {
-        Kind::Superblock1 => SUPERBLOCK1_KIND,
-        Kind::Superblock2 => SUPERBLOCK2_KIND,
-        Kind::Journal => JOURNAL_KIND,
-        Kind::Table => TABLE_KIND,
-        Kind::Node => NODE_KIND,
-        Kind::None => 0,
+        Some(Kind::Superblock1) => 1,
+        Some(Kind::Superblock2) => 2,
+        Some(Kind::Journal) => 3,
+        Some(Kind::Table) => 4,
+        Some(Kind::Node) => 5,
+        None => 0,
     }
 }
 
-// Whether the answer of `kind_of` is the kind that has this number; a refused one is kind 0, none.
-pub fn is_kind(asked: PlaceKind, number: u64) -> bool
-    ensures { result ≡ eqb (kind_number asked.kind) number }
-{
-    let kind = asked.kind;
-    kind_number(kind) == number
-}
-
-// Upstream's index test, (addr - 2*4096) / 4096 < blocks, is addr < end; and its test that the sum fits 64 bits follows from the
-// last one, as the end does.
-fn is_journal(w: Device, loc: Location) -> bool
-    requires { Good w }
-    ensures { result ≡ valid_journal_location w loc }
-{
-    let end = table1(w);
-    let inside = sum_within(loc.addr, loc.len, end, 0);
-    let aligned = (loc.addr % PAGE == 0) & (loc.len % PAGE == 0);
-    aligned & (JOURNAL_START <= loc.addr) & (loc.addr < end) & inside
-}
-
-fn is_table(w: Device, loc: Location) -> bool
-    requires { Good w }
-    ensures { result ≡ valid_indirection_table_location w loc }
-{
-    let there = is_table_addr(w, loc.addr);
-    there & (0 < loc.len) & (loc.len <= w.table)
-}
-
-// The kind of a place of this length at a node address. Who has come upon the address by a walk over the blocks asks this: the address isn't
-// tested again, and no remainder is taken.
-pub(crate) fn kind_at_node(w: Device, len: u64) -> Kind
-    ensures { result ≡ kind_at_node w len }
-{
-    if len <= w.block {
-        Kind::Node
-    } else {
-        Kind::None
+impl GoodRow {
+    // Upstream's index test, (addr - 2*4096) / 4096 < blocks, is addr < end; and its test that the sum fits 64 bits follows from the
+    // last one, as the end does.
+    #[tactic(auto, using(disklayout::proofs::Facts::journal_short))]
+    fn is_journal(self, loc: Location) -> bool
+        ensures { result ≡ valid_journal_location self.numbers loc }
+    {
+        let end = self.table1();
+        let inside = sum_within(loc.addr, loc.len, end, 0);
+        let aligned = (loc.addr % PAGE == 0) & (loc.len % PAGE == 0);
+        aligned & (JOURNAL_START <= loc.addr) & (loc.addr < end) & inside
     }
-}
 
-// The kinds lie one behind the other on a device, so the address leaves one or two of them to be tested. A place of zeros, as a table's
-// reference without a location has, is told by comparisons alone; the remainder by the block size is taken only at or past the first node
-// address.
-pub(crate) fn kind_in(w: Device, loc: Location) -> Kind
-    requires { Good w }
-    ensures { result ≡ kind_of w loc }
-{
-    if loc.addr < JOURNAL_START {
-        let one = same_loc(loc, SUPERBLOCK1);
-        if one {
-            return Kind::Superblock1;
+    #[tactic(auto, unfolding(disklayout::specs::Layout::valid_indirection_table_location))]
+    fn is_table(self, loc: Location) -> bool
+        ensures { result ≡ valid_indirection_table_location self.numbers loc }
+    {
+        self.is_table_addr(loc.addr) & (0 < loc.len) & (loc.len <= self.numbers.table)
+    }
+
+    // The kind of a place of this length at a node address. Who has come upon the address by a walk over the blocks asks this: the address isn't
+    // tested again, and no remainder is taken.
+    pub(crate) fn kind_at_node(self, len: u64) -> Option<Kind>
+        ensures { result ≡ kind_at_node self.numbers len }
+    {
+        if len <= self.numbers.block {
+            Some(Kind::Node)
+        } else {
+            None
         }
-        let two = same_loc(loc, SUPERBLOCK2);
-        return if two { Kind::Superblock2 } else { Kind::None };
     }
-    let first = first_node(w);
-    if first <= loc.addr {
-        let node = is_node_addr(w, loc.addr);
-        if node {
-            return kind_at_node(w, loc.len);
+
+    // The kinds lie one behind the other on a device, so the address leaves one or two of them to be tested. A place of zeros, as a table's
+    // reference without a location has, is told by comparisons alone; the remainder by the block size is taken only at or past the first node
+    // address.
+    pub(crate) fn kind(self, loc: Location) -> Option<Kind>
+        ensures { result ≡ kind_of self.numbers loc }
+    {
+        if loc.addr < JOURNAL_START {
+            return if loc == SUPERBLOCK1 {
+                Some(Kind::Superblock1)
+            } else if loc == SUPERBLOCK2 {
+                Some(Kind::Superblock2)
+            } else {
+                None
+            };
         }
-        return Kind::None;
+        if self.first_node() <= loc.addr {
+            return if self.is_node_addr(loc.addr) {
+                self.kind_at_node(loc.len)
+            } else {
+                None
+            };
+        }
+        if self.is_journal(loc) {
+            Some(Kind::Journal)
+        } else if self.is_table(loc) {
+            Some(Kind::Table)
+        } else {
+            None
+        }
     }
-    let journal = is_journal(w, loc);
-    if journal {
-        return Kind::Journal;
-    }
-    let table = is_table(w, loc);
-    if table { Kind::Table } else { Kind::None }
 }
 
-// The number of a place's kind, over any good row.
-pub(crate) fn number_in(w: Device, loc: Location) -> u64
-    requires { Good w }
-    ensures { result ≡ kind_number (kind_of w loc) }
+// What a place is on a device; refused where no such device is made.
+pub fn kind_of(device: u64, loc: Location) -> Result<Option<Kind>, Refused>
+    ensures { result ≡ answered device (kind_of (device_of device) loc) }
 {
-    let kind = kind_in(w, loc);
-    kind_number(kind)
+    Ok(row(device)?.kind(loc))
 }
 
-// What a place is on a device; 1 and none where no such device is made.
-pub fn kind_of(device: u64, loc: Location) -> PlaceKind
-    ensures { result ≡ place_kind device (kind_of (device_of device) loc) }
+// Whether a place is of this kind on a device; it is of none where no such device is made.
+pub fn is_kind(device: u64, loc: Location, kind: Kind) -> bool
+    ensures { result ≡ holds_on device (kind_holds kind (device_of device) loc) }
 {
-    let w = row(device);
-    let kind = kind_in(w, loc);
-    kind_when(device <= 2, kind)
+    kind_of(device, loc) == Ok(Some(kind))
 }
 
 // Of one superblock or the other.
-pub fn valid_superblock_location(device: u64, loc: Location) -> Flag
-    ensures { result ≡ flag device (valid_superblock_location loc) }
+#[tactic(auto, using(crate::proofs::Asked::superblock_asked), unfolding(disklayout::specs::Layout::valid_superblock_location))]
+pub fn valid_superblock_location(device: u64, loc: Location) -> Result<bool, Refused>
+    ensures { result ≡ answered device (valid_superblock_location loc) }
 {
-    let w = row(device);
-    let number = number_in(w, loc);
-    let yes = (number == SUPERBLOCK1_KIND) | (number == SUPERBLOCK2_KIND);
-    flag_when(device <= 2, yes)
+    let row = row(device)?;
+    let kind = row.kind(loc);
+    Ok((kind == Some(Kind::Superblock1)) | (kind == Some(Kind::Superblock2)))
 }
 
 // Of any kind.
-pub fn valid_location(device: u64, loc: Location) -> Flag
-    ensures { result ≡ flag device (valid_location (device_of device) loc) }
+#[tactic(auto, using(crate::proofs::Asked::kind_some))]
+pub fn valid_location(device: u64, loc: Location) -> Result<bool, Refused>
+    ensures { result ≡ answered device (valid_location (device_of device) loc) }
 {
-    let w = row(device);
-    let number = number_in(w, loc);
-    let yes = !(number == 0);
-    flag_when(device <= 2, yes)
+    let row = row(device)?;
+    Ok(row.kind(loc).is_some())
 }

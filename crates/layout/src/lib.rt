@@ -1,11 +1,9 @@
 // Upstream's DiskLayout: where on a device the superblocks, the journal, the two table areas and the node blocks lie, and which
 // places are valid. Each function and predicate of the module is a call that names its device, but for the five predicates of a place's
-// kind, which are one call, `kind_of`. A call returns 0 with its result, or 1 with zeros (none for a kind): a device above 2, a failed
-// upstream `requires`, a result past 64 bits. Three ask about nothing on a device and name none: equality of two locations, the number of a
-// kind, and whether an answer is the kind of a number. No call has a `requires`.
+// kind, which are one call, `kind_of`. A call returns its result, or refuses: a device above 2, a failed upstream `requires`, a result past
+// 64 bits. `is_kind` takes a refusal for no; the number of a kind asks about nothing on a device and names none. No call has a `requires`.
 #![tactic(auto)]
 
-mod answers;
 mod areas;
 mod blocks;
 mod calls;
@@ -14,7 +12,6 @@ mod kinds;
 mod rows;
 mod sums;
 
-pub use areas::same_loc;
 pub use blocks::{
     first_node_addr, node_block_addr, node_block_by_division, node_block_by_walk, node_blocks_end,
     node_place, node_place_length, table_area_of, table_place_in,
@@ -30,6 +27,4 @@ pub use journal::{
     journal_pos_add, journal_range_location, loc_contained_in_circular_journal_range,
     loc_disjoint_from_circular_journal_range,
 };
-pub use kinds::{
-    NODE_KIND, TABLE_KIND, is_kind, kind_number, kind_of, valid_location, valid_superblock_location,
-};
+pub use kinds::{is_kind, kind_number, kind_of, valid_location, valid_superblock_location};

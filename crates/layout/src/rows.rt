@@ -1,9 +1,10 @@
-// The devices that are made, and fetching a row.
-ghost use Rattle.disklayout.specs.Device.{RowOf};
+// The devices that are made, and the row of one.
+ghost use Rattle.std.specs.Prelude.{◌≡◌, true, false, MatchResult};
+ghost use Rattle.disklayout.specs.Device.{Good, device_of, made};
 
-use disklayout::Device;
+use disklayout::{Device, Refused};
 
-// Document 01's table. A const array of structs is accepted, so the rows stand as 01 has them.
+// Document 01's table, row by row as it stands there.
 const DEVICES: [Device; 3] = [
     Device {
         journal: 16,
@@ -25,13 +26,21 @@ const DEVICES: [Device; 3] = [
     },
 ];
 
-// The row of a device. Past the table it is row 0, whose results no call hands out: so the arithmetic always has a good row.
-pub(crate) fn row(device: u64) -> Device
-    ensures { RowOf device result }
+// A good row of numbers: no sum or product on the way to an address in the areas or blocks passes 64 bits, and no divisor is 0.
+#[derive(Clone, Copy)]
+pub(crate) struct GoodRow {
+    pub(crate) numbers: Device,
+    ghost good: { Good numbers },
+}
+
+// The row of a device that is made.
+pub(crate) fn row(device: u64) -> Result<GoodRow, Refused>
+    ensures { MatchResult result (λ r. (made device ≡ true) × (r.numbers ≡ device_of device)) (λ _. made device ≡ false) }
 {
-    if device <= 2 {
-        DEVICES[device as usize]
-    } else {
-        DEVICES[0]
+    if device > 2 {
+        return Err(Refused::Undefined);
     }
+    Ok(GoodRow {
+        numbers: DEVICES[device as usize],
+    })
 }

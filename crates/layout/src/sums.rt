@@ -36,6 +36,7 @@ pub(crate) fn sum_within(a: u64, b: u64, c: u64, d: u64) -> bool
     b <= room
 }
 
+#[tactic(auto, unfolding(disklayout::specs::Layout::overlap))]
 pub(crate) fn overlaps(a: Location, b: Location) -> bool
     ensures { result ≡ Layout·overlap a b }
 {
@@ -44,6 +45,7 @@ pub(crate) fn overlaps(a: Location, b: Location) -> bool
     one & two
 }
 
+#[tactic(auto, unfolding(disklayout::specs::Layout::location_sub))]
 pub(crate) fn is_part(a: Location, b: Location) -> bool
     ensures { result ≡ location_sub a b }
 {

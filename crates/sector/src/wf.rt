@@ -4,16 +4,14 @@ ghost use Rattle.sectortype.specs.Graph.{loc_ok, locs_valid, locs_in_graph, locs
 ghost use Rattle.sectortype.specs.Graph.{wf_complete_indirection_table};
 
 use crate::graph::graph_closed;
-use layout::NODE_KIND;
+use disklayout::Kind;
 use sectortype::{Entry, Table};
 
+#[tactic(auto, unfolding(disklayout::specs::Kinds::kind_holds))]
 fn loc_ok(device: u64, e: Entry) -> bool
     ensures { result ≡ loc_ok device e }
 {
-    let loc = e.loc;
-    let asked = layout::kind_of(device, loc);
-    let valid = layout::is_kind(asked, NODE_KIND);
-    !e.located | valid
+    !e.located | layout::is_kind(device, e.loc, Kind::Node)
 }
 
 // Every location is a ValidNodeLocation.

@@ -1,7 +1,7 @@
 -- Upstream's questions about a table and its graph.
 use Rattle.std.specs.Prelude.{ℕ, Bool, ◌&&◌, ◌||◌, not, eqb, ltb}
 use Rattle.base.specs.Scan.{all_below, some_below}
-use Rattle.disklayout.specs.Calls.{flag}
+use Rattle.disklayout.specs.Calls.{holds_on}
 use Rattle.disklayout.specs.Device.{device_of}
 use Rattle.disklayout.specs.Layout.{valid_node_location}
 use Rattle.sectortype.specs.Form.{entry_at, succ_at}
@@ -57,7 +57,7 @@ unfoldable pub distinct_addrs : Table → Bool
 distinct_addrs t = all_below (λ r. apart_from t r (entry_at t r)) 64
 
 abbrev pub loc_ok : ℕ → Entry → Bool
-loc_ok d e = not e.located || (flag d (valid_node_location (device_of d) e.loc)).yes
+loc_ok d e = not e.located || holds_on d (valid_node_location (device_of d) e.loc)
 
 -- forall loc in locs.Values: ValidNodeLocation(loc); on a device that is not made no place is valid
 unfoldable pub locs_valid : ℕ → Table → Bool

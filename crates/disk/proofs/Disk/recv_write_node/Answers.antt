@@ -10,9 +10,9 @@ use Rattle.disk.proofs.Disk.recv_write_node.Goals as goal
 pub returns-in_err-s : goal.returns-in_err-s
 returns-in_err-s c =
     let r : c.from_residual.result ≡ Err c.in_err-s.field-0.0 = search rules in
-    asked_no _ _ _ _ _ _ (ap (λ x. x.yes) c.node_place-allowed.ensures) (sym c.ask.ensures ∙ c.in_err-s.was) r
+    asked_no _ _ _ _ _ _ (c.node_allowed-allowed.ensures) (sym c.ask.ensures ∙ c.in_err-s.was) r
 
 pub returns : goal.returns
 returns c =
     let s = c.args.self.state in
-    asked_yes _ _ _ _ (λ q. with_records (with_queues s (with_node_writes s.queues q)) (with_node c.args.self.device s.records c.args.loc c.args.node)) s (ap (λ x. x.yes) c.node_place-allowed.ensures) (sym c.ask.ensures ∙ c.in_ok-s.was) (ap (λ r. record { records = r; queues = with_node_writes s.queues c.in_ok-s.field-0; rule = s.rule }) c.with_node-s.ensures)
+    asked_yes _ _ _ _ (λ q. with_records (with_queues s (with_node_writes s.queues q)) (with_node c.args.self.device s.records c.args.loc c.args.node)) s (c.node_allowed-allowed.ensures) (sym c.ask.ensures ∙ c.in_ok-s.was) (ap (λ r. record { records = r; queues = with_node_writes s.queues c.in_ok-s.field-0; rule = s.rule }) c.with_node-s.ensures)

@@ -8,7 +8,7 @@ pub returns-then-there : goal.returns-then-there
 unfolding node_record_checked
 returns-then-there c = λ k h e.
     let a = c.args in
-    simp (c.if-there.true, and-true, place_on a.device k a.r.loc h e c.node_place_length-may.ensures, c.node_form-form.ensures)
+    simp (c.if-there.true, and-true, place_on a.device k a.r.loc h e c.node_place_length.ensures c.unwrap_or-may.ensures, c.node_form-form.ensures)
 
 pub returns : goal.returns
 unfolding node_record_checked

@@ -1,0 +1,2 @@
+-- What several functions' proofs need.
+pub mod Asked
