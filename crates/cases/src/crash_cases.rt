@@ -1,7 +1,7 @@
 // A crash of the disk: 19 unless the records offered are possible, 1 where one is not in its written form.
 use blockdisk::{Queues, Records};
 use fixtures::show::{crash_answer, line, pair};
-use fixtures::{
+use fixtures::{Queued, 
     AREA1, AREA2, BLOCK0, BLOCK1, absent_node_record, at, high_leaf, leaf, node_record, one,
     put_node, put_table, queues_with, stored, table_record, two_entries,
 };
@@ -86,26 +86,26 @@ fn tables(out: &mut Output, name: &[u8], queues: Queues) {
     pair(out, name, b"puts_the_table_into_another_area", d);
 }
 
-// One request of a kind in its queue at this address.
-fn outstanding(kind: u64, addr: u64) -> Queues {
+// One request in one of the queues, at this address.
+fn outstanding(which: Queued, addr: u64) -> Queues {
     let loc = at(addr, 4096);
     let q = one(1, 0, loc);
-    queues_with(kind, q)
+    queues_with(which, q)
 }
 
 // Only a write to that very block or area lets a record go.
 fn each_queue(out: &mut Output) {
     let none = disk::empty_queues();
-    let read = outstanding(2, BLOCK0);
-    let other = outstanding(4, BLOCK1);
-    let write = outstanding(4, BLOCK0);
+    let read = outstanding(Queued::NodeReads, BLOCK0);
+    let other = outstanding(Queued::NodeWrites, BLOCK1);
+    let write = outstanding(Queued::NodeWrites, BLOCK0);
     nodes(out, b"crash_with_nothing_outstanding", none);
     nodes(out, b"crash_with_a_read_of_the_block", read);
     nodes(out, b"crash_with_a_write_to_another_block", other);
     nodes(out, b"crash_with_a_write_to_the_block", write);
-    let tableread = outstanding(1, AREA1);
-    let tableother = outstanding(3, AREA2);
-    let tablewrite = outstanding(3, AREA1);
+    let tableread = outstanding(Queued::TableReads, AREA1);
+    let tableother = outstanding(Queued::TableWrites, AREA2);
+    let tablewrite = outstanding(Queued::TableWrites, AREA1);
     tables(out, b"crash_with_nothing_outstanding", none);
     tables(out, b"crash_with_a_read_of_the_area", tableread);
     tables(out, b"crash_with_a_write_to_the_other_area", tableother);

@@ -1,87 +1,73 @@
-// The disk's numbers 15, 16, 17 and 18. A kind is 1 table read, 2 node read, 3 table write, 4 node write.
+// The disk's numbers 15, 16, 17 and 18. Each is asked of each of the four queues.
 use blockdisk::{Brought, DiskCall, DiskOp, DiskState, Queues};
 use disk::Disk;
 use disklayout::Location;
 use fixtures::show::{disk_answer, disk_brings, line, pair};
-use fixtures::{AREA1, AREA2, BLOCK0, at, high_leaf, leaf, queue_of, stored, storing, two_entries};
+use fixtures::{Queued, AREA1, AREA2, BLOCK0, at, high_leaf, leaf, queue_of, stored, storing, two_entries};
 use output::Output;
 use queue::{Request, Requests};
 use sectortype::{Node, Table};
 
-fn request_of(kind: u64, id: u64, loc: Location) -> DiskOp {
-    match kind {
-        1 => DiskOp::ReqReadIndirectionTableOp(id, loc),
-        2 => DiskOp::ReqReadNodeOp(id, loc),
-        3 => DiskOp::ReqWriteIndirectionTableOp(id, loc),
-        _ => DiskOp::ReqWriteNodeOp(id, loc),
+fn request_of(which: Queued, id: u64, loc: Location) -> DiskOp {
+    match which {
+        Queued::TableReads => DiskOp::ReqReadIndirectionTableOp(id, loc),
+        Queued::NodeReads => DiskOp::ReqReadNodeOp(id, loc),
+        Queued::TableWrites => DiskOp::ReqWriteIndirectionTableOp(id, loc),
+        Queued::NodeWrites => DiskOp::ReqWriteNodeOp(id, loc),
     }
 }
 
 // A read answer brings nothing here.
-fn answer_of(kind: u64, id: u64) -> DiskOp {
-    match kind {
-        1 => DiskOp::RespReadIndirectionTableOp(id, Brought::Nothing),
-        2 => DiskOp::RespReadNodeOp(id, Brought::Nothing),
-        3 => DiskOp::RespWriteIndirectionTableOp(id),
-        _ => DiskOp::RespWriteNodeOp(id),
+fn answer_of(which: Queued, id: u64) -> DiskOp {
+    match which {
+        Queued::TableReads => DiskOp::RespReadIndirectionTableOp(id, Brought::Nothing),
+        Queued::NodeReads => DiskOp::RespReadNodeOp(id, Brought::Nothing),
+        Queued::TableWrites => DiskOp::RespWriteIndirectionTableOp(id),
+        Queued::NodeWrites => DiskOp::RespWriteNodeOp(id),
     }
 }
 
 // A place that 16 allows.
-fn allowed(kind: u64) -> Location {
-    if kind % 2 == 1 {
-        return at(AREA1, 4096);
+fn allowed(which: Queued) -> Location {
+    match which {
+        Queued::TableReads | Queued::TableWrites => at(AREA1, 4096),
+        Queued::NodeReads | Queued::NodeWrites => at(BLOCK0, 4096),
     }
-    at(BLOCK0, 4096)
 }
 
-fn pick(first: bool, a: u64, b: u64) -> u64 {
-    if first { a } else { b }
-}
-
-// So many in the kind's own queue, so many in each of the other three.
-fn filled(kind: u64, own: u64, others: u64) -> DiskState {
-    let a = pick(kind == 1, own, others);
-    let b = pick(kind == 2, own, others);
-    let c = pick(kind == 3, own, others);
-    let d = pick(kind == 4, own, others);
-    let table = at(AREA1, 4096);
-    let node = at(BLOCK0, 4096);
-    let p = queue_of(a, table);
-    let q = queue_of(b, node);
-    let r = queue_of(c, table);
-    let s = queue_of(d, node);
-    let queues = Queues {
-        tablereads: p,
-        nodereads: q,
-        tablewrites: r,
-        nodewrites: s,
+// So many in one queue, so many in each of the other three.
+fn filled(which: Queued, own: u64, others: u64) -> DiskState {
+    let size = |q: Queued| if q == which { own } else { others };
+    let full = |q: Queued| queue_of(size(q), allowed(q));
+    let mut disk = storing(disk::empty_records());
+    disk.queues = Queues {
+        tablereads: full(Queued::TableReads),
+        nodereads: full(Queued::NodeReads),
+        tablewrites: full(Queued::TableWrites),
+        nodewrites: full(Queued::NodeWrites),
     };
-    let records = disk::empty_records();
-    let mut disk = storing(records);
-    disk.queues = queues;
     disk
 }
 
 // A request at a place that 16 allows.
-fn asked(kind: u64, s: DiskState, id: u64) -> u64 {
-    let loc = allowed(kind);
-    let op = request_of(kind, id, loc);
+fn asked(which: Queued, s: DiskState, id: u64) -> u64 {
+    let loc = allowed(which);
+    let op = request_of(which, id, loc);
     disk_answer(s, op)
 }
 
 // 18 with sixteen in the request's own queue and none in the others, 0 with fifteen and sixteen in the others; 15 under an id of its
 // own queue, and before 18; 16 before 18.
-fn requests(out: &mut Output, name: &[u8], kind: u64) {
-    let full = filled(kind, 16, 0);
-    let room = filled(kind, 15, 16);
+fn requests(out: &mut Output, name: &[u8], which: Queued) {
+    let full = filled(which, 16, 0);
+    let room = filled(which, 15, 16);
     let nowhere = sector::zero_loc();
-    let wrong = request_of(kind, 99, nowhere);
-    let a = asked(kind, full, 99);
-    let b = asked(kind, room, 99);
-    let c = asked(kind, room, 15);
-    let d = asked(kind, room, 16);
-    let e = asked(kind, full, 1);
+    let wrong = request_of(which, 99, nowhere);
+    let a = asked(which, full, 99);
+    let b = asked(which, room, 99);
+    let c = asked(which, room, 15);
+    let d = asked(which, room, 16);
+    let e = asked(which, full, 1);
     let f = disk_answer(full, wrong);
     pair(out, name, b"with_sixteen_queued", a);
     pair(out, name, b"with_fifteen_queued", b);
@@ -92,11 +78,11 @@ fn requests(out: &mut Output, name: &[u8], kind: u64) {
 }
 
 // 15 where the id is not in the answer's own queue.
-fn answers(out: &mut Output, name: &[u8], kind: u64) {
-    let s = filled(kind, 15, 16);
-    let unknown = answer_of(kind, 99);
-    let other = answer_of(kind, 16);
-    let known = answer_of(kind, 15);
+fn answers(out: &mut Output, name: &[u8], which: Queued) {
+    let s = filled(which, 15, 16);
+    let unknown = answer_of(which, 99);
+    let other = answer_of(which, 16);
+    let known = answer_of(which, 15);
     let a = disk_answer(s, unknown);
     let b = disk_answer(s, other);
     let c = disk_answer(s, known);
@@ -106,20 +92,20 @@ fn answers(out: &mut Output, name: &[u8], kind: u64) {
 }
 
 // A request on an empty disk.
-fn edge(kind: u64, addr: u64, len: u64) -> u64 {
-    let s = filled(kind, 0, 0);
+fn edge(which: Queued, addr: u64, len: u64) -> u64 {
+    let s = filled(which, 0, 0);
     let loc = at(addr, len);
-    let op = request_of(kind, 1, loc);
+    let op = request_of(which, 1, loc);
     disk_answer(s, op)
 }
 
-fn table_edges(out: &mut Output, name: &[u8], kind: u64) {
-    let a = edge(kind, AREA1, 0);
-    let b = edge(kind, AREA1, 1);
-    let c = edge(kind, AREA1, 65536);
-    let d = edge(kind, AREA1, 65537);
-    let e = edge(kind, 73729, 1);
-    let f = edge(kind, AREA2, 1);
+fn table_edges(out: &mut Output, name: &[u8], which: Queued) {
+    let a = edge(which, AREA1, 0);
+    let b = edge(which, AREA1, 1);
+    let c = edge(which, AREA1, 65536);
+    let d = edge(which, AREA1, 65537);
+    let e = edge(which, 73729, 1);
+    let f = edge(which, AREA2, 1);
     pair(out, name, b"at_73728_length_0", a);
     pair(out, name, b"at_73728_length_1", b);
     pair(out, name, b"at_73728_length_65536", c);
@@ -128,15 +114,15 @@ fn table_edges(out: &mut Output, name: &[u8], kind: u64) {
     pair(out, name, b"at_139264_length_1", f);
 }
 
-fn node_edges(out: &mut Output, name: &[u8], kind: u64) {
-    let a = edge(kind, BLOCK0, 0);
-    let b = edge(kind, BLOCK0, 1);
-    let c = edge(kind, BLOCK0, 65536);
-    let d = edge(kind, BLOCK0, 65537);
-    let e = edge(kind, 196608, 1);
-    let f = edge(kind, 262145, 1);
-    let g = edge(kind, 8585216, 1);
-    let h = edge(kind, 8650752, 1);
+fn node_edges(out: &mut Output, name: &[u8], which: Queued) {
+    let a = edge(which, BLOCK0, 0);
+    let b = edge(which, BLOCK0, 1);
+    let c = edge(which, BLOCK0, 65536);
+    let d = edge(which, BLOCK0, 65537);
+    let e = edge(which, 196608, 1);
+    let f = edge(which, 262145, 1);
+    let g = edge(which, 8585216, 1);
+    let h = edge(which, 8650752, 1);
     pair(out, name, b"at_262144_length_0", a);
     pair(out, name, b"at_262144_length_1", b);
     pair(out, name, b"at_262144_length_65536", c);
@@ -222,17 +208,17 @@ fn brought(out: &mut Output) {
 }
 
 pub(crate) fn run(out: &mut Output) {
-    requests(out, b"table_read_request", 1);
-    requests(out, b"node_read_request", 2);
-    requests(out, b"table_write_request", 3);
-    requests(out, b"node_write_request", 4);
-    answers(out, b"table_read_answer", 1);
-    answers(out, b"node_read_answer", 2);
-    answers(out, b"table_write_answer", 3);
-    answers(out, b"node_write_answer", 4);
-    table_edges(out, b"table_read_request", 1);
-    table_edges(out, b"table_write_request", 3);
-    node_edges(out, b"node_read_request", 2);
-    node_edges(out, b"node_write_request", 4);
+    requests(out, b"table_read_request", Queued::TableReads);
+    requests(out, b"node_read_request", Queued::NodeReads);
+    requests(out, b"table_write_request", Queued::TableWrites);
+    requests(out, b"node_write_request", Queued::NodeWrites);
+    answers(out, b"table_read_answer", Queued::TableReads);
+    answers(out, b"node_read_answer", Queued::NodeReads);
+    answers(out, b"table_write_answer", Queued::TableWrites);
+    answers(out, b"node_write_answer", Queued::NodeWrites);
+    table_edges(out, b"table_read_request", Queued::TableReads);
+    table_edges(out, b"table_write_request", Queued::TableWrites);
+    node_edges(out, b"node_read_request", Queued::NodeReads);
+    node_edges(out, b"node_write_request", Queued::NodeWrites);
     brought(out);
 }

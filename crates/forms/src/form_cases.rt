@@ -5,7 +5,7 @@ use disklayout::Location;
 use fixtures::show::{
     cache_answer, cache_form, crash_answer, disk_brings, disk_form, internal, no_op_call, pair,
 };
-use fixtures::{
+use fixtures::{Queued, 
     AREA1, BLOCK0, BLOCK1, at, entry_at, entry_nowhere, node_record, put_node, put_table, queue_of,
     queued, ready, storing, table_record, two_entries, with_cached, with_ephemeral, with_frozen,
     with_persistent, with_reads, with_writes,
@@ -209,29 +209,42 @@ fn fifth_id(q: Requests, id: u64) -> Requests {
     next
 }
 
-// 1: ids 1, 7, 3; 2: ids 1, 1, 3; 3: a nonzero place past the count; 4: a count of 17; else in its form.
-fn queue_of_kind(kind: u64, loc: Location) -> Requests {
+// What is wrong with a queue.
+#[derive(Clone, Copy)]
+enum Wrong {
+    Nothing,
+    // Ids 1, 7, 3.
+    Order,
+    // Ids 1, 1, 3.
+    Twice,
+    // A nonzero place past the count.
+    Past,
+    // A count of 17.
+    Count,
+}
+
+fn queue_with(wrong: Wrong, loc: Location) -> Requests {
     let three = queue_of(3, loc);
     let mut many = queue_of(16, loc);
     many.count = 17;
-    match kind {
-        1 => second_id(three, 7),
-        2 => second_id(three, 1),
-        3 => fifth_id(three, 9),
-        4 => many,
-        _ => three,
+    match wrong {
+        Wrong::Nothing => three,
+        Wrong::Order => second_id(three, 7),
+        Wrong::Twice => second_id(three, 1),
+        Wrong::Past => fifth_id(three, 9),
+        Wrong::Count => many,
     }
 }
 
-fn queue_on_disk(out: &mut Output, name: &[u8], kind: u64) {
+fn queue_on_disk(out: &mut Output, name: &[u8], wrong: Wrong) {
     let table = at(AREA1, 4096);
     let node = at(BLOCK0, 4096);
-    let p = queue_of_kind(kind, table);
-    let q = queue_of_kind(kind, node);
-    let r = queued(1, p);
-    let s = queued(2, q);
-    let t = queued(3, p);
-    let u = queued(4, q);
+    let p = queue_with(wrong, table);
+    let q = queue_with(wrong, node);
+    let r = queued(Queued::TableReads, p);
+    let s = queued(Queued::NodeReads, q);
+    let t = queued(Queued::TableWrites, p);
+    let u = queued(Queued::NodeWrites, q);
     let a = disk_form(r);
     let b = disk_form(s);
     let c = disk_form(t);
@@ -242,13 +255,13 @@ fn queue_on_disk(out: &mut Output, name: &[u8], kind: u64) {
     pair(out, b"node_writes", name, d);
 }
 
-fn queue_everywhere(out: &mut Output, name: &[u8], kind: u64) {
-    queue_on_disk(out, name, kind);
+fn queue_everywhere(out: &mut Output, name: &[u8], wrong: Wrong) {
+    queue_on_disk(out, name, wrong);
     let c = ready();
     let loc = at(BLOCK0, 4096);
     let nowhere = sector::zero_loc();
-    let p = queue_of_kind(kind, loc);
-    let q = queue_of_kind(kind, nowhere);
+    let p = queue_with(wrong, loc);
+    let q = queue_with(wrong, nowhere);
     let writes = with_writes(c, p);
     let reads = with_reads(c, q);
     let a = cache_form(writes);
@@ -260,9 +273,9 @@ fn queue_everywhere(out: &mut Output, name: &[u8], kind: u64) {
 pub(crate) fn run(out: &mut Output) {
     lists(out);
     tables(out);
-    queue_everywhere(out, b"of_three", 0);
-    queue_everywhere(out, b"out_of_order", 1);
-    queue_everywhere(out, b"with_an_id_twice", 2);
-    queue_everywhere(out, b"with_a_nonzero_place_past_the_count", 3);
-    queue_everywhere(out, b"with_a_count_of_17", 4);
+    queue_everywhere(out, b"of_three", Wrong::Nothing);
+    queue_everywhere(out, b"out_of_order", Wrong::Order);
+    queue_everywhere(out, b"with_an_id_twice", Wrong::Twice);
+    queue_everywhere(out, b"with_a_nonzero_place_past_the_count", Wrong::Past);
+    queue_everywhere(out, b"with_a_count_of_17", Wrong::Count);
 }

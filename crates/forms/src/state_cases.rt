@@ -5,7 +5,7 @@ use cache::Cache;
 use disk::Disk;
 use disklayout::Location;
 use fixtures::show::{cache_answer, cache_form, disk_form, internal, line, no_op_call, pair};
-use fixtures::{
+use fixtures::{Queued, 
     AREA1, AREA2, BLOCK0, BLOCK1, RULE_1, absent_node_record, at, high_leaf, in_phase, leaf,
     marked_on, node_record, one, put_node, put_table, queued, ready, storing, table_record,
     two_entries, with_cached, with_ephemeral, with_frozen, with_frozen_place, with_persistent,
@@ -227,25 +227,25 @@ fn queue_place(
     out: &mut Output,
     name: &[u8],
     what: &[u8],
-    kind: u64,
+    which: Queued,
     reference: u8,
     loc: Location,
 ) {
     let q = one(1, reference, loc);
-    let s = queued(kind, q);
+    let s = queued(which, q);
     let a = disk_form(s);
     pair(out, name, what, a);
 }
 
 // A place that 16 forbids; and the disk's requests have no reference.
-fn queue_places(out: &mut Output, name: &[u8], kind: u64, addr: u64) {
+fn queue_places(out: &mut Output, name: &[u8], which: Queued, addr: u64) {
     let good = at(addr, 1);
     let short = at(addr, 0);
     let long = at(addr, 65537);
-    queue_place(out, name, b"with_an_allowed_place", kind, 0, good);
-    queue_place(out, name, b"with_a_place_of_length_0", kind, 0, short);
-    queue_place(out, name, b"with_a_place_of_length_65537", kind, 0, long);
-    queue_place(out, name, b"with_a_reference", kind, 1, good);
+    queue_place(out, name, b"with_an_allowed_place", which, 0, good);
+    queue_place(out, name, b"with_a_place_of_length_0", which, 0, short);
+    queue_place(out, name, b"with_a_place_of_length_65537", which, 0, long);
+    queue_place(out, name, b"with_a_reference", which, 1, good);
 }
 
 // A device above 2; a rule that is neither 1 nor 2, which a step on the cache names and a disk carries. The cache has the marks that its tables make on
@@ -303,10 +303,10 @@ pub(crate) fn run(out: &mut Output) {
     phases(out);
     node_records(out);
     table_records(out);
-    queue_places(out, b"table_reads", 1, AREA1);
-    queue_places(out, b"node_reads", 2, BLOCK0);
-    queue_places(out, b"table_writes", 3, AREA1);
-    queue_places(out, b"node_writes", 4, BLOCK0);
+    queue_places(out, b"table_reads", Queued::TableReads, AREA1);
+    queue_places(out, b"node_reads", Queued::NodeReads, BLOCK0);
+    queue_places(out, b"table_writes", Queued::TableWrites, AREA1);
+    queue_places(out, b"node_writes", Queued::NodeWrites, BLOCK0);
     settings(out, b"device_2", 2, RULE_1);
     settings(out, b"device_3", 3, RULE_1);
     numbers(out);
