@@ -1,7 +1,7 @@
 -- The marks made: a bit set, the bit of an address set, two marks joined, and a scan that sets the bit of each address in use, all as the two words of a
 -- test of the blocks. Assumes nothing.
 use Prim.Native.Nat.{◌%◌, ◌*◌, ◌+◌, ◌-◌, ◌<◌, ◌^◌, ◌≤◌, ℕ}
-use mathlib.Core.Bool.{Bool, ◌&&◌, ◌||◌, cond, false, false≢true, or-false, true, true≢false}
+use mathlib.Core.Bool.{Bool, ◌&&◌, ◌||◌, cond, false, or-false, true}
 use mathlib.Core.Option.{Option, none, some}
 use mathlib.Core.Path.{◌∙◌, ◌≡◌, ap, refl, sym}
 use native.Mathlib.Omega.{arith}
@@ -23,9 +23,11 @@ use Rattle.blockcache.specs.declared.Tables.{Tables}
 use Rattle.disklayout.proofs.Devices.{device_good}
 use Rattle.disklayout.proofs.NodeBlocks.{block_addr_injective, node_block_iff}
 use Rattle.disklayout.specs.Blocks.{node_block_addr, node_block_of}
-use Rattle.disklayout.specs.Calls.{number_option, number_option_when}
+use Rattle.std.specs.Prelude.{Some, None}
+use Rattle.std.specs.Prelude as result
+use Rattle.std.specs.Result.{result_unwrap_or}
+use Rattle.disklayout.specs.Calls.{answered, answered_when, told}
 use Rattle.disklayout.specs.Device.{device_of, made}
-use Rattle.disklayout.specs.declared.NumberOption.{NumberOption}
 use Rattle.queue.specs.Queue.{has_addr, request_at}
 use Rattle.queue.specs.declared.Requests.{Requests}
 use Rattle.sectortype.specs.Form.{entry_at}
@@ -111,26 +113,27 @@ module _ (d : ℕ) where
   unfolding with_addr
   addr_set g a = split (made d) (λ t. rw t (found g a (node_block_of (device_of d) a) refl)) (λ f. rw f)
 
-  -- as the code sets it, by what the layout answers of the address
-  module _ (m : Marks) (a : ℕ) {r : NumberOption} (e : r ≡ number_option d (node_block_of (device_of d) a)) where
-    pub addr_found : r.exists ≡ true → with_mark m r.value ≡ with_addr d m a
-    unfolding with_addr
-    addr_found t = ap (λ x. with_mark m x.value) e ∙ by (made d) (node_block_of (device_of d) a) (ap (λ x. x.exists) (sym e) ∙ t)
-      where
-        by : (b : Bool) (o : Option ℕ) → (number_option_when b o).exists ≡ true →
-            with_mark m (number_option_when b o).value ≡ cond b (with_found m o) m
-        by true none t = absurd (false≢true t)
-        by true (some k) t = refl
-        by false o t = absurd (false≢true t)
+  -- as the code sets it, by the block that the layout names, if it names one
+  abbrev pub named : ℕ → result.Option ℕ
+  named a = result_unwrap_or (answered d (told (node_block_of (device_of d) a))) None
 
-    pub addr_missed : r.exists ≡ false → m ≡ with_addr d m a
-    unfolding with_addr
-    addr_missed t = by (made d) (node_block_of (device_of d) a) (ap (λ x. x.exists) (sym e) ∙ t)
-      where
-        by : (b : Bool) (o : Option ℕ) → (number_option_when b o).exists ≡ false → m ≡ cond b (with_found m o) m
-        by true none t = refl
-        by true (some k) t = absurd (true≢false t)
-        by false o t = refl
+  pub addr_found : (m : Marks) (a k : ℕ) → named a ≡ Some k → with_mark m k ≡ with_addr d m a
+  unfolding with_addr
+  addr_found m a k = by (made d) (node_block_of (device_of d) a)
+    where
+      by : (b : Bool) (o : Option ℕ) → result_unwrap_or (answered_when b (told o)) None ≡ Some k → with_mark m k ≡ cond b (with_found m o) m
+      by true none t = cc
+      by true (some j) t = let q : j ≡ k = cc in rw q
+      by false o t = cc
+
+  pub addr_missed : (m : Marks) (a : ℕ) → named a ≡ None → m ≡ with_addr d m a
+  unfolding with_addr
+  addr_missed m a = by (made d) (node_block_of (device_of d) a)
+    where
+      by : (b : Bool) (o : Option ℕ) → result_unwrap_or (answered_when b (told o)) None ≡ None → m ≡ cond b (with_found m o) m
+      by true none t = refl
+      by true (some j) t = cc
+      by false o t = refl
 
   -- MARKS JOINED
 

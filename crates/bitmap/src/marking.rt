@@ -29,15 +29,14 @@ fn with_mark(m: Marks, k: u64) -> Marks
 }
 
 // With that of the block that has the address, if one has it.
+#[tactic(auto, using(crate::proofs::MarksMade::addr_found, crate::proofs::MarksMade::addr_missed))]
 fn with_addr(device: u64, m: Marks, addr: u64) -> Marks
     ensures { result ≡ with_addr device m addr }
 {
-    let at = layout::node_block_by_division(device, addr);
-    let found = at.exists;
-    if found {
-        return with_mark(m, at.value);
+    match layout::node_block_by_division(device, addr).unwrap_or(None) {
+        Some(block) => with_mark(m, block),
+        None => m,
     }
-    m
 }
 
 // The blocks that have the address of a location in the table.

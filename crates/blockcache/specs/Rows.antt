@@ -20,7 +20,7 @@ use Rattle.blockcache.specs.declared.Phase.{Phase}
 use Rattle.blockcache.specs.declared.Settings.{Settings}
 use Rattle.blockcache.specs.declared.VersionOp.{VersionOp}
 use Rattle.blockdisk.specs.declared.DiskOp.{DiskOp}
-use Rattle.disklayout.specs.Calls.{flag}
+use Rattle.disklayout.specs.Calls.{holds_on}
 use Rattle.disklayout.specs.Device.{device_of}
 use Rattle.disklayout.specs.Layout.{valid_indirection_table_location, valid_node_location, overlap, same_loc}
 use Rattle.disklayout.specs.declared.Location.{Location}
@@ -137,7 +137,7 @@ module _ (g : Settings) (c : CacheState) (q : Call) where
   abbrev pub own_rows : Step → List Row
   own_rows write_back_node_req_step =
       (5 when has_of writes id) ∷
-      (6 when (not (flag d (valid_node_location (device_of d) loc)).yes || eqb loc.len 0)) ∷
+      (6 when (not (holds_on d (valid_node_location (device_of d) loc)) || eqb loc.len 0)) ∷
       (7 when held_in c.tables writes loc.addr) ∷
       (8 when not slot.present) ∷
       (9 when (slot.present && not (same_node slot.node q.node))) ∷
@@ -148,7 +148,7 @@ module _ (g : Settings) (c : CacheState) (q : Call) where
       (5 when not (has_of writes id)) ∷
       []
   own_rows write_back_indirection_table_req_step =
-      (6 when (not (flag d (valid_indirection_table_location (device_of d) loc)).yes || (flag d (overlap loc c.places.persistent)).yes)) ∷
+      (6 when (not (holds_on d (valid_indirection_table_location (device_of d) loc)) || holds_on d (overlap loc c.places.persistent))) ∷
       (9 when (c.tables.isfrozen && not (same_table c.tables.frozen q.table))) ∷
       (10 when not (eqb writes.count 0)) ∷
       (11 when (not c.tables.isfrozen || not (locs_complete c.tables.frozen) || c.places.isfrozen)) ∷
@@ -184,7 +184,7 @@ module _ (g : Settings) (c : CacheState) (q : Call) where
       (9 when table_rejected (dop_brought q.dop) d q.table) ∷
       []
   own_rows receive_loc_step =
-      (6 when not (flag d (valid_indirection_table_location (device_of d) vloc)).yes) ∷
+      (6 when not (holds_on d (valid_indirection_table_location (device_of d) vloc))) ∷
       []
   own_rows evict_step =
       (8 when (not slot.present || (entry.allocated && not entry.located))) ∷

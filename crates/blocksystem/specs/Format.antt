@@ -8,7 +8,7 @@ use Rattle.blockdisk.specs.Records.{empty_records}
 use Rattle.blockdisk.specs.declared.DiskState.{DiskState}
 use Rattle.blockdisk.specs.declared.Records.{Records}
 use Rattle.disklayout.specs.Blocks.{first_node_addr}
-use Rattle.disklayout.specs.Calls.{number}
+use Rattle.disklayout.specs.Calls.{number_on}
 use Rattle.disklayout.specs.Device.{device_of, made}
 use Rattle.disklayout.specs.Layout.{indirection_table1_addr}
 use Rattle.disklayout.specs.declared.Location.{Location}
@@ -27,10 +27,10 @@ abbrev pub formatted_place : ℕ → Location
 formatted_place a = record { addr = a; len = 4096 }
 
 abbrev pub root_place : ℕ → Location
-root_place d = formatted_place (number d (first_node_addr (device_of d))).value
+root_place d = formatted_place (number_on d (first_node_addr (device_of d)))
 
 abbrev pub table_place_of : ℕ → Location
-table_place_of d = formatted_place (number d (indirection_table1_addr (device_of d))).value
+table_place_of d = formatted_place (number_on d (indirection_table1_addr (device_of d)))
 
 -- the root alone, at its place
 unfoldable pub root_table : Location → Table
