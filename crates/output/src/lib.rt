@@ -79,19 +79,12 @@ pub fn word(out: &mut Output, key: &[u8], n: u64) {
     number(out, n);
 }
 
-fn wide(x: u8) -> u64 {
-    x as u64
-}
-
 // A list's references, joined by commas.
 pub fn list(out: &mut Output, l: Succs) {
-    let count = l.count as usize;
-    for i in 0..8 {
-        if i < count {
-            if i > 0 {
-                text(out, b",");
-            }
-            number(out, wide(l.at[i]));
+    for (i, r) in l.at.iter().take(usize::from(l.count)).enumerate() {
+        if i > 0 {
+            text(out, b",");
         }
+        number(out, u64::from(*r));
     }
 }
