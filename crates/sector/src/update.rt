@@ -97,7 +97,7 @@ pub fn with_entry(t: Table, r: usize, e: Entry) -> Table
     ensures { result ≡ with_entry t r e }
 {
     let entries = set_at(t.entries, r, e);
-    let count = count_allocated(entries);
+    let count = count_allocated(&entries);
     Table { count, entries }
 }
 
@@ -106,6 +106,6 @@ pub fn with_slot(m: Nodes, r: usize, s: Slot) -> Nodes
     ensures { result ≡ with_slot m r s }
 {
     let slots = set_at(m.slots, r, s);
-    let count = count_present(slots);
+    let count = count_present(&slots);
     Nodes { count, slots }
 }

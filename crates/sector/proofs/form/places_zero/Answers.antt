@@ -12,6 +12,6 @@ use Rattle.sector.proofs.form.places_zero.Goals as goal
 pub returns : goal.returns
 unfolding places_zero
 returns c =
-    let l : length c.args.s.at ≡ 8 = search rules in
-    c.eq.ensures ∙ pointwise_is_all eqb 0 0 c.args.s.at (replicate 8 0) 8 l refl
-    ∙ all_same _ _ 8 (λ k b. ap (eqb (succ_at c.args.s k)) (get_or-replicate 8 k 0 0 b))
+    let l : length c.args.s.now.at ≡ 8 = search rules in
+    c.eq.ensures ∙ pointwise_is_all eqb 0 0 c.args.s.now.at (replicate 8 0) 8 l refl
+    ∙ all_same _ _ 8 (λ k b. ap (eqb (succ_at c.args.s.now k)) (get_or-replicate 8 k 0 0 b))
