@@ -96,6 +96,7 @@ fn find(q: Requests, id: u64) -> Option<usize>
 }
 
 // The request with this id, or zeros.
+#[tactic(auto, using(crate::proofs::Scans::chain_found, crate::proofs::Scans::chain_no_entry), unfolding(crate::specs::Queue::entry_of))]
 pub fn entry(q: Requests, id: u64) -> Request
     ensures { result ≡ entry_of q id }
 {
@@ -115,6 +116,7 @@ fn place(q: Requests, id: u64) -> usize
 }
 
 // The places with w at p, those from p on one place further; what stood in the last goes.
+#[tactic(auto, using(base::proofs::Shifted::opened_by_copy))]
 fn opened(mut at: [Request; 16], p: usize, w: Request) -> [Request; 16]
     requires { p < 16 }
     ensures { result ≡ take 16 (opened at p w) }
@@ -125,6 +127,7 @@ fn opened(mut at: [Request; 16], p: usize, w: Request) -> [Request; 16]
 }
 
 // The queue with one request more; a full queue comes back as it is.
+#[tactic(auto, using(crate::proofs::Scans::place_used), unfolding(crate::specs::Queue::insert_of, crate::specs::Queue::place_of))]
 pub fn insert(q: Requests, w: Request) -> Requests
     ensures { result ≡ insert_of q w }
 {
@@ -139,6 +142,7 @@ pub fn insert(q: Requests, w: Request) -> Requests
 }
 
 // The places without p, those behind it one place back; zeros stand in the last.
+#[tactic(auto, using(base::proofs::Shifted::closed_by_copy))]
 fn closed(mut at: [Request; 16], p: usize) -> [Request; 16]
     requires { p < 16 }
     ensures { result ≡ closed at p ++ (zero_request ∷ []) }
@@ -149,6 +153,7 @@ fn closed(mut at: [Request; 16], p: usize) -> [Request; 16]
 }
 
 // The queue without the request that has this id; a queue that has none comes back as it is.
+#[tactic(auto, using(crate::proofs::Scans::chain_found, crate::proofs::Scans::chain_missing), unfolding(crate::specs::Queue::remove_of, crate::specs::Queue::find_of))]
 pub fn remove(q: Requests, id: u64) -> Requests
     ensures { result ≡ remove_of q id }
 {

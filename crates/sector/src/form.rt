@@ -19,6 +19,7 @@ fn succ_ok(count: u8, k: usize, r: u8) -> bool
 }
 
 // Every place holds 0, as in most lists that there are.
+#[tactic(auto, using(sectortype::proofs::Derived::zeros_is_zero))]
 fn places_zero(s: &Succs) -> bool
     ensures { result ≡ places_zero s.now }
 {

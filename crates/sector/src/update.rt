@@ -93,6 +93,7 @@ fn set_at<T: Copy>(mut places: [T; 64], r: usize, x: T) -> [T; 64]
 }
 
 // The table with another entry at r; for an r past the table, with its count taken anew and nothing else.
+#[tactic(auto, unfolding(sectortype::specs::Form::with_entry))]
 pub fn with_entry(t: Table, r: usize, e: Entry) -> Table
     ensures { result ≡ with_entry t r e }
 {
@@ -102,6 +103,7 @@ pub fn with_entry(t: Table, r: usize, e: Entry) -> Table
 }
 
 // The map of nodes with another slot at r; for an r past it, with its count taken anew and nothing else.
+#[tactic(auto, unfolding(sectortype::specs::Form::with_slot))]
 pub fn with_slot(m: Nodes, r: usize, s: Slot) -> Nodes
     ensures { result ≡ with_slot m r s }
 {

@@ -37,6 +37,7 @@ pub fn locs_complete(t: Table) -> bool
     t.entries.iter().all(|e| !e.allocated | e.located)
 }
 
+#[tactic(auto, unfolding(sectortype::specs::Graph::wf_indirection_table))]
 pub fn wf_indirection_table(device: u64, t: Table) -> bool
     ensures { result ≡ wf_indirection_table device t }
 {
@@ -47,6 +48,7 @@ pub fn wf_indirection_table(device: u64, t: Table) -> bool
     valid & inside & root.allocated & closed
 }
 
+#[tactic(auto, unfolding(sectortype::specs::Graph::wf_complete_indirection_table))]
 pub fn wf_complete_indirection_table(device: u64, t: Table) -> bool
     ensures { result ≡ wf_complete_indirection_table device t }
 {
