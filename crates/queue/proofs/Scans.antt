@@ -49,3 +49,6 @@ pub chain_no_entry : (q : Requests) (id : ℕ) → length q.at ≡ 16 → positi
     entry_of q id ≡ zero_request
 unfolding entry_of
 chain_no_entry q id e f = rw (chain_missing q id e f) (get_or-eq_default q.at zero_request (omega arith))
+
+-- what a search for an id tells, found or not
+pub ruleset chain_find = (chain_found, chain_missing)

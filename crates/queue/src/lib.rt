@@ -153,7 +153,7 @@ fn closed(mut at: [Request; 16], p: usize) -> [Request; 16]
 }
 
 // The queue without the request that has this id; a queue that has none comes back as it is.
-#[tactic(auto, using(crate::proofs::Scans::chain_found, crate::proofs::Scans::chain_missing), unfolding(crate::specs::Queue::remove_of, crate::specs::Queue::find_of))]
+#[tactic(auto, using(crate::proofs::Scans::chain_find), unfolding(crate::specs::Queue::remove_of, crate::specs::Queue::find_of))]
 pub fn remove(q: Requests, id: u64) -> Requests
     ensures { result ≡ remove_of q id }
 {

@@ -1,5 +1,6 @@
 // Whether a record is in its one written form and within the limits: a reference is 0 to 63, a list has 0 to 8, unused places are
-// zeros, and a count is the number of places in use.
+// zeros, and a count is the number of places in use. What stands here for a table's entries stands here again for the slots of a map of
+// nodes: other fields and other tests, so one function for both would be given those as closures, and be no plainer.
 ghost use Rattle.std.specs.Prelude.{◌≡◌};
 ghost use Rattle.base.specs.Scan.{count_below};
 ghost use Rattle.sectortype.specs.Form.{places_zero, succ_ok, succs_form, succs_zero, loc_zero, node_form, node_zero, entry_form};
