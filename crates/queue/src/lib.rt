@@ -28,11 +28,10 @@ pub struct Requests {
 fn zero_request() -> Request
     ensures { result ≡ zero_request }
 {
-    let loc = Location { addr: 0, len: 0 };
     Request {
         id: 0,
         reference: 0,
-        loc,
+        loc: Location { addr: 0, len: 0 },
     }
 }
 
@@ -40,10 +39,9 @@ fn zero_request() -> Request
 pub fn empty() -> Requests
     ensures { result ≡ empty_requests }
 {
-    let zero = zero_request();
     Requests {
         count: 0,
-        at: [zero; 16],
+        at: [zero_request(); 16],
     }
 }
 

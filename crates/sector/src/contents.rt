@@ -30,7 +30,8 @@ pub fn carried_contents(low: u64) -> Contents
 pub fn carried(n: OlderNode) -> Node
     ensures { result ≡ carried n }
 {
-    let contents = carried_contents(n.contents);
-    let succs = n.succs;
-    Node { contents, succs }
+    Node {
+        contents: carried_contents(n.contents),
+        succs: n.succs,
+    }
 }

@@ -28,57 +28,53 @@ pub fn zero_loc() -> Location
 pub fn leaf_node(contents: Contents) -> Node
     ensures { result ≡ leaf_node contents }
 {
-    let succs = zero_succs();
-    Node { contents, succs }
+    Node {
+        contents,
+        succs: zero_succs(),
+    }
 }
 
 pub fn zero_node() -> Node
     ensures { result ≡ zero_node }
 {
-    let contents = zero_contents();
-    leaf_node(contents)
+    leaf_node(zero_contents())
 }
 
 pub fn zero_entry() -> Entry
     ensures { result ≡ zero_entry }
 {
-    let succs = zero_succs();
-    let loc = zero_loc();
     Entry {
         allocated: false,
         located: false,
-        loc,
-        succs,
+        loc: zero_loc(),
+        succs: zero_succs(),
     }
 }
 
 pub fn zero_slot() -> Slot
     ensures { result ≡ zero_slot }
 {
-    let node = zero_node();
     Slot {
         present: false,
-        node,
+        node: zero_node(),
     }
 }
 
 pub fn empty_table() -> Table
     ensures { result ≡ empty_table }
 {
-    let e = zero_entry();
     Table {
         count: 0,
-        entries: [e; 64],
+        entries: [zero_entry(); 64],
     }
 }
 
 pub fn empty_nodes() -> Nodes
     ensures { result ≡ empty_nodes }
 {
-    let s = zero_slot();
     Nodes {
         count: 0,
-        slots: [s; 64],
+        slots: [zero_slot(); 64],
     }
 }
 

@@ -10,10 +10,7 @@ use sectortype::{Entry, Table};
 fn loc_ok(device: u64, e: Entry) -> bool
     ensures { result ≡ loc_ok device e }
 {
-    let loc = e.loc;
-    let asked = layout::kind_of(device, loc);
-    let valid = layout::is_kind(asked, NODE_KIND);
-    !e.located | valid
+    !e.located | layout::is_kind(layout::kind_of(device, e.loc), NODE_KIND)
 }
 
 // Every location is a ValidNodeLocation.
@@ -41,18 +38,12 @@ pub fn locs_complete(t: Table) -> bool
 pub fn wf_indirection_table(device: u64, t: Table) -> bool
     ensures { result ≡ wf_indirection_table device t }
 {
-    let valid = locs_valid(device, t);
-    let inside = locs_in_graph(t);
-    let root = t.entries[0];
-    let closed = graph_closed(t);
-    valid & inside & root.allocated & closed
+    locs_valid(device, t) & locs_in_graph(t) & t.entries[0].allocated & graph_closed(t)
 }
 
 #[tactic(auto, unfolding(sectortype::specs::Graph::wf_complete_indirection_table))]
 pub fn wf_complete_indirection_table(device: u64, t: Table) -> bool
     ensures { result ≡ wf_complete_indirection_table device t }
 {
-    let well = wf_indirection_table(device, t);
-    let complete = locs_complete(t);
-    well & complete
+    wf_indirection_table(device, t) & locs_complete(t)
 }

@@ -4,4 +4,4 @@ use Rattle.sector.proofs.wf.loc_ok.Goals as goal
 pub returns : goal.returns
 returns c =
     let a = c.args in
-    rw (node_told a.device a.e.loc c.kind_of-asked.ensures c.is_kind-valid.ensures)
+    rw (node_told a.device a.e.loc c.kind_of.ensures c.is_kind.ensures)
