@@ -68,7 +68,8 @@ place_or i n b = split (ltb i n) (λ t. rw t) (λ t. let j : n ≤ i = ltb-false
 pub place_some : (i n : ℕ) {p : ℕ} → place_or_none i n ≡ Some p → (i ≡ p) × (p < n)
 place_some i n {p} e =
     split (ltb i n)
-    (λ t. let s : ◌≡◌ {A = Option ℕ} (Some i) (Some p) = rw t at e in let q : i ≡ p = cc in let b : i < n = ltb-true i n t in (q, omega arith))
+    (λ t. let s : ◌≡◌ {A = Option ℕ} (Some i) (Some p) = rw t at e in
+    let q : i ≡ p = cc in let b : i < n = ltb-true i n t in (q, omega arith))
     (λ t. let s : ◌≡◌ {A = Option ℕ} None (Some p) = rw t at e in cc)
 
 pub place_none : (i n : ℕ) → i ≤ n → place_or_none i n ≡ None → i ≡ n
@@ -277,8 +278,8 @@ module _ {A B : Type 0} (p : A × B → Bool) (d : A) (e : B) where
 
 -- TWO LISTS OF ONE LENGTH, COMPARED
 
-pub pointwise_is_all : {A B : Type 0} (h : A → B → Bool) (d : A) (e : B) (xs : List A) (ys : List B) (n : ℕ) → length xs ≡ n → length ys ≡ n →
-    pointwise h xs ys ≡ all_below (λ k. h (get_or xs k d) (get_or ys k e)) n
+pub pointwise_is_all : {A B : Type 0} (h : A → B → Bool) (d : A) (e : B) (xs : List A) (ys : List B) (n : ℕ) →
+    length xs ≡ n → length ys ≡ n → pointwise h xs ys ≡ all_below (λ k. h (get_or xs k d) (get_or ys k e)) n
 unfolding all_below
 pointwise_is_all h d e [] [] zero p q = refl
 pointwise_is_all h d e [] [] (suc n) p q = absurd (omega arith)

@@ -4,7 +4,7 @@ use mathlib.Core.Path.{◌∙◌, ◌≡◌, sym}
 use Prim.Native.Nat.{ℕ, ◌<◌, ◌≤◌}
 use native.Mathlib.Omega.{arith}
 use lib.Dec.{eqb, leb, ltb}
-use lib.ListN.{length, take}
+use lib.ListN.{get_or-eq_default, length, take}
 use borrow.Author.Tests.{le-leb}
 use Rattle.std.specs.List.{list_all, list_any, position}
 use Rattle.std.specs.Prelude.{None, Some, unwrap_or}
@@ -12,7 +12,7 @@ use Rattle.base.specs.Scan.{all_below, some_below}
 use Rattle.base.proofs.Chains.{all_front_is_all, any_front_is_some, place_none, place_some, position_front_is_first, position_front_or_front}
 use Rattle.base.proofs.Scan.{first_at_most, first_le}
 use Rattle.base.proofs.Tests.{or_inl}
-use Rattle.queue.specs.Queue.{find_of, has_addr, has_of, place_of, request_at, zero_request}
+use Rattle.queue.specs.Queue.{entry_of, find_of, has_addr, has_of, place_of, request_at, zero_request}
 use Rattle.queue.specs.declared.Request.{Request}
 use Rattle.queue.specs.declared.Requests.{Requests}
 
@@ -53,3 +53,12 @@ pub place_used : (q : Requests) (id : ℕ) → place_of q id ≤ q.count
 unfolding place_of
 place_used q id =
     first_at_most (λ k. leb q.count k || leb id (request_at q k).id) 16 q.count (or_inl _ (le-leb q.count q.count (omega arith)))
+
+-- no request has the id: the place that is read is past the end
+pub chain_no_entry : (q : Requests) (id : ℕ) → length q.at ≡ 16 → position (λ w. eqb w.id id) (take q.count q.at) ≡ None →
+    entry_of q id ≡ zero_request
+unfolding entry_of
+chain_no_entry q id e f = rw (chain_missing q id e f) (get_or-eq_default q.at zero_request (omega arith))
+
+-- what a search for an id tells, found or not
+pub ruleset chain_find = (chain_found, chain_missing)

@@ -28,11 +28,10 @@ pub struct Requests {
 fn zero_request() -> Request
     ensures { result ≡ zero_request }
 {
-    let loc = Location { addr: 0, len: 0 };
     Request {
         id: 0,
         reference: 0,
-        loc,
+        loc: Location { addr: 0, len: 0 },
     }
 }
 
@@ -40,10 +39,9 @@ fn zero_request() -> Request
 pub fn empty() -> Requests
     ensures { result ≡ empty_requests }
 {
-    let zero = zero_request();
     Requests {
         count: 0,
-        at: [zero; 16],
+        at: [zero_request(); 16],
     }
 }
 
@@ -96,6 +94,7 @@ fn find(q: Requests, id: u64) -> Option<usize>
 }
 
 // The request with this id, or zeros.
+#[tactic(auto, using(crate::proofs::Scans::chain_found, crate::proofs::Scans::chain_no_entry), unfolding(crate::specs::Queue::entry_of))]
 pub fn entry(q: Requests, id: u64) -> Request
     ensures { result ≡ entry_of q id }
 {
@@ -115,6 +114,7 @@ fn place(q: Requests, id: u64) -> usize
 }
 
 // The places with w at p, those from p on one place further; what stood in the last goes.
+#[tactic(auto, using(base::proofs::Shifted::opened_by_copy))]
 fn opened(mut at: [Request; 16], p: usize, w: Request) -> [Request; 16]
     requires { p < 16 }
     ensures { result ≡ take 16 (opened at p w) }
@@ -125,6 +125,7 @@ fn opened(mut at: [Request; 16], p: usize, w: Request) -> [Request; 16]
 }
 
 // The queue with one request more; a full queue comes back as it is.
+#[tactic(auto, using(crate::proofs::Scans::place_used), unfolding(crate::specs::Queue::insert_of, crate::specs::Queue::place_of))]
 pub fn insert(q: Requests, w: Request) -> Requests
     ensures { result ≡ insert_of q w }
 {
@@ -139,6 +140,7 @@ pub fn insert(q: Requests, w: Request) -> Requests
 }
 
 // The places without p, those behind it one place back; zeros stand in the last.
+#[tactic(auto, using(base::proofs::Shifted::closed_by_copy))]
 fn closed(mut at: [Request; 16], p: usize) -> [Request; 16]
     requires { p < 16 }
     ensures { result ≡ closed at p ++ (zero_request ∷ []) }
@@ -149,6 +151,7 @@ fn closed(mut at: [Request; 16], p: usize) -> [Request; 16]
 }
 
 // The queue without the request that has this id; a queue that has none comes back as it is.
+#[tactic(auto, using(crate::proofs::Scans::chain_find), unfolding(crate::specs::Queue::remove_of, crate::specs::Queue::find_of))]
 pub fn remove(q: Requests, id: u64) -> Requests
     ensures { result ≡ remove_of q id }
 {

@@ -11,6 +11,7 @@ pub fn zero_contents() -> Contents
     Contents { high: 0, low: 0 }
 }
 
+#[tactic(auto, unfolding(sectortype::specs::HighLow::contents_zero))]
 pub(crate) fn contents_zero(c: Contents) -> bool
     ensures { result ≡ contents_zero c }
 {
@@ -25,10 +26,12 @@ pub fn carried_contents(low: u64) -> Contents
 }
 
 // The node that an older one is now.
+#[tactic(auto, unfolding(sectortype::specs::Older::carried))]
 pub fn carried(n: OlderNode) -> Node
     ensures { result ≡ carried n }
 {
-    let contents = carried_contents(n.contents);
-    let succs = n.succs;
-    Node { contents, succs }
+    Node {
+        contents: carried_contents(n.contents),
+        succs: n.succs,
+    }
 }

@@ -1,5 +1,6 @@
 // Whether a record is in its one written form and within the limits: a reference is 0 to 63, a list has 0 to 8, unused places are
-// zeros, and a count is the number of places in use.
+// zeros, and a count is the number of places in use. What stands here for a table's entries stands here again for the slots of a map of
+// nodes: other fields and other tests, so one function for both would be given those as closures, and be no plainer.
 ghost use Rattle.std.specs.Prelude.{◌≡◌};
 ghost use Rattle.base.specs.Scan.{count_below};
 ghost use Rattle.sectortype.specs.Form.{places_zero, succ_ok, succs_form, succs_zero, loc_zero, node_form, node_zero, entry_form};
@@ -19,15 +20,16 @@ fn succ_ok(count: u8, k: usize, r: u8) -> bool
 }
 
 // Every place holds 0, as in most lists that there are.
-fn places_zero(s: Succs) -> bool
-    ensures { result ≡ places_zero s }
+#[tactic(auto, using(sectortype::proofs::Derived::zeros_is_zero))]
+fn places_zero(s: &Succs) -> bool
+    ensures { result ≡ places_zero s.now }
 {
     s.at == [0; 8]
 }
 
 // A list of zeros has only its count to be judged: asked first, since it is asked of hundreds of lists at each call.
-pub fn succs_form(s: Succs) -> bool
-    ensures { result ≡ succs_form s }
+fn succs_form(s: &Succs) -> bool
+    ensures { result ≡ succs_form s.now }
 {
     if places_zero(s) {
         return s.count <= 8;
@@ -39,8 +41,8 @@ pub fn succs_form(s: Succs) -> bool
     (s.count <= 8) & good
 }
 
-pub fn succs_zero(s: Succs) -> bool
-    ensures { result ≡ succs_zero s }
+fn succs_zero(s: &Succs) -> bool
+    ensures { result ≡ succs_zero s.now }
 {
     (s.count == 0) & succs_form(s)
 }
@@ -54,26 +56,26 @@ pub fn loc_zero(l: Location) -> bool
 pub fn node_form(n: Node) -> bool
     ensures { result ≡ node_form n }
 {
-    succs_form(n.succs)
+    succs_form(&n.succs)
 }
 
 pub fn node_zero(n: Node) -> bool
     ensures { result ≡ node_zero n }
 {
-    contents_zero(n.contents) & succs_zero(n.succs)
+    contents_zero(n.contents) & succs_zero(&n.succs)
 }
 
-fn entry_form(e: Entry) -> bool
-    ensures { result ≡ entry_form e }
+fn entry_form(e: &Entry) -> bool
+    ensures { result ≡ entry_form e.now }
 {
-    succs_form(e.succs)
+    succs_form(&e.succs)
         & (e.located | loc_zero(e.loc))
         & (e.allocated | (!e.located & (e.succs.count == 0)))
 }
 
 // How many of a table's references are allocated.
-pub fn count_allocated(entries: [Entry; 64]) -> u8
-    ensures { result ≡ count_below (allocated_at entries) 64 }
+pub fn count_allocated(entries: &[Entry; 64]) -> u8
+    ensures { result ≡ count_below (allocated_at entries.now) 64 }
 {
     entries.iter().filter(|e| e.allocated).count() as u8
 }
@@ -85,7 +87,7 @@ pub fn table_form(t: Table) -> bool
     let mut good = true;
     for e in t.entries.iter() {
         n += u8::from(e.allocated);
-        good = good & entry_form(*e);
+        good = good & entry_form(e);
     }
     (t.count == n) & good
 }
@@ -97,8 +99,8 @@ fn slot_form(s: Slot) -> bool
 }
 
 // How many references a map of nodes has.
-pub fn count_present(slots: [Slot; 64]) -> u8
-    ensures { result ≡ count_below (present_at slots) 64 }
+pub fn count_present(slots: &[Slot; 64]) -> u8
+    ensures { result ≡ count_below (present_at slots.now) 64 }
 {
     slots.iter().filter(|s| s.present).count() as u8
 }

@@ -4,12 +4,14 @@ ghost use Rattle.sectortype.specs.Same.{same_entry, same_node, same_succs, same_
 
 use sectortype::{Entry, Node, Succs, Table};
 
+#[tactic(auto, using(sectortype::proofs::Derived::succs_is_same))]
 pub fn same_succs(s: Succs, t: Succs) -> bool
     ensures { result ≡ same_succs s t }
 {
     s == t
 }
 
+#[tactic(auto, using(sectortype::proofs::Derived::node_is_same))]
 pub fn same_node(a: Node, b: Node) -> bool
     ensures { result ≡ same_node a b }
 {
@@ -17,6 +19,7 @@ pub fn same_node(a: Node, b: Node) -> bool
 }
 
 // A place of its own, since a table says nothing of the length of each entry's list, and an entry that is handed over does.
+#[tactic(auto, using(sectortype::proofs::Derived::entry_is_same))]
 fn same_entry(e: Entry, f: Entry) -> bool
     ensures { result ≡ same_entry e f }
 {

@@ -28,57 +28,53 @@ pub fn zero_loc() -> Location
 pub fn leaf_node(contents: Contents) -> Node
     ensures { result ≡ leaf_node contents }
 {
-    let succs = zero_succs();
-    Node { contents, succs }
+    Node {
+        contents,
+        succs: zero_succs(),
+    }
 }
 
 pub fn zero_node() -> Node
     ensures { result ≡ zero_node }
 {
-    let contents = zero_contents();
-    leaf_node(contents)
+    leaf_node(zero_contents())
 }
 
 pub fn zero_entry() -> Entry
     ensures { result ≡ zero_entry }
 {
-    let succs = zero_succs();
-    let loc = zero_loc();
     Entry {
         allocated: false,
         located: false,
-        loc,
-        succs,
+        loc: zero_loc(),
+        succs: zero_succs(),
     }
 }
 
 pub fn zero_slot() -> Slot
     ensures { result ≡ zero_slot }
 {
-    let node = zero_node();
     Slot {
         present: false,
-        node,
+        node: zero_node(),
     }
 }
 
 pub fn empty_table() -> Table
     ensures { result ≡ empty_table }
 {
-    let e = zero_entry();
     Table {
         count: 0,
-        entries: [e; 64],
+        entries: [zero_entry(); 64],
     }
 }
 
 pub fn empty_nodes() -> Nodes
     ensures { result ≡ empty_nodes }
 {
-    let s = zero_slot();
     Nodes {
         count: 0,
-        slots: [s; 64],
+        slots: [zero_slot(); 64],
     }
 }
 
@@ -93,19 +89,21 @@ fn set_at<T: Copy>(mut places: [T; 64], r: usize, x: T) -> [T; 64]
 }
 
 // The table with another entry at r; for an r past the table, with its count taken anew and nothing else.
+#[tactic(auto, unfolding(sectortype::specs::Form::with_entry))]
 pub fn with_entry(t: Table, r: usize, e: Entry) -> Table
     ensures { result ≡ with_entry t r e }
 {
     let entries = set_at(t.entries, r, e);
-    let count = count_allocated(entries);
+    let count = count_allocated(&entries);
     Table { count, entries }
 }
 
 // The map of nodes with another slot at r; for an r past it, with its count taken anew and nothing else.
+#[tactic(auto, unfolding(sectortype::specs::Form::with_slot))]
 pub fn with_slot(m: Nodes, r: usize, s: Slot) -> Nodes
     ensures { result ≡ with_slot m r s }
 {
     let slots = set_at(m.slots, r, s);
-    let count = count_present(slots);
+    let count = count_present(&slots);
     Nodes { count, slots }
 }

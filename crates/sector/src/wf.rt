@@ -35,20 +35,16 @@ pub fn locs_complete(t: Table) -> bool
     t.entries.iter().all(|e| !e.allocated | e.located)
 }
 
+#[tactic(auto, unfolding(sectortype::specs::Graph::wf_indirection_table))]
 pub fn wf_indirection_table(device: u64, t: Table) -> bool
     ensures { result ≡ wf_indirection_table device t }
 {
-    let valid = locs_valid(device, t);
-    let inside = locs_in_graph(t);
-    let root = t.entries[0];
-    let closed = graph_closed(t);
-    valid & inside & root.allocated & closed
+    locs_valid(device, t) & locs_in_graph(t) & t.entries[0].allocated & graph_closed(t)
 }
 
+#[tactic(auto, unfolding(sectortype::specs::Graph::wf_complete_indirection_table))]
 pub fn wf_complete_indirection_table(device: u64, t: Table) -> bool
     ensures { result ≡ wf_complete_indirection_table device t }
 {
-    let well = wf_indirection_table(device, t);
-    let complete = locs_complete(t);
-    well & complete
+    wf_indirection_table(device, t) & locs_complete(t)
 }

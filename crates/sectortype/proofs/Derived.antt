@@ -1,12 +1,14 @@
 -- The `==` that the records derive is the equality that is defined here. It is asked of records as the code has them: each list has its 8
 -- places. Assumes nothing.
 use mathlib.Core.Bool.{Bool, ◌&&◌, beq, false, true}
-use mathlib.Core.Path.{◌≡◌, ap, refl}
+use mathlib.Core.Path.{◌∙◌, ◌≡◌, ap, refl}
 use lib.Dec.{eqb}
-use lib.ListN.{length}
+use lib.ListN.{get_or-replicate, length, replicate}
 use lib.Pointwise.{pointwise}
 use Rattle.base.proofs.Chains.{pointwise_is_all}
+use Rattle.base.proofs.Scan.{all_same}
 use Rattle.disklayout.specs.declared.Location.{Location}
+use Rattle.sectortype.specs.Form.{places_zero, succ_at}
 use Rattle.sectortype.specs.HighLow.{same_contents}
 use Rattle.sectortype.specs.Same.{same_bool, same_entry, same_node, same_succs}
 use Rattle.sectortype.specs.declared.Contents.{Contents}
@@ -60,3 +62,10 @@ pub entry_is_same : (a b : Entry) → length a.succs.at ≡ 8 → length b.succs
 entry_is_same a b l m =
     rw (bool_is_same a.allocated b.allocated, bool_is_same a.located b.located, succs_is_same a.succs b.succs l m)
     (and_assoc (same_bool a.allocated b.allocated) (same_bool a.located b.located) (loc_eq a.loc b.loc) (same_succs a.succs b.succs))
+
+-- a list whose places are compared with zeros
+pub zeros_is_zero : (s : Succs) → length s.at ≡ 8 → pointwise eqb s.at (replicate 8 0) ≡ places_zero s
+unfolding places_zero
+zeros_is_zero s l =
+    pointwise_is_all eqb 0 0 s.at (replicate 8 0) 8 l refl
+    ∙ all_same _ _ 8 (λ k b. ap (eqb (succ_at s k)) (get_or-replicate 8 k 0 0 b))

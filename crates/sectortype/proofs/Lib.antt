@@ -7,4 +7,3 @@ pub mod HighLow
 pub mod Maps
 pub mod Older
 pub mod Rows
-pub mod Turns

@@ -28,10 +28,6 @@ allocated_in t r = (entry_at t r).allocated
 abbrev pub located_in : Table → ℕ → Bool
 located_in t r = (entry_at t r).located
 
--- place k of a list of n is unused or names the allocated reference r
-abbrev pub within_at : ℕ → ℕ → ℕ → Entry → Bool
-within_at n k r e = not (ltb k n) || (ltb r 64 && e.allocated)
-
 -- BlockPointsToValidReferences
 unfoldable pub within : Table → Succs → Bool
 within t s = all_below (λ k. not (ltb k s.count) || allocated_in t (succ_at s k)) 8

@@ -12,7 +12,7 @@ use Rattle.sector.proofs.form.count_allocated.Goals as goal
 
 pub returns : goal.returns
 returns c =
-    let xs = c.args.entries in
+    let xs = c.args.entries.now in
     let l : length xs ≡ 64 = search (rules, unmapped) in
     count_from_yields_List _ _ c.count.ensures.ran
     (YieldsList-from_filter _ (λ x. x.allocated) (YieldsList-from_slice xs cc) (cc) (λ x b q k. search rules))

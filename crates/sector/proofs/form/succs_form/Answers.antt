@@ -10,7 +10,7 @@ use Rattle.sector.proofs.form.succs_form.Goals as goal
 
 pub returns-then-places_zero : goal.returns-then-places_zero
 returns-then-places_zero c =
-    let l : length c.args.s.at ≡ 8 = search rules in
+    let l : length c.args.s.now.at ≡ 8 = search rules in
     zeros_form _ l (sym c.places_zero.ensures ∙ c.if-places_zero.true)
 
 pub loop-i-init : goal.loop-i-init
@@ -22,5 +22,5 @@ loop-i-preserved c = all_turn _ _ c.loop-i.invariant c.succ_ok-good.ensures
 pub returns : goal.returns
 unfolding succs_form
 returns c =
-    let l : length c.args.s.at ≡ 8 = search rules in
+    let l : length c.args.s.now.at ≡ 8 = search rules in
     simp (eq-eqb _ _ l, all_end _ c.loop-i.invariant c.loop-i.auto.i-end c.loop-i-test.false)

@@ -15,5 +15,6 @@ pub returns : goal.returns
 unfolding locs_complete
 returns c =
     let l : length c.args.t.entries ≡ 64 = search (rules, unmapped) in
-    all_from_yields_List (λ e. not e.allocated || e.located) _ _ _ c.all.ensures.ran (YieldsList-from_slice c.args.t.entries cc) (λ x b q k. search rules)
+    all_from_yields_List (λ e. not e.allocated || e.located) _ _ _ c.all.ensures.ran
+    (YieldsList-from_slice c.args.t.entries cc) (λ x b q k. search rules)
     ∙ all_is_all_of (λ e. not e.allocated || e.located) default_entry 64 c.args.t.entries l
