@@ -5,11 +5,11 @@ use mathlib.Core.List.{List}
 use mathlib.Core.Path.{◌≡◌, refl, sym, ap, ◌∙◌}
 use native.Mathlib.Omega.{arith}
 use native.Mathlib.Numerals.{add-one}
-use lib.Dec.{ltb, leb, eqb}
+use lib.Dec.{ltb, eqb}
 use lib.ListN.{length, get_or}
-use borrow.Author.Tests.{ne_eqb, ltb-true, ltb-false, leb-true, lt-ltb, le-ltb, le-leb}
+use borrow.Author.Tests.{ne_eqb, ltb-true, ltb-false, lt-ltb, le-ltb}
 use Rattle.base.specs.Scan.{all_below}
-use Rattle.base.proofs.Scan.{below_or_last, all_fails, all_turn, all_end, at_end}
+use Rattle.base.proofs.Scan.{below_or_last, all_fails, all_turn}
 use Rattle.base.proofs.Tests.{split, clash}
 use Rattle.std.proofs.Common.{Option, Some, None, rules}
 use Rattle.words.specs.Numbers.{digit, appended_of, value_of, number_of}
@@ -80,7 +80,7 @@ number_good s n v f t h k =
     let p : 0 < length s = omega arith in
     let w : value_of s (length s) < 2 ^ 64 = rw (← v) f in
     let j : (ltb 1 (length s) && eqb (get_or s 0 0) 48) ≡ false =
-        split (ltb 1 (length s)) (λ x. rw x (ne_eqb _ _ (k (ltb-true _ _ x)))) (λ x. rw x) in
+    split (ltb 1 (length s)) (λ x. rw x (ne_eqb _ _ (k (ltb-true _ _ x)))) (λ x. rw x) in
     simp (v, ← t, lt-ltb 0 (length s) p, j, lt-ltb (value_of s (length s)) (2 ^ 64) w)
 
 -- a text without bytes is none, and none of several bytes begins with 0

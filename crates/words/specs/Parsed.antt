@@ -1,5 +1,5 @@
 -- Lists, nodes and tables as text, and what kind of line it is.
-use Rattle.std.specs.Prelude.{ℕ, ◌+◌, Bool, true, ◌&&◌, ◌||◌, not, cond, List, [], ◌∷◌, ltb, leb, eqb, length, get_or, set, take, drop}
+use Rattle.std.specs.Prelude.{ℕ, ◌+◌, Bool, true, ◌&&◌, not, cond, List, [], ◌∷◌, ltb, eqb, length, get_or, set, take, drop}
 use Rattle.std.specs.Prelude.{Option, Some, None, is_some, unwrap_or}
 use Rattle.disklayout.specs.Calls.{zero_loc}
 use Rattle.disklayout.specs.declared.Location.{Location}

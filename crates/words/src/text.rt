@@ -214,7 +214,15 @@ fn any_step(k: Key) -> bool
 {
     matches!(
         k,
-        Key::Ref | Key::V | Key::Vloc | Key::Uiop | Key::D | Key::Id | Key::Loc | Key::Node | Key::Table
+        Key::Ref
+            | Key::V
+            | Key::Vloc
+            | Key::Uiop
+            | Key::D
+            | Key::Id
+            | Key::Loc
+            | Key::Node
+            | Key::Table
     )
 }
 

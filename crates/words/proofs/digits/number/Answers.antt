@@ -1,5 +1,5 @@
 -- What the bytes passed are worth. Assumes nothing.
-use Rattle.std.proofs.Common.{rules, arith, sym, ◌≡◌, ◌<◌, get_or, length}
+use Rattle.std.proofs.Common.{rules, arith, ◌≡◌, ◌<◌, get_or, length}
 use Rattle.base.proofs.Scan.{all_none}
 use Rattle.words.proofs.Numbers.{number_empty, number_good, number_led, number_stop, number_turn, value_none}
 use Rattle.words.proofs.digits.number.Goals as goal
