@@ -1,5 +1,5 @@
 // Numbers and places.
-ghost use Rattle.std.specs.Prelude.{◌≡◌};
+ghost use Rattle.std.specs.Prelude.{IfSome, ◌≡◌, ◌≤◌};
 ghost use Rattle.words.specs.Cut.{number_word, place_word};
 ghost use Rattle.words.specs.Numbers.{digit_of, appended_of, number_of, small_of, sides_of, location_of};
 
@@ -45,7 +45,8 @@ pub fn number(w: &[u8]) -> Option<u64>
 // A number that is at most `most`.
 #[tactic(auto, unfolding(crate::specs::Numbers::small_of))]
 pub fn small(w: &[u8], most: u64) -> Option<u64>
-    ensures { result ≡ small_of w.now most }
+    ensures value { result ≡ small_of w.now most }
+    ensures within { IfSome result (λ n. n ≤ most) }
 {
     let n = number(w)?;
     if n > most { None } else { Some(n) }
