@@ -160,10 +160,9 @@ impl Session {
 
     // Makes step 20's call with the operations that the line has; names and pictures take them where it is accepted.
     fn transaction(self, out: &mut Output, call: Call, rest: &[u8]) -> Session {
-        let list = script::transaction::operation_list(rest);
-        if !list.ok {
+        let Some(list) = script::transaction::operation_list(rest) else {
             return self.error(out);
-        }
+        };
         let at = list.at;
         let count = list.count;
         let sequence = self.sequence;
@@ -196,10 +195,10 @@ impl Session {
 
     // A step line, by what follows its first word. Only a crash is offered records other than those that are stored.
     fn step(self, out: &mut Output, number: u64, rest: &[u8]) -> Session {
-        let q = script::request::request_of(rest, script::request::step_keys(number));
-        if !q.ok {
+        let keys = script::request::step_keys(number);
+        let Some(q) = script::request::request_of(rest, keys) else {
             return self.error(out);
-        }
+        };
         let sequence = self.sequence;
         let store = sequence.store;
         let cache = store.cache;
@@ -212,10 +211,9 @@ impl Session {
         if number != CRASH {
             return self.call(out, number, call, stored);
         }
-        let offer = script::offer::offered(rest, stored);
-        if !offer.ok {
+        let Some(offer) = script::offer::offered(rest, stored) else {
             return self.error(out);
-        }
+        };
         let records = offer.records;
         self.call(out, number, call, records)
     }
@@ -241,7 +239,6 @@ impl Session {
             Line::Format(d, c, r) => self.format(out, d, c, r),
             Line::Place(d, l) => self.place(out, d, l),
             Line::Skip => self,
-            Line::Bad => self.error(out),
         }
     }
 
@@ -250,16 +247,16 @@ impl Session {
         let mut t = self.tally;
         t.lines = more(t.lines);
         self.tally = t;
-        let kind = words::line::line_of(s);
+        let Some(kind) = words::line::line_of(s) else {
+            return self.error(out);
+        };
         match kind {
             Line::Skip => self,
             Line::Format(d, c, r) => self.format(out, d, c, r),
             Line::Place(d, l) => self.place(out, d, l),
-            Line::Step(_) => self.started_line(out, kind, s),
-            Line::Audit => self.started_line(out, kind, s),
-            Line::Show => self.started_line(out, kind, s),
-            Line::Choose => self.started_line(out, kind, s),
-            Line::Bad => self.error(out),
+            Line::Step(_) | Line::Audit | Line::Show | Line::Choose => {
+                self.started_line(out, kind, s)
+            }
         }
     }
 }

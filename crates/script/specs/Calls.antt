@@ -87,12 +87,12 @@ bringing_of NoDiskOp n t = NoDiskOp
 -- a request with its node and its table; where nothing is brought, a node of zeros and the empty table
 abbrev pub call_from : Request → Option Node → Option Table → Call
 call_from q n t =
-    record
-    { reference = q.reference
-    ; vop = q.vop
-    ; dop = bringing_of q.dop (brought_of (is_some n)) (brought_of (is_some t))
-    ; node = unwrap_or n zero_node
-    ; table = unwrap_or t empty_table
+    record {
+      reference = q.reference;
+      vop = q.vop;
+      dop = bringing_of q.dop (brought_of (is_some n)) (brought_of (is_some t));
+      node = unwrap_or n zero_node;
+      table = unwrap_or t empty_table;
     }
 
 -- the request's own reference and operations, with the node and the table that its words stand for on this cache and this disk
