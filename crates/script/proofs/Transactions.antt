@@ -1,5 +1,6 @@
 -- Laws of the words of step 20: how many operations are read, and lines worked out. Assumes nothing.
-use Rattle.std.proofs.Common.{◌≡◌, ◌≤◌, ℕ, true, false, List, [], ◌∷◌, Option, Some, None, IfSome, option_and_then, replicate, refl, arith, rules}
+use Rattle.std.proofs.Common.{◌≡◌, ◌≤◌, ℕ, true, false, List, [], ◌∷◌, replicate, refl, arith, rules}
+use Rattle.std.proofs.Common.{Option, Some, None, IfSome, option_and_then}
 use Rattle.std.proofs.lemmas.Grind.{common_steps}
 use Rattle.base.specs.Scan.{all_below}
 use Rattle.sectortype.specs.Form.{zero_succs}

@@ -56,7 +56,8 @@ stored_table d s id =
 abbrev pub cache_table : Bool → Table → Table
 cache_table present t = cond present t empty_table
 
--- by where the table comes from, none if nothing is brought; a cache that is not Ready has no tables; past 545 a small table is the empty one
+-- by where the table comes from, none if nothing is brought; a cache that is not Ready has no tables; past 545 a small table is the
+-- empty one
 abbrev pub table_value : TableSource → ℕ → ℕ → CacheState → DiskState → Option Table
 table_value table.Nothing id d c s = None
 table_value (table.Written t) id d c s = Some t

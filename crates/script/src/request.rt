@@ -1,7 +1,7 @@
 // What a step line asks for, before it is known what the cache and the disk hold.
 ghost use Rattle.std.specs.Prelude.{◌≡◌};
-ghost use Rattle.script.specs.Requests.{node_written, node_source_of, node_word, table_written, table_small, table_text_of, table_source_of};
-ghost use Rattle.script.specs.Requests.{table_word, operations_of, request_of, step_keys};
+ghost use Rattle.script.specs.Requests.{node_written, node_source_of, node_word, table_written, table_small, table_text_of};
+ghost use Rattle.script.specs.Requests.{table_source_of, table_word, operations_of, request_of, step_keys};
 
 use crate::operations::{disk_word, uiop_word, version_word};
 use blockcache::VersionOp;

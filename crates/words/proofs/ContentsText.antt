@@ -1,5 +1,5 @@
--- Contents, and the rule of a format line, as text: what HIGH.LOW, 0.LOW and LOW alone are read as; that the rule is the number behind its key, and 1 without
--- the word; and that a script of before means the carried nodes. Assumes nothing.
+-- Contents, and the rule of a format line, as text: what HIGH.LOW, 0.LOW and LOW alone are read as; that the rule is the number
+-- behind its key, and 1 without the word; and that a script of before means the carried nodes. Assumes nothing.
 use Prim.Native.Nat.{ℕ, ◌+◌, ◌<◌, ◌^◌}
 use mathlib.Core.Bool.{true, false, false≢true, not, ◌&&◌}
 use mathlib.Core.List.{List, [], ◌∷◌, ◌++◌}

@@ -19,7 +19,8 @@ returns-in_err-n c =
     search (rules, number_stop c.args.w.now c.loop-b.b-index c.loop-b.n c.loop-b-test.true c.loop-b.invariant.0)
 
 pub loop-b-preserved : goal.loop-b-preserved
-loop-b-preserved c = number_turn c.args.w.now c.loop-b.b-index c.loop-b.n c.in_ok-n.n c.loop-b.invariant.0 c.loop-b.invariant.2 (search rules)
+loop-b-preserved c =
+    number_turn c.args.w.now c.loop-b.b-index c.loop-b.n c.in_ok-n.n c.loop-b.invariant.0 c.loop-b.invariant.2 (search rules)
 
 pub returns : goal.returns
 returns c =
