@@ -10,7 +10,7 @@ use output::{Output, finish};
 use session::Session;
 use std::io;
 use std::io::{Read, Stdin};
-use words::text::{after, find, front};
+use words::text::front;
 
 // One byte more than a line may have: a line that fills it is too long, and what follows up to its line feed is dropped.
 const ROOM: usize = 4097;
@@ -39,16 +39,13 @@ fn gather(line: &mut [u8], used: usize, piece: &[u8]) -> usize {
 fn take(out: &mut Output, before: Session, line: &mut [u8], kept: usize, part: &[u8]) -> Taken {
     let mut session = before;
     let mut used = kept;
-    let mut at: usize = 0;
-    while at < part.len() {
-        let tail = after(part, at);
-        let n = find(tail, b'\n');
-        used = gather(line, used, front(tail, n));
-        at = at + n;
-        if at < part.len() {
+    for piece in part.split_inclusive(|b| *b == b'\n') {
+        if let Some((b'\n', text)) = piece.split_last() {
+            used = gather(line, used, text);
             session = session.run(out, front(line, used));
             used = 0;
-            at = at + 1;
+        } else {
+            used = gather(line, used, piece);
         }
     }
     Taken {

@@ -18,11 +18,10 @@ pub struct Sequence {
     pub pictures: Pictures,
 }
 
-// Until a `format` has been accepted no sequence has been started, and what is in `sequence` is not used.
+// Until a `format` has been accepted there is no sequence.
 #[derive(Clone, Copy)]
 pub struct Session {
-    pub started: bool,
-    pub sequence: Sequence,
+    pub sequence: Option<Sequence>,
     pub tally: Tally,
 }
 
@@ -39,13 +38,8 @@ fn moved(device: u64, cache: CacheState, disk: DiskState, pictures: Pictures) ->
 }
 
 pub fn unstarted() -> Session {
-    let contents = sector::zero_contents();
-    let o = Store::format(0, contents, 1);
-    let pictures = system::format_pictures(0, contents);
-    let sequence = moved(0, o.cache, o.disk, pictures);
     Session {
-        started: false,
-        sequence,
+        sequence: None,
         tally: print::nothing(),
     }
 }
@@ -129,16 +123,20 @@ impl Session {
         let mut next = self.counted(answer);
         if answer == 0 {
             let pictures = system::format_pictures(device, contents);
-            let sequence = moved(device, o.cache, o.disk, pictures);
-            next.started = true;
-            next.sequence = sequence;
+            next.sequence = Some(moved(device, o.cache, o.disk, pictures));
         }
         next
     }
 
     // Makes a call, prints what it answers, and keeps names and pictures where it is accepted.
-    fn call(self, out: &mut Output, number: u64, call: Call, offered: Records) -> Session {
-        let sequence = self.sequence;
+    fn call(
+        self,
+        out: &mut Output,
+        sequence: Sequence,
+        number: u64,
+        call: Call,
+        offered: Records,
+    ) -> Session {
         let store = sequence.store;
         let o = store.step(number, call, offered);
         let answer = o.answer;
@@ -152,21 +150,18 @@ impl Session {
         let mut next = self.counted(answer);
         if answer == 0 {
             let pictures = system::pictures_after(before, number, call);
-            let after = moved(store.device, o.cache, o.disk, pictures);
-            next.sequence = after;
+            next.sequence = Some(moved(store.device, o.cache, o.disk, pictures));
         }
         next
     }
 
     // Makes step 20's call with the operations that the line has; names and pictures take them where it is accepted.
-    fn transaction(self, out: &mut Output, call: Call, rest: &[u8]) -> Session {
-        let list = script::transaction::operation_list(rest);
-        if !list.ok {
+    fn transaction(self, out: &mut Output, sequence: Sequence, call: Call, rest: &[u8]) -> Session {
+        let Some(list) = script::transaction::operation_list(rest) else {
             return self.error(out);
-        }
+        };
         let at = list.at;
         let count = list.count;
-        let sequence = self.sequence;
         let store = sequence.store;
         let o = store.operations_of(call, at, count);
         let answer = o.answer;
@@ -174,15 +169,13 @@ impl Session {
         let mut next = self.counted(answer);
         if answer == 0 {
             let pictures = system::pictures_after_operations(sequence.pictures, at, count);
-            let after = moved(store.device, o.cache, o.disk, pictures);
-            next.sequence = after;
+            next.sequence = Some(moved(store.device, o.cache, o.disk, pictures));
         }
         next
     }
 
     // Asks for a free block: a call that changes no name and no picture.
-    fn choose(self, out: &mut Output) -> Session {
-        let mut sequence = self.sequence;
+    fn choose(self, out: &mut Output, mut sequence: Sequence) -> Session {
         let mut store = sequence.store;
         let c = store.choose();
         print::choice(out, self.tally.lines, c);
@@ -190,45 +183,42 @@ impl Session {
         store.cache = cache;
         sequence.store = store;
         let mut next = self.counted(c.answer);
-        next.sequence = sequence;
+        next.sequence = Some(sequence);
         next
     }
 
     // A step line, by what follows its first word. Only a crash is offered records other than those that are stored.
-    fn step(self, out: &mut Output, number: u64, rest: &[u8]) -> Session {
-        let q = script::request::request_of(rest, script::request::step_keys(number));
-        if !q.ok {
+    fn step(self, out: &mut Output, sequence: Sequence, number: u64, rest: &[u8]) -> Session {
+        let keys = script::request::step_keys(number);
+        let Some(q) = script::request::request_of(rest, keys) else {
             return self.error(out);
-        }
-        let sequence = self.sequence;
+        };
         let store = sequence.store;
         let cache = store.cache;
         let disk = store.disk;
         let stored = disk.records;
         let call = script::calls::call_of(q, store.device, cache, disk);
         if number == TRANSACTION {
-            return self.transaction(out, call, rest);
+            return self.transaction(out, sequence, call, rest);
         }
         if number != CRASH {
-            return self.call(out, number, call, stored);
+            return self.call(out, sequence, number, call, stored);
         }
-        let offer = script::offer::offered(rest, stored);
-        if !offer.ok {
+        let Some(offer) = script::offer::offered(rest, stored) else {
             return self.error(out);
-        }
+        };
         let records = offer.records;
-        self.call(out, number, call, records)
+        self.call(out, sequence, number, call, records)
     }
 
     // A line that wants a sequence.
     fn started_line(self, out: &mut Output, kind: Line, s: &[u8]) -> Session {
-        if !self.started {
+        let Some(sequence) = self.sequence else {
             return self.error(out);
-        }
-        let sequence = self.sequence;
+        };
         let line = self.tally.lines;
         match kind {
-            Line::Step(n) => self.step(out, n, words::line::rest(s)),
+            Line::Step(n) => self.step(out, sequence, n, words::line::rest(s)),
             Line::Audit => {
                 sequence.audit(out, line);
                 self
@@ -237,11 +227,10 @@ impl Session {
                 sequence.show(out, line);
                 self
             }
-            Line::Choose => self.choose(out),
+            Line::Choose => self.choose(out, sequence),
             Line::Format(d, c, r) => self.format(out, d, c, r),
             Line::Place(d, l) => self.place(out, d, l),
             Line::Skip => self,
-            Line::Bad => self.error(out),
         }
     }
 
@@ -250,16 +239,16 @@ impl Session {
         let mut t = self.tally;
         t.lines = more(t.lines);
         self.tally = t;
-        let kind = words::line::line_of(s);
+        let Some(kind) = words::line::line_of(s) else {
+            return self.error(out);
+        };
         match kind {
             Line::Skip => self,
             Line::Format(d, c, r) => self.format(out, d, c, r),
             Line::Place(d, l) => self.place(out, d, l),
-            Line::Step(_) => self.started_line(out, kind, s),
-            Line::Audit => self.started_line(out, kind, s),
-            Line::Show => self.started_line(out, kind, s),
-            Line::Choose => self.started_line(out, kind, s),
-            Line::Bad => self.error(out),
+            Line::Step(_) | Line::Audit | Line::Show | Line::Choose => {
+                self.started_line(out, kind, s)
+            }
         }
     }
 }

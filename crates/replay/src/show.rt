@@ -5,7 +5,6 @@ use cache::is_ready;
 use output::{Output, text, word};
 use queue::Requests;
 use sectortype::Table;
-use words::digits::wide;
 
 fn phase_name(out: &mut Output, phase: Phase) {
     match phase {
@@ -18,7 +17,7 @@ fn phase_name(out: &mut Output, phase: Phase) {
 // A count of the cache's, 0 outside Ready.
 fn counted(ready: bool, n: u8) -> u64 {
     if ready {
-        return wide(n);
+        return u64::from(n);
     }
     0
 }

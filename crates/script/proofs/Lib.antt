@@ -1,3 +1,2 @@
--- The laws of a crash line's words, and of those of step 20.
-pub mod Offers
+-- The laws of the words of step 20.
 pub mod Transactions

@@ -1,60 +1,46 @@
--- Laws of the words of step 20: the loop that passes one word a turn, how many operations are read, and lines worked out. Assumes nothing.
-use Prim.Native.Nat.{ℕ, ◌+◌, ◌<◌, ◌≤◌}
-use mathlib.Core.Bool.{true, false}
-use mathlib.Core.List.{List, [], ◌∷◌}
-use mathlib.Core.Path.{◌≡◌, refl}
-use native.Mathlib.Omega.{arith}
-use borrow.Author.Tests.{leb-false}
-use lib.Dec.{leb}
-use lib.ListN.{length, take, drop, replicate}
-use Rattle.base.proofs.Tests.{split}
-use Rattle.base.specs.Scan.{all_below, first_below, some_below}
+-- Laws of the words of step 20: how many operations are read, and lines worked out. Assumes nothing.
+use Rattle.std.proofs.Common.{◌≡◌, ◌≤◌, ℕ, true, false, List, [], ◌∷◌, replicate, refl, arith, rules}
+use Rattle.std.proofs.Common.{Option, Some, None, IfSome, option_and_then}
+use Rattle.std.proofs.lemmas.Grind.{common_steps}
+use Rattle.base.specs.Scan.{all_below}
 use Rattle.sectortype.specs.Form.{zero_succs}
 use Rattle.sectortype.specs.declared.Succs.{Succs}
 use Rattle.blockcache.specs.declared.Operation.{Operation}
-use Rattle.words.proofs.Cuts.{words_end, words_turn}
-use Rattle.words.specs.Bytes.{op_bytes, find_of, key_of, keys_of, rare_key_of, starts_of}
+use Rattle.words.specs.Bytes.{cut_of, key_of, rare_key_of}
 use Rattle.words.specs.ContentsText.{contents_of}
-use Rattle.words.specs.Cut.{fit_of, pieces_from, pieces_of, words_from, words_of}
+use Rattle.words.specs.Cut.{fit_of, pieces_of, words_of}
 use Rattle.words.specs.Numbers.{number_of, sides_of, small_of, value_of}
 use Rattle.words.specs.Parsed.{joined_of, list_of, node_of}
+use Rattle.words.specs.Reading.{fold_from}
 use Rattle.script.specs.Requests.{step_keys}
-use Rattle.script.specs.Transactions.{kind_read_of, no_operations_yet, operation_list_of, operation_read_of, operations_from}
+use Rattle.script.specs.Transactions.{kind_read_of, no_operations_yet, operation_list_of, operation_read_of}
 use Rattle.script.specs.Transactions.{with_operation, with_operation_word, zero_operation}
 use Rattle.script.specs.declared.transaction.OperationList.{OperationList}
 
-pub operations_turn : (r : List ℕ) (at : ℕ) (l : OperationList) {l' x : OperationList} → at < length r →
-    l' ≡ with_operation_word l (take (find_of (drop (at + 1) r) 32) (drop (at + 1) r)) →
-    operations_from l (words_of (drop at r)) ≡ x → operations_from l' (words_of (drop (at + 1 + find_of (drop (at + 1) r) 32) r)) ≡ x
-operations_turn r at l b e h = rw e (rw (words_turn r at b) at h)
-
-pub operations_end : (r : List ℕ) (at : ℕ) (l : OperationList) {x : OperationList} → length r ≤ at →
-    operations_from l (words_of (drop at r)) ≡ x → l ≡ x
-operations_end r at l b h = rw (words_end r at b) at h
-
 -- THE BOUND
 
-word_bound : (l : OperationList) (w : List ℕ) → l.count ≤ 40 → (with_operation_word l w).count ≤ 40
+word_bound : (l m : OperationList) (w : List ℕ) → l.count ≤ 40 → with_operation_word l w ≡ Some m → m.count ≤ 40
 unfolding with_operation_word with_operation
-word_bound l w h =
-    split (starts_of w op_bytes)
-    (λ s.
-    split (leb 40 l.count)
-    (λ f. simp (s, f) h)
-    (λ f.
-    split (operation_read_of (drop 3 w)).ok
-    (λ k. simp (s, f, k) (let b : l.count < 40 = leb-false 40 l.count f in omega (arith, b)))
-    (λ k. simp (s, f, k) h)))
-    (λ s. simp s h)
+word_bound l m w h e = grind (arith, common_steps)
 
-words_bound : (ws : List (List ℕ)) (l : OperationList) → l.count ≤ 40 → (operations_from l ws).count ≤ 40
-words_bound [] l h = h
-words_bound (w ∷ ws) l h = words_bound ws (with_operation_word l w) (word_bound l w h)
+words_bound : (ws : List (List ℕ)) (l m : OperationList) → l.count ≤ 40 → fold_from with_operation_word l ws ≡ Some m → m.count ≤ 40
+words_bound [] l m h e = grind (arith, common_steps)
+words_bound (w ∷ ws) l m h e = step (with_operation_word l w) refl (words_bound ws) e
+  where
+    step : (o : Option OperationList) → with_operation_word l w ≡ o →
+        ((k n : OperationList) → k.count ≤ 40 → fold_from with_operation_word k ws ≡ Some n → n.count ≤ 40) →
+        option_and_then (λ k. fold_from with_operation_word k ws) o ≡ Some m → m.count ≤ 40
+    step None q on f = absurd (search rules)
+    step (Some k) q on f = on k m (word_bound l k w h q) f
 
 -- at most 40 operations are read, whatever the line has
-pub at_most_forty : (r : List ℕ) → (operation_list_of r).count ≤ 40
+pub at_most_forty : (r : List ℕ) → IfSome (operation_list_of r) (λ l. l.count ≤ 40)
 unfolding operation_list_of
-at_most_forty r = words_bound (words_of r) no_operations_yet (omega arith)
+at_most_forty r = if_some (operation_list_of r) refl
+  where
+    if_some : (o : Option OperationList) → operation_list_of r ≡ o → IfSome o (λ l. l.count ≤ 40)
+    if_some None q = tt
+    if_some (Some m) q = words_bound (words_of r) no_operations_yet m (omega arith) q
 
 -- LINES WORKED OUT
 
@@ -74,10 +60,10 @@ abbrev alloc_five : Operation
 alloc_five = record { alloc = true; reference = 5; node = record { contents = record { high = 2; low = 3 }; succs = zero_succs } }
 
 -- both are read, in the line's order
-pub two_read : operation_list_of two_operations ≡ record
-    { ok = true; count = 2; at = dirty_zero ∷ alloc_five ∷ replicate 38 zero_operation }
-unfolding operation_list_of operation_read_of kind_read_of with_operation with_operation_word words_of words_from pieces_of pieces_from
-    find_of first_below some_below starts_of all_below number_of value_of small_of sides_of contents_of list_of joined_of node_of
+pub two_read : operation_list_of two_operations ≡ Some (record
+    { count = 2; at = dirty_zero ∷ alloc_five ∷ replicate 38 zero_operation })
+unfolding operation_list_of operation_read_of kind_read_of with_operation with_operation_word words_of pieces_of cut_of all_below
+    number_of value_of small_of sides_of contents_of list_of joined_of node_of
 two_read = refl
 
 -- op=alloc/18446744073709551616/1:
@@ -94,10 +80,10 @@ abbrev not_written_bytes : List ℕ
 not_written_bytes = 32 ∷ 111 ∷ 112 ∷ 61 ∷ 100 ∷ 105 ∷ 114 ∷ 116 ∷ 121 ∷ 47 ∷ 48 ∷ 47 ∷ 110 ∷ 111 ∷ 110 ∷ 101 ∷ []
 
 -- a reference past 64 bits, another kind, and a node that is not written out
-pub not_read : ((operation_list_of past_numbers).ok ≡ false) × ((operation_list_of other_kind).ok ≡ false)
-    × ((operation_list_of not_written_bytes).ok ≡ false)
-unfolding operation_list_of operation_read_of kind_read_of with_operation with_operation_word words_of words_from pieces_of pieces_from
-    find_of first_below some_below starts_of all_below number_of value_of small_of sides_of contents_of list_of joined_of node_of
+pub not_read : (operation_list_of past_numbers ≡ None) × (operation_list_of other_kind ≡ None)
+    × (operation_list_of not_written_bytes ≡ None)
+unfolding operation_list_of operation_read_of kind_read_of with_operation with_operation_word words_of pieces_of cut_of all_below
+    number_of value_of small_of sides_of contents_of list_of joined_of node_of
 not_read = (refl, refl, refl)
 
 -- op= op=
@@ -116,5 +102,5 @@ a_block = 32 ∷ 98 ∷ 108 ∷ 111 ∷ 99 ∷ 107 ∷ 61 ∷ []
 pub step_20_words : (fit_of op_twice (step_keys 20) ≡ true) × (fit_of op_twice (step_keys 18) ≡ false)
     × (fit_of op_twice (step_keys 19) ≡ false)
     × (fit_of id_twice (step_keys 20) ≡ false) × (fit_of a_block (step_keys 20) ≡ false)
-unfolding fit_of words_of words_from find_of first_below some_below starts_of all_below key_of rare_key_of keys_of
+unfolding fit_of words_of pieces_of key_of rare_key_of
 step_20_words = (refl, refl, refl, refl, refl)

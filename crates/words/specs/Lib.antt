@@ -3,3 +3,4 @@ pub mod ContentsText
 pub mod Cut
 pub mod Numbers
 pub mod Parsed
+pub mod Reading

@@ -1,25 +1,27 @@
 -- Numbers as text: decimal digits, without leading zeros, below 2 to the 64.
-use Rattle.std.specs.Prelude.{ℕ, zero, suc, ◌+◌, ◌-◌, ◌*◌, ◌^◌, Bool, ◌&&◌, not, cond, List, ltb, leb, eqb, length, get_or, take, drop}
+use Rattle.std.specs.Prelude.{ℕ, zero, suc, ◌+◌, ◌-◌, ◌*◌, ◌^◌, Bool, ◌&&◌, not, cond, List, ltb, leb, eqb, length, get_or}
+use Rattle.std.specs.Prelude.{Option, Some, None}
 use Rattle.base.specs.Scan.{all_below}
-use Rattle.words.specs.declared.digits.Digits.{Digits}
-use Rattle.words.specs.declared.digits.Digits.TheVariants.{Value, Bad}
-use Rattle.words.specs.declared.digits.Place.{Place}
-use Rattle.words.specs.declared.digits.Place.TheVariants as place
-use Rattle.words.specs.declared.digits.Pair.{Pair}
-use Rattle.words.specs.declared.digits.Pair.TheVariants as pair
-use Rattle.words.specs.Bytes.{find_of}
+use Rattle.disklayout.specs.declared.Location.{Location}
+use Rattle.words.specs.Bytes.{cut_of}
+use Rattle.words.specs.Reading.{◌>>=◌}
 
 -- 0 to 9 are the bytes 48 to 57
 abbrev pub digit : ℕ → Bool
 digit b = leb 48 b && leb b 57
 
--- what a digit is worth; 10 for a byte that is none
-abbrev pub worth_of : ℕ → ℕ
-worth_of b = cond (ltb b 48) 10 (cond (ltb 57 b) 10 (b - 48))
+-- what a digit is worth
+abbrev pub digit_of : ℕ → Option ℕ
+digit_of b = cond (digit b) (Some (b - 48)) None
 
 -- n with one digit more
-abbrev pub appended_of : ℕ → ℕ → Digits
-appended_of n d = cond (leb d 9 && ltb (n * 10 + d) (2 ^ 64)) (Value (n * 10 + d)) Bad
+abbrev pub with_digit : ℕ → ℕ → Option ℕ
+with_digit n d = cond (ltb (n * 10 + d) (2 ^ 64)) (Some (n * 10 + d)) None
+
+abbrev pub appended_of : ℕ → ℕ → Option ℕ
+appended_of n b = do
+  d ← digit_of b
+  with_digit n d
 
 -- what the first k bytes are worth, read as digits
 unfoldable pub value_of : List ℕ → ℕ → ℕ
@@ -31,32 +33,25 @@ abbrev pub numeral : List ℕ → Bool
 numeral s =
     all_below (λ k. digit (get_or s k 0)) (length s) && (ltb 0 (length s) && not (ltb 1 (length s) && eqb (get_or s 0 0) 48))
 
-unfoldable pub number_of : List ℕ → Digits
-number_of s = cond (numeral s && ltb (value_of s (length s)) (2 ^ 64)) (Value (value_of s (length s))) Bad
-
-abbrev pub at_most : ℕ → Digits → Digits
-at_most m (Value n) = cond (leb n m) (Value n) Bad
-at_most m Bad = Bad
+unfoldable pub number_of : List ℕ → Option ℕ
+number_of s = cond (numeral s && ltb (value_of s (length s)) (2 ^ 64)) (Some (value_of s (length s))) None
 
 -- a number that is at most m
-unfoldable pub small_of : List ℕ → ℕ → Digits
-small_of s m = at_most m (number_of s)
-
-abbrev pub sides_from : Digits → Digits → Pair
-sides_from (Value a) (Value c) = pair.Of a c
-sides_from (Value a) Bad = pair.Bad
-sides_from Bad d = pair.Bad
+unfoldable pub small_of : List ℕ → ℕ → Option ℕ
+small_of s m = do
+  n ← number_of s
+  cond (leb n m) (Some n) None
 
 -- the numbers on the two sides of the first byte b
-unfoldable pub sides_of : List ℕ → ℕ → Pair
-sides_of s b =
-    cond (eqb (find_of s b) (length s)) pair.Bad
-    (sides_from (number_of (take (find_of s b) s)) (number_of (drop (find_of s b + 1) s)))
-
-abbrev pub place_from : Pair → Place
-place_from (pair.Of a l) = place.At (record { addr = a; len = l })
-place_from pair.Bad = place.Bad
+unfoldable pub sides_of : List ℕ → ℕ → Option (ℕ × ℕ)
+sides_of s b = do
+  p ← cut_of s b
+  l ← number_of p.0
+  r ← number_of p.1
+  Some (l, r)
 
 -- ADDR+LEN: the two sides of + (byte 43)
-unfoldable pub location_of : List ℕ → Place
-location_of s = place_from (sides_of s 43)
+unfoldable pub location_of : List ℕ → Option Location
+location_of s = do
+  p ← sides_of s 43
+  Some (record { addr = p.0; len = p.1 })

@@ -1,161 +1,85 @@
 // Tables, written out.
 ghost use Rattle.std.specs.Prelude.{◌≡◌};
-ghost use Rattle.words.specs.Parsed.{no_entry_read, no_table_read, head_of, list_of, entry_from, entry_read_of, extended_of, table_read_of};
+ghost use Rattle.words.specs.Parsed.{reference_of, head_of, entry_of, extended_of, table_read_of};
 
-use crate::digits::{Digits, Place, location, small};
+use crate::digits::{location, small};
 use crate::lists::list;
-use crate::text::{after, find, front};
+use crate::text::{cut, cut_at};
 use disklayout::Location;
 use sectortype::{Entry, Table};
 
-// The reference of an entry, and perhaps its location.
-#[derive(Clone, Copy)]
-pub enum Head {
-    Located(u64, Location),
-    Unlocated(u64),
-    Bad,
-}
-
-#[derive(Clone, Copy)]
-pub struct EntryRead {
-    pub ok: bool,
-    pub reference: usize,
-    pub entry: Entry,
-}
-
-// A table, and the lowest reference that its next entry may have; the empty table where the text is none.
+// A table, and the lowest reference that its next entry may have.
 #[derive(Clone, Copy)]
 pub struct TableRead {
-    pub ok: bool,
     pub next: usize,
     pub table: Table,
 }
 
-fn no_entry() -> EntryRead
-    ensures { result ≡ no_entry_read }
+// A table has places for 0 to 63.
+#[tactic(auto, unfolding(crate::specs::Parsed::reference_of))]
+fn reference(w: &[u8]) -> Option<usize>
+    ensures { result ≡ reference_of w.now }
 {
-    EntryRead {
-        ok: false,
-        reference: 0,
-        entry: sector::zero_entry(),
-    }
+    let r = small(w, 63)?;
+    Some(r as usize)
 }
 
-pub fn no_table() -> TableRead
-    ensures { result ≡ no_table_read }
-{
-    TableRead {
-        ok: false,
-        next: 0,
-        table: sector::empty_table(),
-    }
-}
-
-// `REF` or `REF@ADDR+LEN`; a table has places for 0 to 63.
-fn head_of(w: &[u8]) -> Head
+// `REF` or `REF@ADDR+LEN`.
+#[tactic(auto, unfolding(crate::specs::Parsed::head_of))]
+fn head_of(w: &[u8]) -> Option<(usize, Option<Location>)>
     ensures { result ≡ head_of w.now }
 {
-    let at = find(w, b'@');
-    let Digits::Value(r) = small(front(w, at), 63) else {
-        return Head::Bad;
+    let Some((first, second)) = cut(w, b'@') else {
+        return Some((reference(w)?, None));
     };
-    if at == w.len() {
-        return Head::Unlocated(r);
-    }
-    let Place::At(loc) = location(after(w, at + 1)) else {
-        return Head::Bad;
-    };
-    Head::Located(r, loc)
-}
-
-// The entry that a head and a list make.
-fn entry_of(h: Head, w: &[u8]) -> EntryRead
-    ensures { result ≡ entry_from h (list_of w.now) }
-{
-    let l = list(w);
-    if !l.ok {
-        return no_entry();
-    }
-    let succs = l.succs;
-    match h {
-        Head::Bad => no_entry(),
-        Head::Located(r, loc) => EntryRead {
-            ok: true,
-            reference: r as usize,
-            entry: Entry {
-                allocated: true,
-                located: true,
-                loc,
-                succs,
-            },
-        },
-        Head::Unlocated(r) => EntryRead {
-            ok: true,
-            reference: r as usize,
-            entry: Entry {
-                allocated: true,
-                located: false,
-                loc: Location { addr: 0, len: 0 },
-                succs,
-            },
-        },
-    }
+    let r = reference(first)?;
+    Some((r, Some(location(second)?)))
 }
 
 // `REF@ADDR+LEN:LIST` or `REF:LIST`.
-fn entry(w: &[u8]) -> EntryRead
-    ensures { result ≡ entry_read_of w.now }
+#[tactic(auto, unfolding(crate::specs::Parsed::entry_of))]
+fn entry(w: &[u8]) -> Option<(usize, Entry)>
+    ensures { result ≡ entry_of w.now }
 {
-    let at = find(w, b':');
-    if at == w.len() {
-        return no_entry();
-    }
-    let h = head_of(front(w, at));
-    entry_of(h, after(w, at + 1))
+    let (first, second) = cut(w, b':')?;
+    let (r, place) = head_of(first)?;
+    let succs = list(second)?;
+    let entry = Entry {
+        allocated: true,
+        located: place.is_some(),
+        loc: place.unwrap_or(Location { addr: 0, len: 0 }),
+        succs,
+    };
+    Some((r, entry))
 }
 
 // A table with one entry more, whose reference is above those before it.
-fn extended(t: TableRead, w: &[u8]) -> TableRead
+#[tactic(auto, unfolding(crate::specs::Parsed::extended_of))]
+fn extended(t: TableRead, w: &[u8]) -> Option<TableRead>
     ensures { result ≡ extended_of t w.now }
 {
-    let e = entry(w);
-    let r = e.reference;
-    let added = e.entry;
-    let old = t.table;
-    if !e.ok | (r < t.next) {
-        return no_table();
+    let (r, added) = entry(w)?;
+    if r < t.next {
+        return None;
     }
     if r > 63 {
-        return no_table();
+        return None;
     }
-    let table = sector::with_entry(old, r, added);
-    TableRead {
-        ok: true,
-        next: r + 1,
-        table,
-    }
+    let table = sector::with_entry(t.table, r, added);
+    Some(TableRead { next: r + 1, table })
 }
 
 // Entries by ascending reference joined by `;`, at least one: the empty table is spelled out by another word.
-pub fn table(w: &[u8]) -> TableRead
+#[tactic(auto, unfolding(crate::specs::Parsed::table_read_of))]
+pub fn table(w: &[u8]) -> Option<TableRead>
     ensures { result ≡ table_read_of w.now }
 {
     let mut t = TableRead {
-        ok: true,
         next: 0,
         table: sector::empty_table(),
     };
-    let mut from: usize = 0;
-    loop {
-        let tail = after(w, from);
-        let n = find(tail, b';');
-        t = extended(t, front(tail, n));
-        if !t.ok {
-            return no_table();
-        }
-        if n == tail.len() {
-            return t;
-        }
-        from = from + n + 1;
+    for piece in cut_at(w, b';') {
+        t = extended(t, piece)?;
     }
+    Some(t)
 }

@@ -1,9 +1,10 @@
 // Bytes, and the words of a line. What follows a line's first word is its rest: each word of it stands behind one space, so a
 // rest is empty or begins with a space, and two spaces, or one at the end, make an empty word, which no key begins.
 
-ghost use Rattle.std.specs.Prelude.{length, take, drop, ◌≡◌, ◌-◌, ◌≤◌, ◌<◌};
-ghost use Rattle.words.specs.Bytes.{find_of, starts_of, same_of, key_of, rare_key_of, keys_of};
-ghost use Rattle.words.specs.Cut.{word_of, fit_of};
+ghost use Rattle.std.specs.Iterator.{YieldsFirstRef, item_count};
+ghost use Rattle.std.specs.Prelude.{length, take, drop, option_map, IfSome, ◌≡◌, ◌-◌, ◌≤◌, ◌<◌};
+ghost use Rattle.words.specs.Bytes.{place_of, find_of, same_of, cut_of, key_of, rare_key_of, any_step, keys_of};
+ghost use Rattle.words.specs.Cut.{left_of, pieces_of, words_of, word_of, fit_of};
 
 // The lines that have words behind the first one. Which keys each may have is `allowed`'s to say.
 #[derive(Clone, Copy)]
@@ -15,64 +16,65 @@ pub enum Keys {
     Transaction,
 }
 
-// Keys by number, as `key_of` gives them: 1 to 9 may stand on any step, 10 to 12 on a crash beside them, 13 to 15 on a `format`, `loc` and
-// `device` on a `place`, 16 on a step 20 beside a step's own; 0 is none.
-const LOC: usize = 7;
+// The keys of words. `Block` and `Op` may come more than once in a line.
+#[derive(Clone, Copy, PartialEq, Eq)]
+pub enum Key {
+    Ref,
+    V,
+    Vloc,
+    Uiop,
+    D,
+    Id,
+    Loc,
+    Node,
+    Table,
+    Table1,
+    Table2,
+    Block,
+    Device,
+    Contents,
+    Rule,
+    Op,
+}
 
-// This key, and OP, may come more than once.
-const BLOCK: usize = 12;
+// The pieces of a text between the bytes `by`, from the front: what is left to be cut, and nothing once the last piece is taken. (The
+// slice's own `split` holds a closure, whose type no function can name, so that none could hand out a line's words.)
+#[derive(Clone, Copy)]
+pub struct Pieces<'a> {
+    left: Option<&'a [u8]>,
+    by: u8,
+}
 
-const DEVICE: usize = 13;
-
-const RULE: usize = 15;
-
-const OP: usize = 16;
+// Where b first stands in s.
+fn place(s: &[u8], b: u8) -> Option<usize>
+    ensures value { result ≡ place_of s.now b }
+    ensures within { IfSome result (λ i. i < length s.now) }
+{
+    s.iter().position(|x| *x == b)
+}
 
 // Where b first stands in s; the length of s where it does not.
+#[tactic(auto, using(crate::proofs::Cuts::find_place))]
 pub fn find(s: &[u8], b: u8) -> usize
     ensures value { result ≡ find_of s.now b }
     ensures within { result ≤ length s.now }
 {
-    let mut i: usize = 0;
-    while i < s.len() {
-        if s[i] == b {
-            return i;
-        }
-        i += 1;
-    }
-    s.len()
-}
-
-// Whether s begins with p.
-pub fn starts(s: &[u8], p: &[u8]) -> bool
-    ensures { result ≡ starts_of s.now p.now }
-{
-    if s.len() < p.len() {
-        return false;
-    }
-    let mut i: usize = 0;
-    while i < p.len() {
-        if s[i] != p[i] {
-            return false;
-        }
-        i += 1;
-    }
-    true
+    place(s, b).unwrap_or(s.len())
 }
 
 // Whether s and p are the same bytes.
+#[tactic(auto, unfolding(crate::specs::Bytes::same_of))]
 pub fn same(s: &[u8], p: &[u8]) -> bool
     ensures { result ≡ same_of s.now p.now }
 {
-    let begins = starts(s, p);
-    begins & (s.len() == p.len())
+    s == p
 }
 
 // The first n bytes of w, or all of it where it has fewer.
 pub fn front(w: &[u8], n: usize) -> &[u8]
     ensures { result.now ≡ take n w.now }
 {
-    if n <= w.len() { &w[..n] } else { w }
+    w.get(..n).unwrap_or(w)
 }
 
 // What stands behind the first n bytes of w: nothing where it has fewer.
@@ -80,119 +82,178 @@ pub fn after(w: &[u8], n: usize) -> &[u8]
     ensures result_value { result.now ≡ drop n w.now }
     ensures size { length result.now ≡ length w.now - n }
 {
-    if n <= w.len() { &w[n..] } else { &w[..0] }
+    w.get(n..).unwrap_or(&[])
+}
+
+// The two sides of the first b in s.
+#[tactic(auto, unfolding(crate::specs::Bytes::cut_of))]
+pub fn cut(s: &[u8], b: u8) -> Option<(&[u8], &[u8])>
+    ensures { option_map (λ p. (p.0.now, p.1.now)) result ≡ cut_of s.now b }
+{
+    let at = place(s, b)?;
+    Some((&s[..at], &s[at + 1..]))
+}
+
+#[tactic(auto, using(crate::proofs::Cuts::pieces_last, crate::proofs::Cuts::pieces_more))]
+impl<'a> Iterator for Pieces<'a> {
+    type Item = &'a [u8];
+
+    ghost next_gives = { YieldsFirstRef left_of };
+
+    ghost remaining = { item_count left_of };
+
+    fn next(&mut self) -> Option<&'a [u8]> {
+        let s = self.left?;
+        let Some((piece, left)) = cut(s, self.by) else {
+            self.left = None;
+            return Some(s);
+        };
+        self.left = Some(left);
+        Some(piece)
+    }
+}
+
+// What stands between the bytes `by`: one piece more than there are of them.
+pub(crate) fn cut_at(w: &[u8], by: u8) -> Pieces<'_>
+    ensures { left_of result ≡ pieces_of by w.now }
+{
+    Pieces { left: Some(w), by }
+}
+
+// The words of a rest.
+#[tactic(auto, unfolding(crate::specs::Cut::words_of))]
+pub fn words(rest: &[u8]) -> Pieces<'_>
+    ensures { left_of result ≡ words_of rest.now }
+{
+    Pieces {
+        left: rest.get(1..),
+        by: b' ',
+    }
 }
 
 // The first word of a rest that begins with the key, `=` and all; empty where none does.
+#[tactic(auto, unfolding(crate::specs::Cut::word_of))]
 pub fn word<'a, 'b>(rest: &'a [u8], key: &'b [u8]) -> &'a [u8]
     ensures { result.now ≡ word_of rest.now key.now }
 {
-    let mut at: usize = 0;
-    while at < rest.len() {
-        let tail = after(rest, at + 1);
-        let n = find(tail, b' ');
-        let w = front(tail, n);
-        if starts(w, key) {
+    for w in words(rest) {
+        if w.starts_with(key) {
             return w;
         }
-        at = at + 1 + n;
     }
-    &rest[..0]
+    &[]
 }
 
-// The number of a word's key.
-pub fn key_of(w: &[u8]) -> usize
-    ensures value { result ≡ key_of w.now }
-    ensures within { result < 17 }
+// A word's key.
+#[tactic(auto, unfolding(crate::specs::Bytes::key_of))]
+pub fn key_of(w: &[u8]) -> Option<Key>
+    ensures { result ≡ key_of w.now }
 {
-    if starts(w, b"ref=") {
-        return 1;
+    if w.starts_with(b"ref=") {
+        return Some(Key::Ref);
     }
-    if starts(w, b"v=") {
-        return 2;
+    if w.starts_with(b"v=") {
+        return Some(Key::V);
     }
-    if starts(w, b"vloc=") {
-        return 3;
+    if w.starts_with(b"vloc=") {
+        return Some(Key::Vloc);
     }
-    if starts(w, b"uiop=") {
-        return 4;
+    if w.starts_with(b"uiop=") {
+        return Some(Key::Uiop);
     }
-    if starts(w, b"d=") {
-        return 5;
+    if w.starts_with(b"d=") {
+        return Some(Key::D);
     }
-    if starts(w, b"id=") {
-        return 6;
+    if w.starts_with(b"id=") {
+        return Some(Key::Id);
     }
-    if starts(w, b"loc=") {
-        return LOC;
+    if w.starts_with(b"loc=") {
+        return Some(Key::Loc);
     }
-    if starts(w, b"node=") {
-        return 8;
+    if w.starts_with(b"node=") {
+        return Some(Key::Node);
     }
-    if starts(w, b"table=") {
-        return 9;
+    if w.starts_with(b"table=") {
+        return Some(Key::Table);
     }
-    key_of_rare(w)
+    rare_key_of(w)
 }
 
 // The same for the keys that stand on a crash, on `format`, on `place` and on step 20 alone.
-fn key_of_rare(w: &[u8]) -> usize
-    ensures value { result ≡ rare_key_of w.now }
-    ensures within { result < 17 }
+#[tactic(auto, unfolding(crate::specs::Bytes::rare_key_of))]
+fn rare_key_of(w: &[u8]) -> Option<Key>
+    ensures { result ≡ rare_key_of w.now }
 {
-    if starts(w, b"table1=") {
-        return 10;
+    if w.starts_with(b"table1=") {
+        return Some(Key::Table1);
     }
-    if starts(w, b"table2=") {
-        return 11;
+    if w.starts_with(b"table2=") {
+        return Some(Key::Table2);
     }
-    if starts(w, b"block=") {
-        return BLOCK;
+    if w.starts_with(b"block=") {
+        return Some(Key::Block);
     }
-    if starts(w, b"device=") {
-        return DEVICE;
+    if w.starts_with(b"device=") {
+        return Some(Key::Device);
     }
-    if starts(w, b"contents=") {
-        return 14;
+    if w.starts_with(b"contents=") {
+        return Some(Key::Contents);
     }
-    if starts(w, b"rule=") {
-        return RULE;
+    if w.starts_with(b"rule=") {
+        return Some(Key::Rule);
     }
-    if starts(w, b"op=") {
-        return OP;
+    if w.starts_with(b"op=") {
+        return Some(Key::Op);
     }
-    0
+    None
+}
+
+// Whether any step's line may have this key.
+fn any_step(k: Key) -> bool
+    ensures { result ≡ any_step k }
+{
+    matches!(
+        k,
+        Key::Ref
+            | Key::V
+            | Key::Vloc
+            | Key::Uiop
+            | Key::D
+            | Key::Id
+            | Key::Loc
+            | Key::Node
+            | Key::Table
+    )
 }
 
 // Whether a line may have this key.
-fn allowed(keys: Keys, k: usize) -> bool
+fn allowed(keys: Keys, k: Key) -> bool
     ensures { result ≡ keys_of keys k }
 {
     match keys {
-        Keys::Step => (1 <= k) & (k <= 9),
-        Keys::Crash => (1 <= k) & (k <= BLOCK),
-        Keys::Format => (DEVICE <= k) & (k <= RULE),
-        Keys::Place => (k == LOC) | (k == DEVICE),
-        Keys::Transaction => ((1 <= k) & (k <= 9)) | (k == OP),
+        Keys::Step => any_step(k),
+        Keys::Crash => any_step(k) || matches!(k, Key::Table1 | Key::Table2 | Key::Block),
+        Keys::Format => matches!(k, Key::Device | Key::Contents | Key::Rule),
+        Keys::Place => matches!(k, Key::Loc | Key::Device),
+        Keys::Transaction => any_step(k) || matches!(k, Key::Op),
     }
 }
 
 // Whether each word of a rest has a key that the line may have, and each but `block` and `op` at most once.
+#[tactic(auto, unfolding(crate::specs::Cut::fit_of))]
 pub fn words_fit(rest: &[u8], keys: Keys) -> bool
     ensures { result ≡ fit_of rest.now keys }
 {
-    let mut seen = [false; 17];
-    let mut good = true;
-    let mut at: usize = 0;
-    while at < rest.len() {
-        let tail = after(rest, at + 1);
-        let n = find(tail, b' ');
-        let k = key_of(front(tail, n));
-        let fits = allowed(keys, k);
-        let twice = seen[k] & (k != BLOCK) & (k != OP);
-        good = good & fits & !twice;
-        seen[k] = true;
-        at = at + 1 + n;
+    let mut seen = [false; 16];
+    for w in words(rest) {
+        let Some(k) = key_of(w) else {
+            return false;
+        };
+        let twice = seen[k as usize] && !matches!(k, Key::Block | Key::Op);
+        if !allowed(keys, k) || twice {
+            return false;
+        }
+        seen[k as usize] = true;
     }
-    good
+    true
 }

@@ -1,12 +1,11 @@
-use Prim.Native.Nat.{◌-◌, ◌≤◌}
-use mathlib.Core.Path.{◌≡◌}
-use lib.ListN.{drop, length}
-use Rattle.script.specs.Offers.{blocks_from, with_blocks}
-use Rattle.words.specs.Cut.{words_of}
+use Rattle.std.proofs.Common.{◌≡◌}
+use Rattle.words.specs.Cut.{left_of}
+use Rattle.words.specs.Reading.{fold_from}
+use Rattle.script.specs.Offers.{with_blocks, with_word}
 use Rattle.script.proofs.offer.with_blocks.Given as goal
 
-abbrev pub invariant-loop-at : goal.invariant-loop-at
-invariant-loop-at l = (l.at ≤ length l.rest) × (blocks_from l.next (words_of (drop l.at l.rest)) ≡ with_blocks l.initial.next l.rest)
-
-abbrev pub decreases-loop-at : goal.decreases-loop-at
-decreases-loop-at l = length l.rest - l.at
+abbrev pub invariant-loop-w : goal.invariant-loop-w
+invariant-loop-w l =
+    (goal.iterator-loop-w).can_next l.w-iterator ×
+    (goal.iterator-loop-w).is_finite l.w-iterator ×
+    (fold_from with_word l.o (left_of l.w-iterator) ≡ with_blocks l.fn.o l.rest)

@@ -1,12 +1,11 @@
-use Prim.Native.Nat.{◌-◌, ◌≤◌}
-use mathlib.Core.Path.{◌≡◌}
-use lib.ListN.{drop, length}
-use Rattle.words.specs.Cut.{fold_from, pieces_of}
-use Rattle.words.specs.Parsed.{list_of, list_ok, list_step, no_list}
+use Rattle.std.proofs.Common.{◌≡◌}
+use Rattle.words.specs.Cut.{left_of}
+use Rattle.words.specs.Reading.{fold_from}
+use Rattle.words.specs.Parsed.{joined_of, list_of}
 use Rattle.words.proofs.lists.list.Given as goal
 
-abbrev pub invariant-loop-l : goal.invariant-loop-l
-invariant-loop-l l = (l.from ≤ length l.w) × (fold_from list_ok list_step no_list l.l (pieces_of 44 (drop l.from l.w)) ≡ list_of l.w)
-
-abbrev pub decreases-loop-l : goal.decreases-loop-l
-decreases-loop-l l = length l.w - l.from
+abbrev pub invariant-loop-piece : goal.invariant-loop-piece
+invariant-loop-piece l =
+    (goal.iterator-loop-piece).can_next l.piece-iterator ×
+    (goal.iterator-loop-piece).is_finite l.piece-iterator ×
+    (fold_from joined_of l.l (left_of l.piece-iterator) ≡ list_of l.w)

@@ -1,5 +1,0 @@
--- By what the callee ensures. Assumes nothing.
-use Rattle.script.proofs.offer.no_area.Goals as goal
-
-pub returns : goal.returns
-returns c = simp c.empty_table-table.ensures
