@@ -40,7 +40,7 @@ pub(crate) fn writes_to(q: Requests, r: u64, l: Location) -> bool
         let w = q.at[i];
         let x = wide(w.reference);
         let loc = w.loc;
-        let same = layout::same_loc(loc, l);
+        let same = loc == l;
         hit = hit | ((i < n) & (x == r) & same);
         i += 1;
     }

@@ -8,7 +8,7 @@ pub loop-i-init : goal.loop-i-init
 loop-i-init c = (search rules, some_none _)
 
 pub loop-i-preserved : goal.loop-i-preserved
-loop-i-preserved c = (search rules, some_turn _ _ c.loop-i.invariant.1 (rw (c.wide-x.ensures, c.same_loc-same.ensures)))
+loop-i-preserved c = (search rules, some_turn _ _ c.loop-i.invariant.1 (rw (c.wide-x.ensures, c.eq-same.ensures)))
 
 pub returns : goal.returns
 unfolding writes_to
