@@ -47,14 +47,14 @@ impl Cache {
             return refused_choice(self.state, 21);
         }
         let block = bitmap::next_free(marks, b.last);
-        let at = layout::node_block_addr(g.device, block);
+        let addr = layout::node_block_addr(g.device, block).unwrap_or(0);
         let blocks = Blocks { marks, last: block };
         let mut cache = self.state;
         cache.blocks = blocks;
         Choice {
             answer: 0,
             block,
-            addr: at.value,
+            addr,
             free,
             cache,
         }

@@ -11,7 +11,7 @@ use crate::form::{empty_cache, loading};
 use crate::ops::{dop_brought, dop_id, dop_loc, vop_loc};
 use blockcache::{Awaited, Blocks, CacheOutcome, CacheState, Call, Phase, Tables};
 use blockdisk::Brought;
-use layout::TABLE_KIND;
+use disklayout::Kind;
 use sectortype::Table;
 
 // The cache with this table loaded; the chooser starts as though block 127, the last, had been given. The phase is an enum, so the cache is written
@@ -55,7 +55,7 @@ impl Cache {
         let ps = c.places;
         let p = ps.persistent;
         let a = c.awaited;
-        let same = layout::same_loc(loc, p);
+        let same = loc == p;
         if !same {
             return answered(c, 6);
         }
@@ -99,8 +99,7 @@ impl Cache {
     {
         let v = q.vop;
         let vloc = vop_loc(v);
-        let asked = layout::kind_of(self.settings.device, vloc);
-        let valid = layout::is_kind(asked, TABLE_KIND);
+        let valid = layout::is_kind(self.settings.device, vloc, Kind::Table);
         if !valid {
             return answered(self.state, 6);
         }

@@ -39,7 +39,7 @@ impl Cache {
         let o = c.outstanding;
         let w = o.reads;
         let known = queue::has(w, id);
-        let same = layout::same_loc(at, loc);
+        let same = at == loc;
         let reading = reads_of(w, r as u64);
         let n14 = first_of(16 <= w.count, 14, 0);
         let n10 = first_of(reading, 10, n14);

@@ -12,8 +12,7 @@ use crate::answers::{answered, awaits_table, first_of};
 use crate::ops::{dop_id, dop_loc, vop_loc};
 use crate::scan::held;
 use blockcache::{Awaited, CacheOutcome, Call};
-use disklayout::Location;
-use layout::{NODE_KIND, TABLE_KIND};
+use disklayout::{Kind, Location};
 use queue::Request;
 use sectortype::{Entry, Table};
 
@@ -56,8 +55,7 @@ impl Cache {
         let kept = slot.node;
         let given = q.node;
         let known = queue::has(w, id);
-        let asked = layout::kind_of(self.settings.device, loc);
-        let valid = layout::is_kind(asked, NODE_KIND);
+        let valid = layout::is_kind(self.settings.device, loc, Kind::Node);
         let used = held(ts, w, loc.addr);
         let same = sector::same_node(kept, given);
         let n14 = first_of(16 <= w.count, 14, 0);
@@ -137,15 +135,14 @@ impl Cache {
         let f = ts.frozen;
         let given = q.table;
         let p = ps.persistent;
-        let asked = layout::kind_of(device, loc);
-        let valid = layout::is_kind(asked, TABLE_KIND);
-        let over = layout::overlap(device, loc, p);
+        let valid = layout::is_kind(device, loc, Kind::Table);
+        let over = layout::overlap(device, loc, p).unwrap_or(false);
         let same = sector::same_table(f, given);
         let complete = sector::locs_complete(f);
         let n11 = first_of(!ts.isfrozen | !complete | ps.isfrozen, 11, 0);
         let n10 = first_of(!(w.count == 0), 10, n11);
         let n9 = first_of(ts.isfrozen & !same, 9, n10);
-        first_of(!valid | over.yes, 6, n9)
+        first_of(!valid | over, 6, n9)
     }
 
     pub(crate) fn write_back_indirection_table_req(self, q: Call) -> CacheOutcome
@@ -179,7 +176,7 @@ impl Cache {
         let a = c.awaited;
         let ps = c.places;
         let f = ps.frozen;
-        let same = layout::same_loc(f, vloc);
+        let same = f == vloc;
         let awaits = awaits_table(a, id);
         if !awaits {
             return answered(c, 5);

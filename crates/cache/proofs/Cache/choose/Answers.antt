@@ -51,7 +51,8 @@ returns c =
     let ne = rw c.free_count-free.ensures at c.if-free-eq0.false in
     let made_device : made g.device ≡ true = and_left (made g.device) (is_rule g.rule) named in
     simp (
-      c.node_block_addr-at.ensures,
+      c.unwrap_or-addr.ensures,
+      c.node_block_addr.ensures,
       c.next_free-block.ensures,
       c.free_count-free.ensures,
       made_device,

@@ -12,7 +12,7 @@ returns c =
       c.first_of-n10.ensures,
       c.first_of-n14.ensures,
       c.reads_of-reading.ensures,
-      c.same_loc-same.ensures,
+      c.eq-same.ensures,
       c.has-known.ensures,
       c.dop_loc-loc.ensures,
       c.dop_id-id.ensures,

@@ -7,18 +7,18 @@ pub returns-then-not-awaits : goal.returns-then-not-awaits
 unfolding past_gate answer
 returns-then-not-awaits c =
     let not_awaited = rw (c.awaits_table-awaits.ensures, c.dop_id-id.ensures) at c.if-not-awaits.true in
-    simp (not_awaited, c.answered.ensures, c.same_loc-same.ensures, c.vop_loc-vloc.ensures, c.dop_id-id.ensures)
+    simp (not_awaited, c.answered.ensures, c.eq-same.ensures, c.vop_loc-vloc.ensures, c.dop_id-id.ensures)
 
 pub returns-then-not-there : goal.returns-then-not-there
 unfolding past_gate answer
 returns-then-not-there c =
-    let elsewhere = rw (c.same_loc-same.ensures, c.vop_loc-vloc.ensures) at c.if-not-there.true in
+    let elsewhere = rw (c.eq-same.ensures, c.vop_loc-vloc.ensures) at c.if-not-there.true in
     let awaited = rw (c.awaits_table-awaits.ensures, c.dop_id-id.ensures) at c.if-not-awaits.false in
-    simp (elsewhere, awaited, c.answered-then-not-there.ensures, c.same_loc-same.ensures, c.vop_loc-vloc.ensures, c.dop_id-id.ensures)
+    simp (elsewhere, awaited, c.answered-then-not-there.ensures, c.eq-same.ensures, c.vop_loc-vloc.ensures, c.dop_id-id.ensures)
 
 pub returns : goal.returns
 unfolding past_gate answer
 returns c =
-    let there = rw (c.same_loc-same.ensures, c.vop_loc-vloc.ensures) at c.if-not-there.false in
+    let there = rw (c.eq-same.ensures, c.vop_loc-vloc.ensures) at c.if-not-there.false in
     let awaited = rw (c.awaits_table-awaits.ensures, c.dop_id-id.ensures) at c.if-not-awaits.false in
-    simp (there, awaited, c.answered-2.ensures, c.same_loc-same.ensures, c.vop_loc-vloc.ensures, c.dop_id-id.ensures)
+    simp (there, awaited, c.answered-2.ensures, c.eq-same.ensures, c.vop_loc-vloc.ensures, c.dop_id-id.ensures)
