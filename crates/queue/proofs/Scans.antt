@@ -1,17 +1,19 @@
 -- What a chain over the requests in use says, as the definitions say it: whether one passes, and where the first stands. Assumes nothing.
 use mathlib.Core.Bool.{Bool, ◌&&◌, ◌||◌, not}
-use mathlib.Core.Path.{◌∙◌, ◌≡◌, sym}
-use Prim.Native.Nat.{ℕ, ◌<◌, ◌≤◌}
+use mathlib.Core.Path.{◌∙◌, ◌≡◌, ap, sym}
+use Prim.Native.Nat.{min, ℕ, ◌<◌, ◌≤◌}
 use native.Mathlib.Omega.{arith}
 use lib.Dec.{eqb, leb, ltb}
 use lib.ListN.{get_or-eq_default, length, take}
-use borrow.Author.Tests.{le-leb}
+use borrow.Author.Tests.{le-leb, leb-false, leb-true, lt-leb}
+use lib.Seq.{take_all}
 use Rattle.std.specs.List.{list_all, list_any, position}
 use Rattle.std.specs.Prelude.{None, Some, unwrap_or}
 use Rattle.base.specs.Scan.{all_below, some_below}
-use Rattle.base.proofs.Chains.{all_front_is_all, any_front_is_some, place_none, place_some, position_front_is_first, position_front_or_front}
-use Rattle.base.proofs.Scan.{first_at_most, first_le}
-use Rattle.base.proofs.Tests.{or_inl}
+use Rattle.base.proofs.Chains.{all_front_is_all, any_front_is_some, place_none, place_some, position_front_is_first}
+use Rattle.base.proofs.Chains.{position_front_or_front, position_or_end}
+use Rattle.base.proofs.Scan.{first_at_most, first_le, first_same}
+use Rattle.base.proofs.Tests.{or_inl, split}
 use Rattle.queue.specs.Queue.{entry_of, find_of, has_addr, has_of, place_of, request_at, zero_request}
 use Rattle.queue.specs.declared.Request.{Request}
 use Rattle.queue.specs.declared.Requests.{Requests}
@@ -44,9 +46,23 @@ module _ (q : Requests) (id : ℕ) (e : length q.at ≡ 16) where
       rw (← e) (place_none _ (length q.at) (first_le _ (length q.at))
       (sym (position_front_is_first (λ w. eqb w.id id) zero_request q.count q.at) ∙ f))
 
-  pub chain_place : q.count ≤ 16 → unwrap_or (position (λ w. leb id w.id) (take q.count q.at)) q.count ≡ place_of q id
+  chain_place_full : 16 ≤ q.count → unwrap_or (position (λ w. leb id w.id) (take q.count q.at)) 16 ≡ place_of q id
   unfolding place_of
-  chain_place b = rw (← e) (position_front_or_front (λ w. leb id w.id) zero_request q.count q.at (omega arith))
+  chain_place_full b =
+      let a : take q.count q.at ≡ q.at = take_all q.count q.at (omega arith) in
+      ap (λ xs. unwrap_or (position (λ w. leb id w.id) xs) 16) a
+      ∙ position_or_end (λ w. leb id w.id) zero_request q.at 16 e
+      ∙ first_same _ _ 16 (λ k c. sym (rw (lt-leb q.count k (omega arith))))
+
+  chain_place_used : q.count ≤ 16 → unwrap_or (position (λ w. leb id w.id) (take q.count q.at)) q.count ≡ place_of q id
+  unfolding place_of
+  chain_place_used b = rw (← e) (position_front_or_front (λ w. leb id w.id) zero_request q.count q.at (omega arith))
+
+  pub chain_place : unwrap_or (position (λ w. leb id w.id) (take q.count q.at)) (min q.count 16) ≡ place_of q id
+  chain_place =
+      split (leb q.count 16)
+      (λ t. let b : q.count ≤ 16 = leb-true _ _ t in let m : min q.count 16 ≡ q.count = omega arith in rw m (chain_place_used b))
+      (λ t. let b : 16 < q.count = leb-false _ _ t in let m : min q.count 16 ≡ 16 = omega arith in rw m (chain_place_full (omega arith)))
 
 -- a request belongs at a place in use, or at the first that is free
 pub place_used : (q : Requests) (id : ℕ) → place_of q id ≤ q.count

@@ -104,13 +104,15 @@ pub fn entry(q: Requests, id: u64) -> Request
     }
 }
 
-// The place at which a request with this id belongs: before the first with a larger one, or behind all.
+// The place at which a request with this id belongs: before the first with a larger one, or behind all. A count past 16 counts as 16.
 fn place(q: Requests, id: u64) -> usize
-    requires { q.count ≤ 16 }
     ensures { result ≡ place_of q id }
 {
     let n = usize::from(q.count);
-    q.at.iter().take(n).position(|w| id <= w.id).unwrap_or(n)
+    q.at.iter()
+        .take(n)
+        .position(|w| id <= w.id)
+        .unwrap_or(n.min(16))
 }
 
 // The places with w at p, those from p on one place further; what stood in the last goes.

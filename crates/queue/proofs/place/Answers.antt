@@ -1,5 +1,6 @@
 -- The first of the requests in use with no smaller id, or none. Assumes nothing.
 use mathlib.Core.Path.{◌∙◌, ◌≡◌, ap}
+use Prim.Native.Nat.{min}
 use borrow.Author.Rules.{rules}
 use lib.Dec.{leb}
 use lib.ListN.{length}
@@ -15,4 +16,4 @@ returns c =
     let l : length q.at ≡ 16 = search rules in
     let f = position_from_yields_List (λ w. leb c.args.id w.id) _ _ _ c.position.ensures.ran
     (YieldsList-from_take q.count (YieldsList-from_slice q.at cc) cc) (λ x b q k. search rules) in
-    rw (c.unwrap_or.ensures, c.from-n.ensures) (ap (λ o. unwrap_or o q.count) f ∙ chain_place q c.args.id l c.requires)
+    rw (c.unwrap_or.ensures, c.min.ensures, c.from-n.ensures) (ap (λ o. unwrap_or o (min q.count 16)) f ∙ chain_place q c.args.id l)
