@@ -26,9 +26,9 @@ struct Taken {
 // Puts a piece behind the line's first `used` bytes, as far as there is room, and answers how many bytes the line has then.
 fn gather(line: &mut [u8], used: usize, piece: &[u8]) -> usize {
     let mut n = used;
-    for i in 0..piece.len() {
+    for b in piece {
         if n < line.len() {
-            line[n] = piece[i];
+            line[n] = *b;
             n += 1;
         }
     }
