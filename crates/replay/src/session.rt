@@ -65,7 +65,7 @@ fn audit_one(out: &mut Output, line: u64, store: Store, named: Named) {
 
 impl Sequence {
     // Each named place, by ascending address.
-    fn audit(self, out: &mut Output, line: u64) {
+    fn audit(&self, out: &mut Output, line: u64) {
         let store = self.store;
         let pictures = self.pictures;
         let first = pictures.first;
@@ -79,7 +79,7 @@ impl Sequence {
         }
     }
 
-    fn show(self, out: &mut Output, line: u64) {
+    fn show(&self, out: &mut Output, line: u64) {
         let store = self.store;
         let cache = store.cache;
         let disk = store.disk;
@@ -132,7 +132,7 @@ impl Session {
     fn call(
         self,
         out: &mut Output,
-        sequence: Sequence,
+        sequence: &Sequence,
         number: u64,
         call: Call,
         offered: Records,
@@ -156,7 +156,13 @@ impl Session {
     }
 
     // Makes step 20's call with the operations that the line has; names and pictures take them where it is accepted.
-    fn transaction(self, out: &mut Output, sequence: Sequence, call: Call, rest: &[u8]) -> Session {
+    fn transaction(
+        self,
+        out: &mut Output,
+        sequence: &Sequence,
+        call: Call,
+        rest: &[u8],
+    ) -> Session {
         let Some(list) = script::transaction::operation_list(rest) else {
             return self.error(out);
         };
@@ -175,20 +181,17 @@ impl Session {
     }
 
     // Asks for a free block: a call that changes no name and no picture.
-    fn choose(self, out: &mut Output, mut sequence: Sequence) -> Session {
-        let mut store = sequence.store;
+    fn choose(self, out: &mut Output, sequence: &Sequence) -> Session {
+        let store = sequence.store;
         let c = store.choose();
         print::choice(out, self.tally.lines, c);
-        let cache = c.cache;
-        store.cache = cache;
-        sequence.store = store;
         let mut next = self.counted(c.answer);
-        next.sequence = Some(sequence);
+        next.sequence = Some(moved(store.device, c.cache, store.disk, sequence.pictures));
         next
     }
 
     // A step line, by what follows its first word. Only a crash is offered records other than those that are stored.
-    fn step(self, out: &mut Output, sequence: Sequence, number: u64, rest: &[u8]) -> Session {
+    fn step(self, out: &mut Output, sequence: &Sequence, number: u64, rest: &[u8]) -> Session {
         let keys = script::request::step_keys(number);
         let Some(q) = script::request::request_of(rest, keys) else {
             return self.error(out);
@@ -213,7 +216,7 @@ impl Session {
 
     // A line that wants a sequence.
     fn started_line(self, out: &mut Output, kind: Line, s: &[u8]) -> Session {
-        let Some(sequence) = self.sequence else {
+        let Some(sequence) = &self.sequence else {
             return self.error(out);
         };
         let line = self.tally.lines;
