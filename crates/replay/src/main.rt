@@ -15,89 +15,73 @@ use words::text::front;
 // One byte more than a line may have: a line that fills it is too long, and what follows up to its line feed is dropped.
 const ROOM: usize = 4097;
 
-// How far the input is taken: the session, how many bytes of a line that has no end yet are kept, and whether there is more.
-#[derive(Clone, Copy)]
-struct Taken {
-    session: Session,
-    used: usize,
-    more: bool,
-}
-
 // Puts a piece behind the line's first `used` bytes, as far as there is room, and answers how many bytes the line has then.
 fn gather(line: &mut [u8], used: usize, piece: &[u8]) -> usize {
     let mut n = used;
-    for i in 0..piece.len() {
+    for b in piece {
         if n < line.len() {
-            line[n] = piece[i];
+            line[n] = *b;
             n += 1;
         }
     }
     n
 }
 
-// Takes a part of the input: each line that ends in it is run, and what is left is kept.
-fn take(out: &mut Output, before: Session, line: &mut [u8], kept: usize, part: &[u8]) -> Taken {
-    let mut session = before;
+// Takes a part of the input: each line that ends in it is run, and what is left is kept. Answers how many bytes are.
+fn take(
+    out: &mut Output,
+    session: &mut Session,
+    line: &mut [u8],
+    kept: usize,
+    part: &[u8],
+) -> usize {
     let mut used = kept;
     for piece in part.split_inclusive(|b| *b == b'\n') {
         if let Some((b'\n', text)) = piece.split_last() {
             used = gather(line, used, text);
-            session = session.run(out, front(line, used));
+            session.run(out, front(line, used));
             used = 0;
         } else {
             used = gather(line, used, piece);
         }
     }
-    Taken {
-        session,
-        used,
-        more: true,
-    }
+    used
 }
 
-// Reads once, and writes what the lines in it print. An input of which no byte is read has ended.
+// Reads once, and writes what the lines in it print. Answers how many bytes of a line that has no end yet are kept, or nothing where no
+// byte is read: the input has ended.
 fn read_some(
     out: &mut Output,
     input: &mut Stdin,
-    session: Session,
+    session: &mut Session,
     line: &mut [u8],
     used: usize,
-) -> io::Result<Taken> {
+) -> io::Result<Option<usize>> {
     let mut part = [0u8; 4096];
     let n = input.read(&mut part)?;
     if n == 0 {
-        return Ok(Taken {
-            session,
-            used,
-            more: false,
-        });
+        return Ok(None);
     }
-    let taken = take(out, session, line, used, &part[..n]);
+    let kept = take(out, session, line, used, &part[..n]);
     out.write();
-    Ok(taken)
+    Ok(Some(kept))
 }
 
 // A proved loop has to end, and nothing says that the input does: so the turns are counted, to a number that no run comes to.
 // What is left behind the last line feed is a line too.
 fn run_all(out: &mut Output, input: &mut Stdin, line: &mut [u8]) -> io::Result<Session> {
-    let mut taken = Taken {
-        session: session::unstarted(),
-        used: 0,
-        more: true,
-    };
+    let mut session = session::unstarted();
+    let mut used = 0;
     for _ in 0..u64::MAX {
-        let used = taken.used;
-        taken = read_some(out, input, taken.session, line, used)?;
-        if !taken.more {
+        let Some(kept) = read_some(out, input, &mut session, line, used)? else {
             break;
-        }
+        };
+        used = kept;
     }
-    let session = taken.session;
-    let used = taken.used;
-    if used == 0 {
-        return Ok(session);
+    if used > 0 {
+        session.run(out, front(line, used));
     }
-    Ok(session.run(out, front(line, used)))
+    Ok(session)
 }
 
 // The whole input, and the line of the counts.

@@ -1,5 +1,4 @@
-// A run of a script: the store, its names and pictures, and what has been counted. Each function takes the session and hands
-// back the next one.
+// A run of a script: the store, its names and pictures, and what has been counted.
 use crate::print::Tally;
 use crate::{print, show};
 use blockcache::{CacheState, Call};
@@ -65,7 +64,7 @@ fn audit_one(out: &mut Output, line: u64, store: Store, named: Named) {
 
 impl Sequence {
     // Each named place, by ascending address.
-    fn audit(self, out: &mut Output, line: u64) {
+    fn audit(&self, out: &mut Output, line: u64) {
         let store = self.store;
         let pictures = self.pictures;
         let first = pictures.first;
@@ -79,7 +78,7 @@ impl Sequence {
         }
     }
 
-    fn show(self, out: &mut Output, line: u64) {
+    fn show(&self, out: &mut Output, line: u64) {
         let store = self.store;
         let cache = store.cache;
         let disk = store.disk;
@@ -89,54 +88,46 @@ impl Sequence {
 }
 
 impl Session {
-    fn error(mut self, out: &mut Output) -> Session {
-        let mut t = self.tally;
-        t.errors = more(t.errors);
-        self.tally = t;
-        print::error(out, t.lines);
-        self
+    fn error(&mut self, out: &mut Output) {
+        self.tally.errors = more(self.tally.errors);
+        print::error(out, self.tally.lines);
     }
 
-    fn counted(mut self, answer: u64) -> Session {
-        let mut t = self.tally;
-        t.calls = more(t.calls);
+    fn counted(&mut self, answer: u64) {
+        self.tally.calls = more(self.tally.calls);
         if answer == 0 {
-            t.accepted = more(t.accepted);
+            self.tally.accepted = more(self.tally.accepted);
         } else {
-            t.refused = more(t.refused);
+            self.tally.refused = more(self.tally.refused);
         }
-        self.tally = t;
-        self
     }
 
     // What a place is: no call on the store, so it wants no sequence and is not counted.
-    fn place(self, out: &mut Output, device: u64, loc: Location) -> Session {
+    fn place(&self, out: &mut Output, device: u64, loc: Location) {
         print::place(out, self.tally.lines, layout::kind_of(device, loc));
-        self
     }
 
     // A refused `format` leaves the sequence before it as it was.
-    fn format(self, out: &mut Output, device: u64, contents: Contents, rule: u64) -> Session {
+    fn format(&mut self, out: &mut Output, device: u64, contents: Contents, rule: u64) {
         let o = Store::format(device, contents, rule);
         let answer = o.answer;
         print::answer(out, self.tally.lines, answer);
-        let mut next = self.counted(answer);
+        self.counted(answer);
         if answer == 0 {
             let pictures = system::format_pictures(device, contents);
-            next.sequence = Some(moved(device, o.cache, o.disk, pictures));
+            self.sequence = Some(moved(device, o.cache, o.disk, pictures));
         }
-        next
     }
 
     // Makes a call, prints what it answers, and keeps names and pictures where it is accepted.
     fn call(
-        self,
+        &mut self,
         out: &mut Output,
         sequence: Sequence,
         number: u64,
         call: Call,
         offered: Records,
-    ) -> Session {
+    ) {
         let store = sequence.store;
         let o = store.step(number, call, offered);
         let answer = o.answer;
@@ -147,16 +138,15 @@ impl Session {
         } else {
             print::answer(out, self.tally.lines, answer);
         }
-        let mut next = self.counted(answer);
+        self.counted(answer);
         if answer == 0 {
             let pictures = system::pictures_after(before, number, call);
-            next.sequence = Some(moved(store.device, o.cache, o.disk, pictures));
+            self.sequence = Some(moved(store.device, o.cache, o.disk, pictures));
         }
-        next
     }
 
     // Makes step 20's call with the operations that the line has; names and pictures take them where it is accepted.
-    fn transaction(self, out: &mut Output, sequence: Sequence, call: Call, rest: &[u8]) -> Session {
+    fn transaction(&mut self, out: &mut Output, sequence: Sequence, call: Call, rest: &[u8]) {
         let Some(list) = script::transaction::operation_list(rest) else {
             return self.error(out);
         };
@@ -166,29 +156,24 @@ impl Session {
         let o = store.operations_of(call, at, count);
         let answer = o.answer;
         print::transaction(out, self.tally.lines, answer, o.place);
-        let mut next = self.counted(answer);
+        self.counted(answer);
         if answer == 0 {
             let pictures = system::pictures_after_operations(sequence.pictures, at, count);
-            next.sequence = Some(moved(store.device, o.cache, o.disk, pictures));
+            self.sequence = Some(moved(store.device, o.cache, o.disk, pictures));
         }
-        next
     }
 
     // Asks for a free block: a call that changes no name and no picture.
-    fn choose(self, out: &mut Output, mut sequence: Sequence) -> Session {
-        let mut store = sequence.store;
+    fn choose(&mut self, out: &mut Output, sequence: Sequence) {
+        let store = sequence.store;
         let c = store.choose();
         print::choice(out, self.tally.lines, c);
-        let cache = c.cache;
-        store.cache = cache;
-        sequence.store = store;
-        let mut next = self.counted(c.answer);
-        next.sequence = Some(sequence);
-        next
+        self.counted(c.answer);
+        self.sequence = Some(moved(store.device, c.cache, store.disk, sequence.pictures));
     }
 
     // A step line, by what follows its first word. Only a crash is offered records other than those that are stored.
-    fn step(self, out: &mut Output, sequence: Sequence, number: u64, rest: &[u8]) -> Session {
+    fn step(&mut self, out: &mut Output, sequence: Sequence, number: u64, rest: &[u8]) {
         let keys = script::request::step_keys(number);
         let Some(q) = script::request::request_of(rest, keys) else {
             return self.error(out);
@@ -208,46 +193,38 @@ impl Session {
             return self.error(out);
         };
         let records = offer.records;
-        self.call(out, sequence, number, call, records)
+        self.call(out, sequence, number, call, records);
     }
 
     // A line that wants a sequence.
-    fn started_line(self, out: &mut Output, kind: Line, s: &[u8]) -> Session {
+    fn started_line(&mut self, out: &mut Output, kind: Line, s: &[u8]) {
         let Some(sequence) = self.sequence else {
             return self.error(out);
         };
         let line = self.tally.lines;
         match kind {
             Line::Step(n) => self.step(out, sequence, n, words::line::rest(s)),
-            Line::Audit => {
-                sequence.audit(out, line);
-                self
-            }
-            Line::Show => {
-                sequence.show(out, line);
-                self
-            }
+            Line::Audit => sequence.audit(out, line),
+            Line::Show => sequence.show(out, line),
             Line::Choose => self.choose(out, sequence),
             Line::Format(d, c, r) => self.format(out, d, c, r),
             Line::Place(d, l) => self.place(out, d, l),
-            Line::Skip => self,
+            Line::Skip => {}
         }
     }
 
     // Runs one line, without its line feed.
-    pub fn run(mut self, out: &mut Output, s: &[u8]) -> Session {
-        let mut t = self.tally;
-        t.lines = more(t.lines);
-        self.tally = t;
+    pub fn run(&mut self, out: &mut Output, s: &[u8]) {
+        self.tally.lines = more(self.tally.lines);
         let Some(kind) = words::line::line_of(s) else {
             return self.error(out);
         };
         match kind {
-            Line::Skip => self,
+            Line::Skip => {}
             Line::Format(d, c, r) => self.format(out, d, c, r),
             Line::Place(d, l) => self.place(out, d, l),
             Line::Step(_) | Line::Audit | Line::Show | Line::Choose => {
-                self.started_line(out, kind, s)
+                self.started_line(out, kind, s);
             }
         }
     }

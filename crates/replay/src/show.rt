@@ -49,11 +49,10 @@ pub fn sizes(out: &mut Output, line: u64, cache: CacheState) {
 
 // The address of each reference's location; 0, at which no node block of a device that is made begins, where the reference has none.
 fn located(t: Table) -> [u64; 64] {
-    let mut addrs: [u64; 64] = [0; 64];
-    for i in 0..64 {
-        let e = t.entries[i];
+    let mut addrs = [0; 64];
+    for (addr, e) in addrs.iter_mut().zip(&t.entries) {
         if e.located {
-            addrs[i] = e.loc.addr;
+            *addr = e.loc.addr;
         }
     }
     addrs
@@ -61,24 +60,17 @@ fn located(t: Table) -> [u64; 64] {
 
 // The address of each outstanding request; 0 where a place of the queue is not used.
 fn requested(q: Requests) -> [u64; 16] {
-    let count = q.count as usize;
-    let mut addrs: [u64; 16] = [0; 16];
-    for i in 0..16 {
-        let r = q.at[i];
-        if i < count {
-            addrs[i] = r.loc.addr;
-        }
+    let used = q.at.iter().take(usize::from(q.count));
+    let mut addrs = [0; 16];
+    for (addr, r) in addrs.iter_mut().zip(used) {
+        *addr = r.loc.addr;
     }
     addrs
 }
 
 // Whether one of the addresses is `at`.
 fn has(addrs: &[u64], at: u64) -> bool {
-    let mut hit = false;
-    for i in 0..addrs.len() {
-        hit = hit | (addrs[i] == at);
-    }
-    hit
+    addrs.contains(&at)
 }
 
 // The letter of a block: w, p, e, f say whether an outstanding write, the persistent, the ephemeral and the frozen table have
