@@ -117,24 +117,20 @@ pub fn contents(base: u64, r: u64) -> Contents {
 }
 
 pub fn node_place(device: u64, block: u64) -> Location {
-    let n = layout::node_block_addr(device, block);
     Location {
-        addr: n.value,
+        addr: layout::node_block_addr(device, block).unwrap_or(0),
         len: 4096,
     }
 }
 
 pub fn table_place(device: u64, second: bool) -> Location {
-    if second {
-        let two = layout::indirection_table2_addr(device);
-        return Location {
-            addr: two.value,
-            len: 4096,
-        };
-    }
-    let one = layout::indirection_table1_addr(device);
+    let area = if second {
+        layout::indirection_table2_addr(device)
+    } else {
+        layout::indirection_table1_addr(device)
+    };
     Location {
-        addr: one.value,
+        addr: area.unwrap_or(0),
         len: 4096,
     }
 }

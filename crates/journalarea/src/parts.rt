@@ -8,29 +8,28 @@ ghost use Rattle.disklayout.specs.Layout.{journal_start_addr};
 ghost use Rattle.journalrange.specs.Parts.{journal_length, part_rows, front_rows, back_rows, part_of, front_part, back_part, cut};
 ghost use Rattle.journalrange.specs.Parts.{front_bytes, back_bytes, part_ptr};
 
-use disklayout::{Number, PlaceOption};
+use disklayout::{Location, Refused};
 use journalrange::Part;
 
 // The journal lies between the layout's two addresses of it.
-fn journal_length(device: u64) -> Number
-    ensures { result ≡ number device (journal_length (device_of device)) }
+#[tactic(auto, using(journalrange::proofs::Told::length_ends, journalrange::proofs::Told::length_told))]
+fn journal_length(device: u64) -> Result<u64, Refused>
+    ensures { result ≡ answered device (journal_length (device_of device)) }
 {
-    let begin = layout::journal_start_addr(device);
-    let end = layout::journal_end_addr(device);
-    Number {
-        answer: end.answer,
-        value: end.value - begin.value,
-    }
+    let begin = layout::journal_start_addr(device)?;
+    let end = layout::journal_end_addr(device)?;
+    Ok(end - begin)
 }
 
-// The number of a part's call; `located` is the layout's answer to the question for its location. The device is asked for here too, as a device
-// that is not made has a journal of length 0.
-fn part_number(device: u64, bytes: u64, located: u64) -> u64
-    ensures { result ≡ answer (part_rows device (eqb located 0) bytes) }
+// The number of a part's call; `located` says whether the layout answered the question for its location. The device is asked for here too, as a
+// device that is not made has a journal of length 0.
+fn part_number(device: u64, bytes: u64, located: bool) -> u64
+    ensures { result ≡ answer (part_rows device located bytes) }
 {
-    let journal = journal_length(device);
-    let length = journal.value;
-    let ok = (journal.answer == 0) & (located == 0);
+    let (ok, length) = match journal_length(device) {
+        Ok(length) => (located, length),
+        Err(_) => (false, 0),
+    };
     if !ok {
         return 1;
     }
@@ -41,19 +40,20 @@ fn part_number(device: u64, bytes: u64, located: u64) -> u64
 }
 
 // The part whose location on the device the layout told.
-fn part_of(device: u64, bytes: u64, place: PlaceOption) -> Part
-    requires { place.exists ≡ true → journal_start_addr ≤ place.loc.addr }
-    ensures { result ≡ part_of (answer (part_rows device (eqb place.answer 0) bytes)) (flagged place.exists place.loc) }
+fn part_of(device: u64, bytes: u64, place: Result<Option<Location>, Refused>) -> Part
+    requires { (l : Location) → told_location place ≡ some l → journal_start_addr ≤ l.addr }
+    ensures { result ≡ part_of (answer (part_rows device (is_ok place) bytes)) (told_location place) }
 {
-    let number = part_number(device, bytes, place.answer);
-    let there = (number == 0) & place.exists;
-    if there {
-        let begin = layout::journal_start_addr(device);
-        return Part {
-            answer: 0,
-            start: place.loc.addr - begin.value,
-            len: place.loc.len,
-        };
+    let number = part_number(device, bytes, place.is_ok());
+    if number == 0 {
+        if let Ok(Some(loc)) = place {
+            let begin = layout::journal_start_addr(device).unwrap_or(0);
+            return Part {
+                answer: 0,
+                start: loc.addr - begin,
+                len: loc.len,
+            };
+        }
     }
     Part {
         answer: number,

@@ -9,6 +9,8 @@ use Rattle.disklayout.specs.Device.{made, device_of}
 use Rattle.disklayout.specs.Journal.{journal_front_requires, journal_front_location, journal_back_requires, journal_back_location}
 use Rattle.disklayout.specs.Layout.{num_journal_blocks, journal_start_addr}
 use Rattle.journalrange.specs.declared.Part.{Part}
+use Rattle.std.specs.Prelude as code
+use Rattle.disklayout.specs.declared.Refused.{Refused}
 
 -- how many bytes a device's journal has
 abbrev pub journal_length : Device → ℕ
@@ -40,6 +42,15 @@ start_of (some l) = l.addr - journal_start_addr
 abbrev pub len_of : Option Location → ℕ
 len_of none = 0
 len_of (some l) = l.len
+
+-- the location in what the layout answers, if there is one
+abbrev pub located : code.Option Location → Option Location
+located code.None = none
+located (code.Some l) = some l
+
+abbrev pub told_location : code.Result (code.Option Location) Refused → Option Location
+told_location (code.Ok o) = located o
+told_location (code.Err e) = none
 
 -- by the number of its call and its location: empty where the call is refused
 abbrev pub part_of : ℕ → Option Location → Part

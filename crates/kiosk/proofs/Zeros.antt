@@ -3,11 +3,13 @@ use mathlib.Core.Path.{◌≡◌}
 use mathlib.Core.Bool.{Bool}
 use mathlib.Core.Option.{none}
 use Prim.Native.Nat.{ℕ}
+use Rattle.std.specs.Prelude as result
+use Rattle.std.specs.Result.{result_unwrap_or}
 use Rattle.base.specs.Refusals.{answer}
 use Rattle.base.specs.Scan.{bit}
 use Rattle.base.proofs.Tests.{split}
 use Rattle.disklayout.specs.declared.Kind.{Kind}
-use Rattle.disklayout.specs.Calls.{flag, number, place_kind}
+use Rattle.disklayout.specs.Calls.{answer_number, answered, holds_on, number_on}
 use Rattle.disklayout.specs.Device.{device_of, made}
 use Rattle.disklayout.specs.Journal.{journal_front_location, journal_back_location}
 use Rattle.disklayout.specs.Kinds.{kind_number}
@@ -17,14 +19,15 @@ use Rattle.journalrange.proofs.Parts.{Zeros, refused_zeros, absent_zeros}
 -- OF A REFUSED QUESTION
 
 module _ (d : ℕ) where
-  pub place_refused : (k : Kind) → ((place_kind d k).answer ≡ 0 → ⊥) → kind_number (place_kind d k).kind ≡ 0
+  pub place_refused : (k : result.Option Kind) → (answer_number (answered d k) ≡ 0 → ⊥) →
+      kind_number (result_unwrap_or (answered d k) result.None) ≡ 0
   unfolding kind_number
   place_refused k ne = split (made d) (λ t. absurd (ne (rw t))) (λ f. rw f)
 
-  pub overlap_refused : (b : Bool) → ((flag d b).answer ≡ 0 → ⊥) → bit (flag d b).yes ≡ 0
+  pub overlap_refused : (b : Bool) → (answer_number (answered d b) ≡ 0 → ⊥) → bit (holds_on d b) ≡ 0
   overlap_refused b ne = split (made d) (λ t. absurd (ne (rw t))) (λ f. rw f)
 
-  pub other_refused : (v : ℕ) → ((number d v).answer ≡ 0 → ⊥) → (number d v).value ≡ 0
+  pub other_refused : (v : ℕ) → (answer_number (answered d v) ≡ 0 → ⊥) → number_on d v ≡ 0
   other_refused v ne = split (made d) (λ t. absurd (ne (rw t))) (λ f. rw f)
 
 -- OF A PART: start and length are 0

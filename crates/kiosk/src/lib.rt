@@ -4,17 +4,18 @@
 // compares it with this file: C looks at the order of the arguments alone, and no contract says what it is. No function has a `requires`.
 #![tactic(auto)]
 
-ghost use Rattle.std.specs.Prelude.{◌≡◌};
+ghost use Rattle.std.specs.Prelude.{◌≡◌, None};
+ghost use Rattle.std.specs.Result.{result_unwrap_or};
 ghost use Rattle.base.specs.Refusals.{answer};
 ghost use Rattle.base.specs.Scan.{bit};
-ghost use Rattle.disklayout.specs.Calls.{flag, number, place_kind};
+ghost use Rattle.disklayout.specs.Calls.{answer_number, answered, holds_on, number_on};
 ghost use Rattle.disklayout.specs.Device.{device_of};
 ghost use Rattle.disklayout.specs.Kinds.{kind_number, kind_of};
 ghost use Rattle.disklayout.specs.Layout.{other_indirection_table_addr, overlap};
 ghost use Rattle.journalrange.specs.Parts.{front_rows, back_rows, front_part, back_part};
 ghost use Rattle.kiosk.specs.Places.{at};
 
-use disklayout::Location;
+use disklayout::{Location, Refused};
 
 fn place(addr: u64, len: u64) -> Location
     ensures { result ≡ at addr len }
@@ -22,22 +23,32 @@ fn place(addr: u64, len: u64) -> Location
     Location { addr, len }
 }
 
+// 0, or the number of the refusal.
+fn answer_number<T: Copy>(answered: Result<T, Refused>) -> u64
+    ensures { result ≡ answer_number answered }
+{
+    match answered {
+        Ok(_) => 0,
+        Err(refused) => u64::from(refused),
+    }
+}
+
 // WHICH PLACE THIS IS
 
 // 0, or 1 where there is no such device.
 #[unsafe(no_mangle)]
 pub extern "C" fn layout_place_result(device: u64, addr: u64, len: u64) -> u64
-    ensures { result ≡ (place_kind device (kind_of (device_of device) (at addr len))).answer }
+    ensures { result ≡ answer_number (answered device (kind_of (device_of device) (at addr len))) }
 {
-    layout::kind_of(device, place(addr, len)).answer
+    answer_number(layout::kind_of(device, place(addr, len)))
 }
 
 // The number of its kind: 1 and 2 the superblocks, 3 journal, 4 table, 5 node; 0 where it is of none.
 #[unsafe(no_mangle)]
 pub extern "C" fn layout_place_kind(device: u64, addr: u64, len: u64) -> u64
-    ensures { result ≡ kind_number (place_kind device (kind_of (device_of device) (at addr len))).kind }
+    ensures { result ≡ kind_number (result_unwrap_or (answered device (kind_of (device_of device) (at addr len))) None) }
 {
-    let kind = layout::kind_of(device, place(addr, len)).kind;
+    let kind = layout::kind_of(device, place(addr, len)).unwrap_or(None);
     layout::kind_number(kind)
 }
 
@@ -52,17 +63,17 @@ pub extern "C" fn layout_overlap_result(
     addr2: u64,
     len2: u64,
 ) -> u64
-    ensures { result ≡ (flag device (overlap (at addr1 len1) (at addr2 len2))).answer }
+    ensures { result ≡ answer_number (answered device (overlap (at addr1 len1) (at addr2 len2))) }
 {
-    layout::overlap(device, place(addr1, len1), place(addr2, len2)).answer
+    answer_number(layout::overlap(device, place(addr1, len1), place(addr2, len2)))
 }
 
 // 1 where the two places overlap, 0 where they don't.
 #[unsafe(no_mangle)]
 pub extern "C" fn layout_overlap(device: u64, addr1: u64, len1: u64, addr2: u64, len2: u64) -> u64
-    ensures { result ≡ bit (flag device (overlap (at addr1 len1) (at addr2 len2))).yes }
+    ensures { result ≡ bit (holds_on device (overlap (at addr1 len1) (at addr2 len2))) }
 {
-    layout::overlap(device, place(addr1, len1), place(addr2, len2)).yes as u64
+    layout::overlap(device, place(addr1, len1), place(addr2, len2)).unwrap_or(false) as u64
 }
 
 // THE OTHER TABLE'S ADDRESS
@@ -70,17 +81,17 @@ pub extern "C" fn layout_overlap(device: u64, addr1: u64, len1: u64, addr2: u64,
 // 0, or 1 where there is no such device.
 #[unsafe(no_mangle)]
 pub extern "C" fn layout_other_table_result(device: u64, addr: u64) -> u64
-    ensures { result ≡ (number device (other_indirection_table_addr (device_of device) addr)).answer }
+    ensures { result ≡ answer_number (answered device (other_indirection_table_addr (device_of device) addr)) }
 {
-    layout::other_indirection_table_addr(device, addr).answer
+    answer_number(layout::other_indirection_table_addr(device, addr))
 }
 
 // The address of table area 2 for that of area 1; the address of area 1 for every other, as upstream has it.
 #[unsafe(no_mangle)]
 pub extern "C" fn layout_other_table_addr(device: u64, addr: u64) -> u64
-    ensures { result ≡ (number device (other_indirection_table_addr (device_of device) addr)).value }
+    ensures { result ≡ number_on device (other_indirection_table_addr (device_of device) addr) }
 {
-    layout::other_indirection_table_addr(device, addr).value
+    layout::other_indirection_table_addr(device, addr).unwrap_or(0)
 }
 
 // THE FRONT PART OF A RANGE: of `blocks` blocks from block `start` on, up to the journal's end

@@ -111,11 +111,8 @@ fn small_entry(device: u64, used: bool, l: u64, r: u64) -> Entry
     ensures { result ≡ small_entry device used l r }
 {
     if used {
-        let block = layout::node_block_addr(device, r);
-        let loc = Location {
-            addr: block.value,
-            len: 4096,
-        };
+        let addr = layout::node_block_addr(device, r).unwrap_or(0);
+        let loc = Location { addr, len: 4096 };
         let succs = list_of(l);
         return Entry {
             allocated: true,

@@ -1,7 +1,7 @@
 // What is printed.
 use blockcache::Choice;
 use blocksystem::Counts;
-use disklayout::{Kind, Location, PlaceKind};
+use disklayout::{Kind, Location, Refused};
 use output::{Output, list, number, text, word};
 use sectortype::{Contents, Node};
 
@@ -45,14 +45,14 @@ pub fn transaction(out: &mut Output, line: u64, answer: u64, place: u64) {
 }
 
 // The word of a kind.
-fn kind_word(out: &mut Output, k: Kind) {
-    match k {
-        Kind::Superblock1 => text(out, b"superblock1"),
-        Kind::Superblock2 => text(out, b"superblock2"),
-        Kind::Journal => text(out, b"journal"),
-        Kind::Table => text(out, b"table"),
-        Kind::Node => text(out, b"node"),
-        Kind::None => text(out, b"none"),
+fn kind_word(out: &mut Output, kind: Option<Kind>) {
+    match kind {
+        Some(Kind::Superblock1) => text(out, b"superblock1"),
+        Some(Kind::Superblock2) => text(out, b"superblock2"),
+        Some(Kind::Journal) => text(out, b"journal"),
+        Some(Kind::Table) => text(out, b"table"),
+        Some(Kind::Node) => text(out, b"node"),
+        None => text(out, b"none"),
     }
 }
 
@@ -66,13 +66,16 @@ pub fn choice(out: &mut Output, line: u64, c: Choice) {
     text(out, b"\n");
 }
 
-// What a place is.
-pub fn place(out: &mut Output, line: u64, p: PlaceKind) {
-    let k = p.kind;
+// What a place is: 0 and its kind, or the number of the refusal and no kind.
+pub fn place(out: &mut Output, line: u64, asked: Result<Option<Kind>, Refused>) {
     word(out, b"line=", line);
-    word(out, b" answer=", p.answer);
+    let (answer, kind) = match asked {
+        Ok(kind) => (0, kind),
+        Err(refused) => (u64::from(refused), None),
+    };
+    word(out, b" answer=", answer);
     text(out, b" kind=");
-    kind_word(out, k);
+    kind_word(out, kind);
     text(out, b"\n");
 }
 

@@ -108,9 +108,8 @@ fn letters(device: u64, cache: CacheState, disk: DiskState) -> [u8; 128] {
     let p = located(tables.persistent);
     let e = located(tables.ephemeral);
     let f = located(tables.frozen);
-    let first = layout::first_node_addr(device);
-    let size = layout::node_block_size(device);
-    let mut at = first.value;
+    let size = layout::node_block_size(device).unwrap_or(0);
+    let mut at = layout::first_node_addr(device).unwrap_or(0);
     let mut row = [b'.'; 128];
     for k in 0..128 {
         let r = records.nodes[k];
@@ -121,7 +120,7 @@ fn letters(device: u64, cache: CacheState, disk: DiskState) -> [u8; 128] {
             frozen & has(&f, at),
             r.present,
         );
-        at += size.value;
+        at += size;
     }
     row
 }

@@ -66,9 +66,8 @@ fn call(vop: VersionOp, dop: DiskOp, table: Table) -> Call {
 
 // A new cache that has received table area 1's place and asked for its table: it is Loading, and awaits the read.
 fn loading(settings: Settings) -> CacheState {
-    let area = layout::indirection_table1_addr(settings.device);
     let loc = Location {
-        addr: area.value,
+        addr: layout::indirection_table1_addr(settings.device).unwrap_or(0),
         len: 4096,
     };
     let none = sector::empty_table();

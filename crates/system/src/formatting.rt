@@ -75,10 +75,10 @@ impl Store {
                 disk,
             };
         }
-        let t = layout::indirection_table1_addr(device);
-        let n = layout::first_node_addr(device);
-        let at = place_at(t.value);
-        let place = place_at(n.value);
+        let t = layout::indirection_table1_addr(device).unwrap_or(0);
+        let n = layout::first_node_addr(device).unwrap_or(0);
+        let at = place_at(t);
+        let place = place_at(n);
         let records = formatted_records(at, place, contents);
         let disk = DiskState {
             rule,
@@ -122,8 +122,8 @@ fn with_root(contents: Contents) -> Nodes
 pub fn format_pictures(device: u64, contents: Contents) -> Pictures
     ensures { result ≡ first_pictures device contents }
 {
-    let t = layout::indirection_table1_addr(device);
-    let place = place_at(t.value);
+    let t = layout::indirection_table1_addr(device).unwrap_or(0);
+    let place = place_at(t);
     let working = with_root(contents);
     let picture = working;
     let first = Named {

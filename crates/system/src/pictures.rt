@@ -14,9 +14,7 @@ use sectortype::{Node, Nodes, Slot};
 fn names_place(m: Named, l: Location) -> bool
     ensures { result ≡ names m l }
 {
-    let at = m.place;
-    let same = layout::same_loc(at, l);
-    m.present & same
+    m.present & (m.place == l)
 }
 
 fn naming_place(place: Location, picture: Nodes) -> Named

@@ -9,7 +9,8 @@ unfolding small_entry
 returns-then-used c =
     simp (
       c.list_of-succs.ensures,
-      c.node_block_addr-block.ensures,
+      c.unwrap_or-addr.ensures,
+      c.node_block_addr.ensures,
       c.if-used.true,
       le-leb _ _ c.requires.device_bound,
       lt-ltb c.args.r 128 (omega (arith, c.requires.r_bound)),

@@ -4,6 +4,7 @@ use mathlib.Core.Path.{◌≡◌}
 use Rattle.blockdisk.specs.Form.{is_rule}
 use Rattle.disklayout.specs.Device.{made}
 use Rattle.blocksystem.specs.Format.{formatted}
+use Rattle.disklayout.proofs.Results.{answered_number}
 use Rattle.system.proofs.Store.format.Goals as goal
 
 pub returns-then-not-good : goal.returns-then-not-good
@@ -23,8 +24,11 @@ returns c =
       c.formatted_records-records.ensures,
       c.place_at-place.ensures,
       c.place_at-at.ensures,
-      c.first_node_addr-n.ensures,
-      c.indirection_table1_addr-t.ensures,
+      c.unwrap_or-n.ensures,
+      c.first_node_addr.ensures,
+      c.unwrap_or-t.ensures,
+      c.indirection_table1_addr.ensures,
+      answered_number,
       c.empty_queues-queues.ensures,
       c.empty_cache-cache.ensures,
       c.zero_node-node.ensures,

@@ -1,5 +1,6 @@
 -- By what the callees ensure. Assumes nothing.
 use Rattle.blocksystem.specs.Names.{first_pictures}
+use Rattle.disklayout.proofs.Results.{answered_number}
 use Rattle.system.proofs.formatting.format_pictures.Goals as goal
 
 pub returns : goal.returns
@@ -10,5 +11,7 @@ returns c =
       c.zero_named-second.ensures,
       c.with_root-working.ensures,
       c.place_at-place.ensures,
-      c.indirection_table1_addr-t.ensures,
+      c.unwrap_or-t.ensures,
+      c.indirection_table1_addr.ensures,
+      answered_number,
     )
