@@ -1,7 +1,7 @@
 // A crash of the disk: 19 unless the records offered are possible, 1 where one is not in its written form.
 use blockdisk::{Queues, Records};
 use fixtures::show::{crash_answer, line, pair};
-use fixtures::{Queued, 
+use fixtures::{DiskQueue, 
     AREA1, AREA2, BLOCK0, BLOCK1, absent_node_record, at, high_leaf, leaf, node_record, one,
     put_node, put_table, queues_with, stored, table_record, two_entries,
 };
@@ -87,7 +87,7 @@ fn tables(out: &mut Output, name: &[u8], queues: Queues) {
 }
 
 // One request in one of the queues, at this address.
-fn outstanding(which: Queued, addr: u64) -> Queues {
+fn outstanding(which: DiskQueue, addr: u64) -> Queues {
     let loc = at(addr, 4096);
     let q = one(1, 0, loc);
     queues_with(which, q)
@@ -96,16 +96,16 @@ fn outstanding(which: Queued, addr: u64) -> Queues {
 // Only a write to that very block or area lets a record go.
 fn each_queue(out: &mut Output) {
     let none = disk::empty_queues();
-    let read = outstanding(Queued::NodeReads, BLOCK0);
-    let other = outstanding(Queued::NodeWrites, BLOCK1);
-    let write = outstanding(Queued::NodeWrites, BLOCK0);
+    let read = outstanding(DiskQueue::NodeReads, BLOCK0);
+    let other = outstanding(DiskQueue::NodeWrites, BLOCK1);
+    let write = outstanding(DiskQueue::NodeWrites, BLOCK0);
     nodes(out, b"crash_with_nothing_outstanding", none);
     nodes(out, b"crash_with_a_read_of_the_block", read);
     nodes(out, b"crash_with_a_write_to_another_block", other);
     nodes(out, b"crash_with_a_write_to_the_block", write);
-    let tableread = outstanding(Queued::TableReads, AREA1);
-    let tableother = outstanding(Queued::TableWrites, AREA2);
-    let tablewrite = outstanding(Queued::TableWrites, AREA1);
+    let tableread = outstanding(DiskQueue::TableReads, AREA1);
+    let tableother = outstanding(DiskQueue::TableWrites, AREA2);
+    let tablewrite = outstanding(DiskQueue::TableWrites, AREA1);
     tables(out, b"crash_with_nothing_outstanding", none);
     tables(out, b"crash_with_a_read_of_the_area", tableread);
     tables(out, b"crash_with_a_write_to_the_other_area", tableother);

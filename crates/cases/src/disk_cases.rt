@@ -3,54 +3,54 @@ use blockdisk::{Brought, DiskCall, DiskOp, DiskState, Queues};
 use disk::Disk;
 use disklayout::Location;
 use fixtures::show::{disk_answer, disk_brings, line, pair};
-use fixtures::{Queued, AREA1, AREA2, BLOCK0, at, high_leaf, leaf, queue_of, stored, storing, two_entries};
+use fixtures::{DiskQueue, AREA1, AREA2, BLOCK0, at, high_leaf, leaf, queue_of, stored, storing, two_entries};
 use output::Output;
 use queue::{Request, Requests};
 use sectortype::{Node, Table};
 
-fn request_of(which: Queued, id: u64, loc: Location) -> DiskOp {
+fn request_of(which: DiskQueue, id: u64, loc: Location) -> DiskOp {
     match which {
-        Queued::TableReads => DiskOp::ReqReadIndirectionTableOp(id, loc),
-        Queued::NodeReads => DiskOp::ReqReadNodeOp(id, loc),
-        Queued::TableWrites => DiskOp::ReqWriteIndirectionTableOp(id, loc),
-        Queued::NodeWrites => DiskOp::ReqWriteNodeOp(id, loc),
+        DiskQueue::TableReads => DiskOp::ReqReadIndirectionTableOp(id, loc),
+        DiskQueue::NodeReads => DiskOp::ReqReadNodeOp(id, loc),
+        DiskQueue::TableWrites => DiskOp::ReqWriteIndirectionTableOp(id, loc),
+        DiskQueue::NodeWrites => DiskOp::ReqWriteNodeOp(id, loc),
     }
 }
 
 // A read answer brings nothing here.
-fn answer_of(which: Queued, id: u64) -> DiskOp {
+fn answer_of(which: DiskQueue, id: u64) -> DiskOp {
     match which {
-        Queued::TableReads => DiskOp::RespReadIndirectionTableOp(id, Brought::Nothing),
-        Queued::NodeReads => DiskOp::RespReadNodeOp(id, Brought::Nothing),
-        Queued::TableWrites => DiskOp::RespWriteIndirectionTableOp(id),
-        Queued::NodeWrites => DiskOp::RespWriteNodeOp(id),
+        DiskQueue::TableReads => DiskOp::RespReadIndirectionTableOp(id, Brought::Nothing),
+        DiskQueue::NodeReads => DiskOp::RespReadNodeOp(id, Brought::Nothing),
+        DiskQueue::TableWrites => DiskOp::RespWriteIndirectionTableOp(id),
+        DiskQueue::NodeWrites => DiskOp::RespWriteNodeOp(id),
     }
 }
 
 // A place that 16 allows.
-fn allowed(which: Queued) -> Location {
+fn allowed(which: DiskQueue) -> Location {
     match which {
-        Queued::TableReads | Queued::TableWrites => at(AREA1, 4096),
-        Queued::NodeReads | Queued::NodeWrites => at(BLOCK0, 4096),
+        DiskQueue::TableReads | DiskQueue::TableWrites => at(AREA1, 4096),
+        DiskQueue::NodeReads | DiskQueue::NodeWrites => at(BLOCK0, 4096),
     }
 }
 
 // So many in one queue, so many in each of the other three.
-fn filled(which: Queued, own: u64, others: u64) -> DiskState {
-    let size = |q: Queued| if q == which { own } else { others };
-    let full = |q: Queued| queue_of(size(q), allowed(q));
+fn filled(which: DiskQueue, own: u64, others: u64) -> DiskState {
+    let size = |q: DiskQueue| if q == which { own } else { others };
+    let full = |q: DiskQueue| queue_of(size(q), allowed(q));
     let mut disk = storing(disk::empty_records());
     disk.queues = Queues {
-        tablereads: full(Queued::TableReads),
-        nodereads: full(Queued::NodeReads),
-        tablewrites: full(Queued::TableWrites),
-        nodewrites: full(Queued::NodeWrites),
+        tablereads: full(DiskQueue::TableReads),
+        nodereads: full(DiskQueue::NodeReads),
+        tablewrites: full(DiskQueue::TableWrites),
+        nodewrites: full(DiskQueue::NodeWrites),
     };
     disk
 }
 
 // A request at a place that 16 allows.
-fn asked(which: Queued, s: DiskState, id: u64) -> u64 {
+fn asked(which: DiskQueue, s: DiskState, id: u64) -> u64 {
     let loc = allowed(which);
     let op = request_of(which, id, loc);
     disk_answer(s, op)
@@ -58,7 +58,7 @@ fn asked(which: Queued, s: DiskState, id: u64) -> u64 {
 
 // 18 with sixteen in the request's own queue and none in the others, 0 with fifteen and sixteen in the others; 15 under an id of its
 // own queue, and before 18; 16 before 18.
-fn requests(out: &mut Output, name: &[u8], which: Queued) {
+fn requests(out: &mut Output, name: &[u8], which: DiskQueue) {
     let full = filled(which, 16, 0);
     let room = filled(which, 15, 16);
     let nowhere = sector::zero_loc();
@@ -78,7 +78,7 @@ fn requests(out: &mut Output, name: &[u8], which: Queued) {
 }
 
 // 15 where the id is not in the answer's own queue.
-fn answers(out: &mut Output, name: &[u8], which: Queued) {
+fn answers(out: &mut Output, name: &[u8], which: DiskQueue) {
     let s = filled(which, 15, 16);
     let unknown = answer_of(which, 99);
     let other = answer_of(which, 16);
@@ -92,14 +92,14 @@ fn answers(out: &mut Output, name: &[u8], which: Queued) {
 }
 
 // A request on an empty disk.
-fn edge(which: Queued, addr: u64, len: u64) -> u64 {
+fn edge(which: DiskQueue, addr: u64, len: u64) -> u64 {
     let s = filled(which, 0, 0);
     let loc = at(addr, len);
     let op = request_of(which, 1, loc);
     disk_answer(s, op)
 }
 
-fn table_edges(out: &mut Output, name: &[u8], which: Queued) {
+fn table_edges(out: &mut Output, name: &[u8], which: DiskQueue) {
     let a = edge(which, AREA1, 0);
     let b = edge(which, AREA1, 1);
     let c = edge(which, AREA1, 65536);
@@ -114,7 +114,7 @@ fn table_edges(out: &mut Output, name: &[u8], which: Queued) {
     pair(out, name, b"at_139264_length_1", f);
 }
 
-fn node_edges(out: &mut Output, name: &[u8], which: Queued) {
+fn node_edges(out: &mut Output, name: &[u8], which: DiskQueue) {
     let a = edge(which, BLOCK0, 0);
     let b = edge(which, BLOCK0, 1);
     let c = edge(which, BLOCK0, 65536);
@@ -208,17 +208,17 @@ fn brought(out: &mut Output) {
 }
 
 pub(crate) fn run(out: &mut Output) {
-    requests(out, b"table_read_request", Queued::TableReads);
-    requests(out, b"node_read_request", Queued::NodeReads);
-    requests(out, b"table_write_request", Queued::TableWrites);
-    requests(out, b"node_write_request", Queued::NodeWrites);
-    answers(out, b"table_read_answer", Queued::TableReads);
-    answers(out, b"node_read_answer", Queued::NodeReads);
-    answers(out, b"table_write_answer", Queued::TableWrites);
-    answers(out, b"node_write_answer", Queued::NodeWrites);
-    table_edges(out, b"table_read_request", Queued::TableReads);
-    table_edges(out, b"table_write_request", Queued::TableWrites);
-    node_edges(out, b"node_read_request", Queued::NodeReads);
-    node_edges(out, b"node_write_request", Queued::NodeWrites);
+    requests(out, b"table_read_request", DiskQueue::TableReads);
+    requests(out, b"node_read_request", DiskQueue::NodeReads);
+    requests(out, b"table_write_request", DiskQueue::TableWrites);
+    requests(out, b"node_write_request", DiskQueue::NodeWrites);
+    answers(out, b"table_read_answer", DiskQueue::TableReads);
+    answers(out, b"node_read_answer", DiskQueue::NodeReads);
+    answers(out, b"table_write_answer", DiskQueue::TableWrites);
+    answers(out, b"node_write_answer", DiskQueue::NodeWrites);
+    table_edges(out, b"table_read_request", DiskQueue::TableReads);
+    table_edges(out, b"table_write_request", DiskQueue::TableWrites);
+    node_edges(out, b"node_read_request", DiskQueue::NodeReads);
+    node_edges(out, b"node_write_request", DiskQueue::NodeWrites);
     brought(out);
 }

@@ -5,7 +5,7 @@ use blockdisk::{Brought, DiskOp, DiskState, Records};
 use disklayout::Location;
 use fixtures::changed::changed;
 use fixtures::show::{internal, no_op_call, pair};
-use fixtures::{Queued, 
+use fixtures::{DiskQueue, 
     AREA1, AREA2, BLOCK1, BLOCK2, BLOCK3, at, entry_at, in_phase, leaf, one, queue_of, queued,
     ready, stored, storing, two_entries, with_cached, with_ephemeral, with_frozen,
     with_frozen_place, with_reads, with_writes,
@@ -78,7 +78,7 @@ fn step_1_ids(out: &mut Output) {
     let c = cached();
     let w = writes(1);
     let known = with_writes(c, w);
-    let s = queued(Queued::NodeWrites, w);
+    let s = queued(DiskQueue::NodeWrites, w);
     let none = empty();
     let loc = at(BLOCK3, 4096);
     let q = write_call(1, loc);
@@ -99,7 +99,7 @@ fn step_1_limits(out: &mut Output) {
     let c = cached();
     let w = writes(16);
     let full = with_writes(c, w);
-    let s = queued(Queued::NodeWrites, w);
+    let s = queued(DiskQueue::NodeWrites, w);
     let none = empty();
     let loc = at(BLOCK3, 4096);
     let past = at(8650752, 1);
@@ -122,7 +122,7 @@ fn step_2(out: &mut Output) {
     let c = cached();
     let w = writes(1);
     let awaiting = with_writes(c, w);
-    let s = queued(Queued::NodeWrites, w);
+    let s = queued(DiskQueue::NodeWrites, w);
     let none = empty();
     let dop = DiskOp::RespWriteNodeOp(1);
     let node = sector::zero_node();
@@ -151,8 +151,8 @@ fn step_3(out: &mut Output) {
     let frozen = with_frozen(c, true, t);
     let p = table_requests(1);
     let r = table_requests(16);
-    let known = queued(Queued::TableWrites, p);
-    let full = queued(Queued::TableWrites, r);
+    let known = queued(DiskQueue::TableWrites, p);
+    let full = queued(DiskQueue::TableWrites, r);
     let none = empty();
     let loc = at(AREA2, 4096);
     let node = sector::zero_node();
@@ -208,7 +208,7 @@ pub(crate) fn table_written() -> Call {
 fn step_4(out: &mut Output) {
     let c = awaiting_table();
     let p = table_requests(1);
-    let s = queued(Queued::TableWrites, p);
+    let s = queued(DiskQueue::TableWrites, p);
     let none = empty();
     let q = table_written();
     joined(out, b"step_4_accepted", 4, q, c, s);
@@ -238,8 +238,8 @@ fn step_6(out: &mut Output) {
     let beyond = at(8650752, 4096);
     let p = queue_of(1, loc);
     let r = queue_of(16, loc);
-    let known = queued(Queued::NodeReads, p);
-    let full = queued(Queued::NodeReads, r);
+    let known = queued(DiskQueue::NodeReads, p);
+    let full = queued(DiskQueue::NodeReads, r);
     let none = empty();
     let q = read_call(1, loc);
     let x = read_call(99, loc);
@@ -261,7 +261,7 @@ pub(crate) fn awaiting_node(c: CacheState, reference: u8) -> CacheState {
 pub(crate) fn node_read() -> DiskState {
     let loc = at(BLOCK1, 4096);
     let p = queue_of(1, loc);
-    queued(Queued::NodeReads, p)
+    queued(DiskQueue::NodeReads, p)
 }
 
 pub(crate) fn node_answer(b: Brought) -> Call {
@@ -306,8 +306,8 @@ fn step_8(out: &mut Output) {
     let d = loading(wrong);
     let p = table_requests(1);
     let r = table_requests(16);
-    let known = queued(Queued::TableReads, p);
-    let full = queued(Queued::TableReads, r);
+    let known = queued(DiskQueue::TableReads, p);
+    let full = queued(DiskQueue::TableReads, r);
     let none = empty();
     let node = sector::zero_node();
     let one = DiskOp::ReqReadIndirectionTableOp(1, loc);
@@ -340,7 +340,7 @@ fn crash(out: &mut Output) {
         table,
     };
     let p = table_requests(1);
-    let outstanding = queued(Queued::TableWrites, p);
+    let outstanding = queued(DiskQueue::TableWrites, p);
     both(out, b"crash_accepted", 18, q, none, c, outstanding);
     both(out, b"crash_with_19_of_the_disk_alone", 18, q, none, c, s);
 }
@@ -352,7 +352,7 @@ fn forms(out: &mut Output) {
     let q = no_op_call();
     let nowhere = sector::zero_loc();
     let p = one(1, 0, nowhere);
-    let broken = queued(Queued::NodeWrites, p);
+    let broken = queued(DiskQueue::NodeWrites, p);
     let loc = at(AREA1, 4096);
     let r = one(1, 0, loc);
     let wrong = with_reads(c, r);

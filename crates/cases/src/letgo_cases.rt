@@ -7,7 +7,7 @@ use crate::joined_cases::{
 use blockcache::{Awaited, CacheState, Call};
 use blockdisk::{Brought, DiskOp, DiskState};
 use fixtures::show::{internal, line};
-use fixtures::{Queued, AREA2, at, queued, ready, two_entries};
+use fixtures::{DiskQueue, AREA2, at, queued, ready, two_entries};
 use output::Output;
 use system::Store;
 
@@ -26,7 +26,7 @@ fn awaiting_load() -> CacheState {
 // A disk that stores nothing, with a table read of area 2 queued under id 1.
 fn table_read() -> DiskState {
     let p = table_requests(1);
-    queued(Queued::TableReads, p)
+    queued(DiskQueue::TableReads, p)
 }
 
 fn table_answer(b: Brought) -> Call {
@@ -265,7 +265,7 @@ fn write_stays(out: &mut Output) {
     );
     let after = o.cache;
     let p = table_requests(1);
-    let s = queued(Queued::TableWrites, p);
+    let s = queued(DiskQueue::TableWrites, p);
     let q = table_written();
     joined(out, b"step_4_after_step_19_under_its_id", 4, q, after, s);
 }

@@ -6,7 +6,7 @@ use blockcache::{CacheState, Operation, Phase, VersionOp};
 use blockdisk::DiskState;
 use fixtures::changed::changed;
 use fixtures::show::{pair, versioned};
-use fixtures::{Queued, AREA1, at, in_phase, leaf, one, queued, ready, with_reads};
+use fixtures::{DiskQueue, AREA1, at, in_phase, leaf, one, queued, ready, with_reads};
 use output::Output;
 use system::{Store, TRANSACTION};
 
@@ -75,7 +75,7 @@ pub(crate) fn run(out: &mut Output) {
     let none = empty();
     let nowhere = sector::zero_loc();
     let p = one(1, 0, nowhere);
-    let broken = queued(Queued::NodeWrites, p);
+    let broken = queued(DiskQueue::NodeWrites, p);
     let loc = at(AREA1, 4096);
     let r = one(1, 0, loc);
     let wrong = with_reads(c, r);

@@ -3,7 +3,7 @@
 // block 2 is given, of 126, at 393216.
 use crate::choose_cases::{asked_with, full};
 use blockdisk::{DiskState, NodeRecord, TableRecord};
-use fixtures::{Queued, 
+use fixtures::{DiskQueue, 
     AREA2, BLOCK0, BLOCK1, absent_node_record, at, leaf, loading, node_record, one, put_node,
     put_table, queue_of, queued, ready, stored, storing, table_record, two_entries, with_last,
 };
@@ -39,7 +39,7 @@ fn out_of_order(addr: u64) -> Requests {
 fn in_form(out: &mut Output) {
     let loc = at(BLOCK0, 4096);
     let q = queue_of(2, loc);
-    let waiting = queued(Queued::NodeReads, q);
+    let waiting = queued(DiskQueue::NodeReads, q);
     let r = stored();
     let mut both = storing(r);
     let queues = waiting.queues;
@@ -90,11 +90,11 @@ fn queues(out: &mut Output) {
     let nodes = out_of_order(BLOCK0);
     let odd = at(262145, 4096);
     let nowhere = one(1, 0, odd);
-    let a = queued(Queued::TableReads, tables);
-    let b = queued(Queued::NodeReads, nodes);
-    let c = queued(Queued::TableWrites, tables);
-    let d = queued(Queued::NodeWrites, nodes);
-    let e = queued(Queued::NodeReads, nowhere);
+    let a = queued(DiskQueue::TableReads, tables);
+    let b = queued(DiskQueue::NodeReads, nodes);
+    let c = queued(DiskQueue::TableWrites, tables);
+    let d = queued(DiskQueue::NodeWrites, nodes);
+    let e = queued(DiskQueue::NodeReads, nowhere);
     on(out, b"on_a_disk_with_table_reads_out_of_order", a);
     on(out, b"on_a_disk_with_node_reads_out_of_order", b);
     on(out, b"on_a_disk_with_table_writes_out_of_order", c);
@@ -105,7 +105,7 @@ fn queues(out: &mut Output) {
 // 1 before 4 and before 21, for the disk as for the cache.
 fn first(out: &mut Output) {
     let nodes = out_of_order(BLOCK0);
-    let disk = queued(Queued::NodeReads, nodes);
+    let disk = queued(DiskQueue::NodeReads, nodes);
     let unready = cache::empty_cache();
     let loads = loading();
     let all = full();

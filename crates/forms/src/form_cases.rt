@@ -5,7 +5,7 @@ use disklayout::Location;
 use fixtures::show::{
     cache_answer, cache_form, crash_answer, disk_brings, disk_form, internal, no_op_call, pair,
 };
-use fixtures::{Queued, 
+use fixtures::{DiskQueue, 
     AREA1, BLOCK0, BLOCK1, at, entry_at, entry_nowhere, node_record, put_node, put_table, queue_of,
     queued, ready, storing, table_record, two_entries, with_cached, with_ephemeral, with_frozen,
     with_persistent, with_reads, with_writes,
@@ -241,10 +241,10 @@ fn queue_on_disk(out: &mut Output, name: &[u8], wrong: Wrong) {
     let node = at(BLOCK0, 4096);
     let p = queue_with(wrong, table);
     let q = queue_with(wrong, node);
-    let r = queued(Queued::TableReads, p);
-    let s = queued(Queued::NodeReads, q);
-    let t = queued(Queued::TableWrites, p);
-    let u = queued(Queued::NodeWrites, q);
+    let r = queued(DiskQueue::TableReads, p);
+    let s = queued(DiskQueue::NodeReads, q);
+    let t = queued(DiskQueue::TableWrites, p);
+    let u = queued(DiskQueue::NodeWrites, q);
     let a = disk_form(r);
     let b = disk_form(s);
     let c = disk_form(t);

@@ -5,7 +5,7 @@ use cache::Cache;
 use disk::Disk;
 use disklayout::Location;
 use fixtures::show::{cache_answer, cache_form, disk_form, internal, line, no_op_call, pair};
-use fixtures::{Queued, 
+use fixtures::{DiskQueue, 
     AREA1, AREA2, BLOCK0, BLOCK1, RULE_1, absent_node_record, at, high_leaf, in_phase, leaf,
     marked_on, node_record, one, put_node, put_table, queued, ready, storing, table_record,
     two_entries, with_cached, with_ephemeral, with_frozen, with_frozen_place, with_persistent,
@@ -227,7 +227,7 @@ fn queue_place(
     out: &mut Output,
     name: &[u8],
     what: &[u8],
-    which: Queued,
+    which: DiskQueue,
     reference: u8,
     loc: Location,
 ) {
@@ -238,7 +238,7 @@ fn queue_place(
 }
 
 // A place that 16 forbids; and the disk's requests have no reference.
-fn queue_places(out: &mut Output, name: &[u8], which: Queued, addr: u64) {
+fn queue_places(out: &mut Output, name: &[u8], which: DiskQueue, addr: u64) {
     let good = at(addr, 1);
     let short = at(addr, 0);
     let long = at(addr, 65537);
@@ -303,10 +303,10 @@ pub(crate) fn run(out: &mut Output) {
     phases(out);
     node_records(out);
     table_records(out);
-    queue_places(out, b"table_reads", Queued::TableReads, AREA1);
-    queue_places(out, b"node_reads", Queued::NodeReads, BLOCK0);
-    queue_places(out, b"table_writes", Queued::TableWrites, AREA1);
-    queue_places(out, b"node_writes", Queued::NodeWrites, BLOCK0);
+    queue_places(out, b"table_reads", DiskQueue::TableReads, AREA1);
+    queue_places(out, b"node_reads", DiskQueue::NodeReads, BLOCK0);
+    queue_places(out, b"table_writes", DiskQueue::TableWrites, AREA1);
+    queue_places(out, b"node_writes", DiskQueue::NodeWrites, BLOCK0);
     settings(out, b"device_2", 2, RULE_1);
     settings(out, b"device_3", 3, RULE_1);
     numbers(out);
