@@ -7,6 +7,7 @@ use borrow.Author.Tests.{leb-true, le-leb}
 use Rattle.std.specs.Prelude.{Ok, Err}
 use Rattle.std.specs.Result.{result_unwrap_or}
 use Rattle.base.proofs.Tests.{and_iff, split}
+use Rattle.disklayout.specs.declared.Refused.{Refused}
 use Rattle.disklayout.specs.declared.Refused.TheVariants.{Undefined}
 use Rattle.disklayout.specs.Calls.{answered, answered_if, holds_on, number_on}
 use Rattle.disklayout.specs.Device.{made}
@@ -35,3 +36,10 @@ module _ (d : ℕ) where
     -- where `pre` is asked for too
     pub answered_past : (pre : Bool) → made d ≡ true → pre ≡ false → answered_if d pre v ≡ Err Undefined
     answered_past pre m f = rw (m, f)
+
+    -- and back
+    pub made_told : {x : A} → answered d v ≡ Ok x → (made d ≡ true) × (x ≡ v)
+    made_told e = split (made d) (λ t. let q : Ok v ≡ answered d v = rw t in (t, cc)) (λ f. let q : Err Undefined ≡ answered d v = rw f in cc)
+
+    pub refusal_told : {r : Refused} → answered d v ≡ Err r → made d ≡ false
+    refusal_told e = split (made d) (λ t. let q : Ok v ≡ answered d v = rw t in cc) (λ f. f)

@@ -1,11 +1,11 @@
 // Where in the lent area a part lies, and the calls.
-ghost use Rattle.std.specs.Prelude.{◌≡◌, true, ◌+◌, ◌≤◌, eqb, length};
-ghost use Rattle.base.specs.Maps.{flagged};
+ghost use Rattle.std.specs.Prelude.{◌≡◌, ◌+◌, ◌≤◌, is_ok, length};
+ghost use Rattle.std.proofs.Math.Option.{some};
 ghost use Rattle.base.specs.Refusals.{answer};
-ghost use Rattle.disklayout.specs.Calls.{number};
+ghost use Rattle.disklayout.specs.Calls.{answered};
 ghost use Rattle.disklayout.specs.Device.{device_of};
 ghost use Rattle.disklayout.specs.Layout.{journal_start_addr};
-ghost use Rattle.journalrange.specs.Parts.{journal_length, part_rows, front_rows, back_rows, part_of, front_part, back_part, cut};
+ghost use Rattle.journalrange.specs.Parts.{journal_length, part_rows, front_rows, back_rows, part_of, told_location, front_part, back_part, cut};
 ghost use Rattle.journalrange.specs.Parts.{front_bytes, back_bytes, part_ptr};
 
 use disklayout::{Location, Refused};
@@ -26,12 +26,12 @@ fn journal_length(device: u64) -> Result<u64, Refused>
 fn part_number(device: u64, bytes: u64, located: bool) -> u64
     ensures { result ≡ answer (part_rows device located bytes) }
 {
-    let (ok, length) = match journal_length(device) {
-        Ok(length) => (located, length),
-        Err(_) => (false, 0),
+    let length = match journal_length(device) {
+        Ok(length) => length,
+        Err(refused) => return u64::from(refused),
     };
-    if !ok {
-        return 1;
+    if !located {
+        return u64::from(Refused::Undefined);
     }
     if bytes != length {
         return 23;
@@ -46,7 +46,7 @@ fn part_of(device: u64, bytes: u64, place: Result<Option<Location>, Refused>) ->
 {
     let number = part_number(device, bytes, place.is_ok());
     if number == 0 {
-        if let Ok(Some(loc)) = place {
+        if let Some(loc) = place.unwrap_or(None) {
             let begin = layout::journal_start_addr(device).unwrap_or(0);
             return Part {
                 answer: 0,

@@ -4,13 +4,12 @@ use mathlib.Core.Bool.{Bool, true, false, ◌&&◌, and-false}
 use mathlib.Core.Option.{Option, some, none}
 use Prim.Native.Nat.{ℕ, ◌-◌, ◌≤◌}
 use native.Mathlib.Omega.{arith}
-use lib.Dec.{eqb}
 use borrow.Author.Tests.{eq-eqb, ne_eqb, le-leb}
-use Rattle.std.specs.Prelude.{Ok, Err, is_ok}
+use Rattle.std.specs.Prelude.{is_ok}
 use Rattle.base.specs.Refusals.{answer}
 use Rattle.base.proofs.Tests.{split, never, and_both, and_right}
 use Rattle.disklayout.specs.declared.Location.{Location}
-use Rattle.disklayout.specs.Calls.{answered, answered_if, number_on, told}
+use Rattle.disklayout.specs.Calls.{answered_if, number_on, told}
 use Rattle.disklayout.specs.Device.{made, device_of}
 use Rattle.disklayout.specs.Layout.{journal_start_addr, journal_end_addr}
 use Rattle.journalrange.specs.declared.Part.{Part}

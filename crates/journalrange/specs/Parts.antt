@@ -10,6 +10,7 @@ use Rattle.disklayout.specs.Journal.{journal_front_requires, journal_front_locat
 use Rattle.disklayout.specs.Layout.{num_journal_blocks, journal_start_addr}
 use Rattle.journalrange.specs.declared.Part.{Part}
 use Rattle.std.specs.Prelude as code
+use Rattle.std.specs.Result.{result_unwrap_or}
 use Rattle.disklayout.specs.declared.Refused.{Refused}
 
 -- how many bytes a device's journal has
@@ -49,8 +50,7 @@ located code.None = none
 located (code.Some l) = some l
 
 abbrev pub told_location : code.Result (code.Option Location) Refused → Option Location
-told_location (code.Ok o) = located o
-told_location (code.Err e) = none
+told_location r = located (result_unwrap_or r code.None)
 
 -- by the number of its call and its location: empty where the call is refused
 abbrev pub part_of : ℕ → Option Location → Part
