@@ -1,19 +1,16 @@
 -- Laws of cutting. Assumes nothing.
-use Rattle.std.proofs.Common.{◌≡◌, ℕ, ◌+◌, ◌≤◌, false, List, [], ◌∷◌, length, take, drop, Some, None, arith, ◌==◌, position}
-use Rattle.std.proofs.Common.{unwrap_or, suc, refl, add-one, ◌∙◌}
+use Rattle.std.proofs.Common.{◌≡◌, ◌∙◌, ℕ, ◌+◌, ◌≤◌, ◌<◌, ◌==◌, suc, Bool, false, cond, eqb, List, [], ◌∷◌, length, take, drop, get_or}
+use Rattle.std.proofs.Common.{Some, None, position, unwrap_or, refl, add-one, arith}
 use Rattle.std.proofs.lemmas.Grind.{common_steps}
 use Rattle.std.proofs.lemmas.List.Elements.{All-from_get_or}
 use Rattle.std.proofs.lemmas.List.Splits.{slice_split_first, slice_split_none}
-use Rattle.std.proofs.lemmas.List.Sums.{fails_before_first, prefix_len-le-length}
+use Rattle.std.proofs.lemmas.List.Sums.{fails_before_first, position_or_len_is, prefix_len-le-length}
 use borrow.Author.Tests.{eqb-false, eqb-true, ne_eqb, le-ltb, lt-ltb}
 use lib.ListN.{drop_of_length-le}
 use lib.Seq.{drop-cons, take_all}
-use Rattle.std.proofs.Common.{◌<◌}
-use Rattle.std.proofs.Common.{Bool, cond, eqb, get_or}
 use Rattle.base.proofs.Scan.{first_before, first_le, first_passes}
 use Rattle.base.proofs.Tests.{split}
 use Rattle.base.specs.Scan.{first_below}
-use Rattle.std.proofs.lemmas.List.Sums.{position_or_len_is}
 use Rattle.words.specs.Bytes.{cut_of, find_of}
 use Rattle.words.specs.Cut.{pieces_of, words_of}
 
