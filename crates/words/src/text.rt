@@ -53,7 +53,8 @@ fn place(s: &[u8], b: u8) -> Option<usize>
     s.iter().position(|x| *x == b)
 }
 
-// Where b first stands in s; the length of s where it does not.
+// Where b first stands in s; the length of s where it does not. (A line's rest keeps the byte that it is cut at, so that the place is
+// wanted, and one without such a byte is cut at its end.)
 #[tactic(auto, using(crate::proofs::Cuts::find_place))]
 pub fn find(s: &[u8], b: u8) -> usize
     ensures value { result ≡ find_of s.now b }
@@ -62,7 +63,7 @@ pub fn find(s: &[u8], b: u8) -> usize
     place(s, b).unwrap_or(s.len())
 }
 
-// Whether s and p are the same bytes.
+// Whether s and p are the same bytes. (A text such as b"show" is an array, which `==` takes beside a slice only where it is made one.)
 #[tactic(auto, unfolding(crate::specs::Bytes::same_of))]
 pub fn same(s: &[u8], p: &[u8]) -> bool
     ensures { result ≡ same_of s.now p.now }
@@ -131,7 +132,8 @@ pub fn words(rest: &[u8]) -> Pieces<'_>
     }
 }
 
-// The first word of a rest that begins with the key, `=` and all; empty where none does.
+// The first word of a rest that begins with the key, `=` and all; empty where none does. (An empty word counts as none, so that an
+// Option would say the same twice.)
 #[tactic(auto, unfolding(crate::specs::Cut::word_of))]
 pub fn word<'a, 'b>(rest: &'a [u8], key: &'b [u8]) -> &'a [u8]
     ensures { result.now ≡ word_of rest.now key.now }
