@@ -30,12 +30,6 @@ fn fill(memory: &mut [u8])
     }
 }
 
-fn wide(b: u8) -> u64
-    ensures { result ≡ b }
-{
-    b as u64
-}
-
 // The number that each byte of a block tells, or MIXED.
 fn block_number(block: &[u8]) -> u64
     ensures { (result ≡ 256 → ⊥) → (k : ℕ) → k < length block.now → get_or block.now k 0 ≡ result }
@@ -49,7 +43,7 @@ fn block_number(block: &[u8]) -> u64
             return MIXED;
         }
     }
-    wide(number)
+    u64::from(number)
 }
 
 fn print_block(out: &mut Output, first: bool, number: u64) {
@@ -72,15 +66,10 @@ fn print_left(out: &mut Output, bytes: usize) {
 
 // The numbers that a part's blocks tell.
 fn print_blocks(out: &mut Output, part: &[u8]) {
-    let mut rest = part;
-    let mut first = true;
-    while BLOCK <= rest.len() {
-        let number = block_number(&rest[0..BLOCK]);
-        print_block(out, first, number);
-        rest = &rest[BLOCK..];
-        first = false;
+    for (i, block) in part.chunks_exact(BLOCK).enumerate() {
+        print_block(out, i == 0, block_number(block));
     }
-    print_left(out, rest.len());
+    print_left(out, part.len() % BLOCK);
 }
 
 fn line(out: &mut Output, device: u64, area: &[u8], start: u64, blocks: u64) {

@@ -1,6 +1,7 @@
 -- By the tests on the way: an arm, a law. Assumes nothing.
 use mathlib.Core.Path.{◌≡◌, refl, sym, ◌∙◌}
 use mathlib.Core.Bool.{false, and-false}
+use borrow.Author.Rules.{rules}
 use Rattle.disklayout.specs.declared.Refused.{Refused}
 use Rattle.disklayout.specs.declared.Refused.TheVariants.{Undefined}
 use Rattle.disklayout.specs.Calls.{refused_number}
@@ -28,10 +29,12 @@ pub returns-then-bytes-length : goal.returns-then-bytes-length
 returns-then-bytes-length c =
     let args = c.args in
     let t = made_told args.device _ (sym c.journal_length.ensures ∙ c.in-Ok.is) in
-    number_wrong args.device args.bytes args.located t.0 c.if-not-located.false (λ e. c.if-bytes-length.true (e ∙ sym t.1))
+    let other : args.bytes ≡ c.in-Ok.length → ⊥ = search rules in
+    number_wrong args.device args.bytes args.located t.0 c.if-not-located.false (λ e. other (e ∙ sym t.1))
 
 pub returns : goal.returns
 returns c =
     let args = c.args in
     let t = made_told args.device _ (sym c.journal_length.ensures ∙ c.in-Ok.is) in
-    number_zero args.device args.bytes args.located t.0 c.if-not-located.false (c.if-bytes-length.false ∙ t.1)
+    let same : args.bytes ≡ c.in-Ok.length = search rules in
+    number_zero args.device args.bytes args.located t.0 c.if-not-located.false (same ∙ t.1)
