@@ -150,15 +150,13 @@ impl Session {
         let Some(list) = script::transaction::operation_list(rest) else {
             return self.error(out);
         };
-        let at = list.at;
-        let count = list.count;
         let store = sequence.store;
-        let o = store.operations_of(call, at, count);
+        let o = store.operations(call, list.operations());
         let answer = o.answer;
         print::transaction(out, self.tally.lines, answer, o.place);
         self.counted(answer);
         if answer == 0 {
-            let pictures = system::pictures_after_operations(sequence.pictures, at, count);
+            let pictures = system::pictures_after_operations(sequence.pictures, list.operations());
             self.sequence = Some(moved(store.device, o.cache, o.disk, pictures));
         }
     }

@@ -1,5 +1,5 @@
 // The operations that a line of step 20 has, a word `op=` each, in the line's order.
-ghost use Rattle.std.specs.Prelude.{◌≡◌};
+ghost use Rattle.std.specs.Prelude.{take, ◌≡◌};
 ghost use Rattle.script.specs.Transactions.{zero_operation, kind_read_of, operation_read_of, with_operation, with_operation_word};
 ghost use Rattle.script.specs.Transactions.{no_operations_yet, operation_list_of};
 
@@ -16,6 +16,15 @@ pub const MOST: usize = 40;
 pub struct OperationList {
     pub count: usize,
     pub at: [Operation; MOST],
+}
+
+impl OperationList {
+    // The operations themselves.
+    pub fn operations(&self) -> &[Operation]
+        ensures { result.now ≡ take self.now.count self.now.at }
+    {
+        self.at.get(..self.count).unwrap_or(&self.at)
+    }
 }
 
 fn zero_operation() -> Operation
