@@ -25,7 +25,11 @@ fn reads_form(q: Requests) -> bool
     ensures { result ≡ reads_form q }
 {
     let used = usize::from(q.count);
-    let good = q.at.iter().take(used).all(|w| (w.reference <= 63) & sector::loc_zero(w.loc));
+    let good = q
+        .at
+        .iter()
+        .take(used)
+        .all(|w| (w.reference <= 63) & sector::loc_zero(w.loc));
     queue::form(q) & good
 }
 

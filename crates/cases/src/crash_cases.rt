@@ -1,9 +1,9 @@
 // A crash of the disk: 19 unless the records offered are possible, 1 where one is not in its written form.
 use blockdisk::{Queues, Records};
 use fixtures::show::{crash_answer, line, pair};
-use fixtures::{DiskQueue, 
-    AREA1, AREA2, BLOCK0, BLOCK1, absent_node_record, at, high_leaf, leaf, node_record, one,
-    put_node, put_table, queues_with, stored, table_record, two_entries,
+use fixtures::{
+    AREA1, AREA2, BLOCK0, BLOCK1, DiskQueue, absent_node_record, at, high_leaf, leaf, node_record,
+    one, put_node, put_table, queues_with, stored, table_record, two_entries,
 };
 use output::Output;
 
