@@ -3,9 +3,8 @@ ghost use Rattle.std.specs.Prelude.{◌≡◌};
 ghost use Rattle.blockcache.specs.Chooser.{chooser, refused_choice};
 
 use crate::Cache;
-use crate::answers::is_ready;
 use crate::form::{cache_form, settings_form};
-use blockcache::{Blocks, CacheState, Choice};
+use blockcache::{Blocks, CacheState, Choice, Phase};
 
 // Zeros, and the cache as it was.
 pub fn refused_choice(c: CacheState, n: u64) -> Choice
@@ -25,32 +24,25 @@ impl Cache {
     pub fn choose(self) -> Choice
         ensures { result ≡ chooser self.settings self.state }
     {
-        let g = self.settings;
-        let named = settings_form(g);
-        if !named {
-            return refused_choice(self.state, 1);
-        }
-        let form = cache_form(g.device, self.state);
-        if !form {
-            return refused_choice(self.state, 1);
-        }
         let c = self.state;
-        let phase = c.phase;
-        let ready = is_ready(phase);
-        if !ready {
-            return refused_choice(self.state, 4);
+        if !settings_form(self.settings) {
+            return refused_choice(c, 1);
         }
-        let b = c.blocks;
-        let marks = b.marks;
+        if !cache_form(self.settings.device, c) {
+            return refused_choice(c, 1);
+        }
+        if c.phase != Phase::Ready {
+            return refused_choice(c, 4);
+        }
+        let marks = c.blocks.marks;
         let free = bitmap::free_count(marks);
         if free == 0 {
-            return refused_choice(self.state, 21);
+            return refused_choice(c, 21);
         }
-        let block = bitmap::next_free(marks, b.last);
-        let addr = layout::node_block_addr(g.device, block).unwrap_or(0);
-        let blocks = Blocks { marks, last: block };
-        let mut cache = self.state;
-        cache.blocks = blocks;
+        let block = bitmap::next_free(marks, c.blocks.last);
+        let addr = layout::node_block_addr(self.settings.device, block).unwrap_or(0);
+        let mut cache = c;
+        cache.blocks = Blocks { marks, last: block };
         Choice {
             answer: 0,
             block,

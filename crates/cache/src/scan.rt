@@ -20,7 +20,9 @@ pub(crate) fn writes_to(q: Requests, r: u64, l: Location) -> bool
     ensures { result ≡ writes_to q r l }
 {
     let used = usize::from(q.count);
-    q.at.iter().take(used).any(|w| (u64::from(w.reference) == r) & (w.loc == l))
+    q.at.iter()
+        .take(used)
+        .any(|w| (u64::from(w.reference) == r) & (w.loc == l))
 }
 
 // Whether place j of a list of `count`, which holds s, is in use and names r.

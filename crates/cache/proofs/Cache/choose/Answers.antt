@@ -1,43 +1,42 @@
 -- Each refusal by its law, in their order; past them all, the block read off the two words. Assumes nothing.
-use mathlib.Core.Bool.{true}
+use mathlib.Core.Bool.{false, true}
+use borrow.Author.Rules.{rules}
 use mathlib.Core.Path.{◌∙◌, ◌≡◌, sym}
 use borrow.Author.Tests.{lt-ltb}
 use Rattle.base.proofs.Tests.{and_left}
 use Rattle.bitmap.proofs.Chosen.{block_below, none_free, one_free}
 use Rattle.blockcache.proofs.Chooser.{choice_unformed, choice_unnamed, choice_unready}
+use Rattle.blockcache.specs.Form.{ready_phase}
 use Rattle.blockdisk.specs.Form.{is_rule}
 use Rattle.disklayout.specs.Device.{made}
 use Rattle.cache.proofs.Cache.choose.Goals as goal
 
-pub returns-then-not-named : goal.returns-then-not-named
-returns-then-not-named c =
+pub returns-then-not-settings_form : goal.returns-then-not-settings_form
+returns-then-not-settings_form c =
     let a = c.args in
-    let unnamed = sym c.settings_form-named.ensures ∙ c.if-not-named.true in
+    let unnamed = sym c.settings_form.ensures ∙ c.if-not-settings_form.true in
     c.refused_choice.ensures ∙ sym (choice_unnamed a.self.settings a.self.state unnamed)
 
-pub cache_form-form-requires : goal.cache_form-form-requires
-cache_form-form-requires c = and_left _ _ (sym c.settings_form-named.ensures ∙ c.if-not-named.false)
-
-pub returns-then-not-form : goal.returns-then-not-form
-returns-then-not-form c =
+pub returns-then-not-cache_form : goal.returns-then-not-cache_form
+returns-then-not-cache_form c =
     let a = c.args in
-    let unformed = sym c.cache_form-form.ensures ∙ c.if-not-form.true in
-    c.refused_choice-then-not-form.ensures ∙ sym (choice_unformed a.self.settings a.self.state unformed)
+    let unformed = sym c.cache_form.ensures ∙ c.if-not-cache_form.true in
+    c.refused_choice-then-not-cache_form.ensures ∙ sym (choice_unformed a.self.settings a.self.state unformed)
 
-pub returns-then-not-ready : goal.returns-then-not-ready
-returns-then-not-ready c =
+pub returns-then-ne : goal.returns-then-ne
+returns-then-ne c =
     let a = c.args in
-    let named = sym c.settings_form-named.ensures ∙ c.if-not-named.false in
-    let form = sym c.cache_form-form.ensures ∙ c.if-not-form.false in
-    let unready = sym c.is_ready-ready.ensures ∙ c.if-not-ready.true in
-    c.refused_choice-then-not-ready.ensures ∙ sym (choice_unready a.self.settings a.self.state named form unready)
+    let named = sym c.settings_form.ensures ∙ c.if-not-settings_form.false in
+    let form = sym c.cache_form.ensures ∙ c.if-not-cache_form.false in
+    let unready : ready_phase a.self.state.phase ≡ false = search rules in
+    c.refused_choice-then-ne.ensures ∙ sym (choice_unready a.self.settings a.self.state named form unready)
 
 pub returns-then-free-eq0 : goal.returns-then-free-eq0
 returns-then-free-eq0 c =
     let a = c.args in
-    let named = sym c.settings_form-named.ensures ∙ c.if-not-named.false in
-    let form = sym c.cache_form-form.ensures ∙ c.if-not-form.false in
-    let ready = sym c.is_ready-ready.ensures ∙ c.if-not-ready.false in
+    let named = sym c.settings_form.ensures ∙ c.if-not-settings_form.false in
+    let form = sym c.cache_form.ensures ∙ c.if-not-cache_form.false in
+    let ready : ready_phase a.self.state.phase ≡ true = search rules in
     let none = sym c.free_count-free.ensures ∙ c.if-free-eq0.true in
     c.refused_choice-then-free-eq0.ensures ∙ none_free a.self.settings a.self.state named form ready none
 
@@ -45,9 +44,9 @@ pub returns : goal.returns
 returns c =
     let g = c.args.self.settings in
     let state = c.args.self.state in
-    let named = sym c.settings_form-named.ensures ∙ c.if-not-named.false in
-    let form = sym c.cache_form-form.ensures ∙ c.if-not-form.false in
-    let ready = sym c.is_ready-ready.ensures ∙ c.if-not-ready.false in
+    let named = sym c.settings_form.ensures ∙ c.if-not-settings_form.false in
+    let form = sym c.cache_form.ensures ∙ c.if-not-cache_form.false in
+    let ready : ready_phase state.phase ≡ true = search rules in
     let ne = rw c.free_count-free.ensures at c.if-free-eq0.false in
     let made_device : made g.device ≡ true = and_left (made g.device) (is_rule g.rule) named in
     simp (

@@ -14,7 +14,6 @@ use Rattle.cache.proofs.Cache.operations.Goals as goal
 limit_le : (n : ℕ) → limit n ≤ n
 limit_le n = split (ltb 32 n) (λ t. rw t (omega arith)) (λ t. rw t (omega arith))
 
-
 pub loop-i-init : goal.loop-i-init
 loop-i-init c = walked_none _ _ _
 
@@ -33,7 +32,7 @@ pub returns : goal.returns
 returns c =
     let l = c.args.list.now in
     let e : length (take c.limit-n.result l) ≡ limit (length l) =
-        length-take-le _ l (rw c.limit-n.ensures (limit_le (length l))) ∙ c.limit-n.ensures in
+    length-take-le _ l (rw c.limit-n.ensures (limit_le (length l))) ∙ c.limit-n.ensures in
     let last : c.loop-i.i ≡ limit (length l) = le_antisymm (rw e at c.loop-i.auto.i-end) (rw e at c.loop-i-test.false) in
     rw (c.finished.ensures, c.loop-i.invariant, last, c.begun-w.ensures)
     (walk_is c.args.self.settings c.args.self.state c.args.q l)

@@ -14,6 +14,6 @@ returns c =
     let q = c.args.q in
     let l : length q.at ≡ 16 = search rules in
     let e =
-        all_from_yields_List read_ok _ _ _ c.all-good.ensures.ran
-        (YieldsList-from_take q.count (YieldsList-from_slice q.at cc) cc) (λ x b q k. search rules) in
+    all_from_yields_List read_ok _ _ _ c.all-good.ensures.ran
+    (YieldsList-from_take q.count (YieldsList-from_slice q.at cc) cc) (λ x b q k. search rules) in
     rw (c.form.ensures, e ∙ used_all _ q l)

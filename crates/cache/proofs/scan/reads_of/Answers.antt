@@ -15,6 +15,6 @@ returns c =
     let q = c.args.q in
     let l : length q.at ≡ 16 = search rules in
     let e =
-        any_from_yields_List (λ w. eqb w.reference c.args.r) _ _ _ c.any.ensures.ran
-        (YieldsList-from_take q.count (YieldsList-from_slice q.at cc) cc) (λ x b q k. search rules) in
+    any_from_yields_List (λ w. eqb w.reference c.args.r) _ _ _ c.any.ensures.ran
+    (YieldsList-from_take q.count (YieldsList-from_slice q.at cc) cc) (λ x b q k. search rules) in
     e ∙ used_any _ q l
