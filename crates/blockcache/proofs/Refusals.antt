@@ -21,5 +21,7 @@ refused_not_0 refusal.Frozen = refl
 refused_not_0 refusal.Named = refl
 refused_not_0 refusal.Successor = refl
 refused_not_0 refusal.Full = refl
+refused_not_0 refusal.NoBlock = refl
 refused_not_0 refusal.Awaited = refl
+refused_not_0 refusal.TooLong = refl
 refused_not_0 refusal.Rule = refl

@@ -78,7 +78,9 @@ refusal_number refusal.Frozen = 11
 refusal_number refusal.Named = 12
 refusal_number refusal.Successor = 13
 refusal_number refusal.Full = 14
+refusal_number refusal.NoBlock = 21
 refusal_number refusal.Awaited = 22
+refusal_number refusal.TooLong = 24
 refusal_number refusal.Rule = 25
 
 -- what a test gives: 0 where it refuses nothing

@@ -141,8 +141,12 @@ pub enum Refusal {
     Successor,
     // 16 requests are outstanding.
     Full,
+    // Every block is marked.
+    NoBlock,
     // A read answer that the cache awaits, which is for the step that lets go.
     Awaited,
+    // A list of more than 32 operations.
+    TooLong,
     // Rule 2 holds the frozen place.
     Rule,
 }

@@ -45,7 +45,9 @@ pub(crate) fn number(refusal: Refusal) -> u64
         Refusal::Named => 12,
         Refusal::Successor => 13,
         Refusal::Full => 14,
+        Refusal::NoBlock => 21,
         Refusal::Awaited => 22,
+        Refusal::TooLong => 24,
         Refusal::Rule => 25,
     }
 }

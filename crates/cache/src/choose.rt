@@ -1,10 +1,11 @@
 // The chooser: a free block for the next write, the first after the one given last, so that wear is spread.
 ghost use Rattle.std.specs.Prelude.{◌≡◌};
-ghost use Rattle.blockcache.specs.Chooser.{chooser, refused_choice};
+ghost use Rattle.blockcache.specs.Chooser.{chooser, refused_choice, settled_choice};
 
 use crate::Cache;
+use crate::answers::number;
 use crate::form::{cache_form, settings_form};
-use blockcache::{Blocks, CacheState, Choice, Phase};
+use blockcache::{CacheState, Choice, Phase, Refusal};
 
 // Zeros, and the cache as it was.
 pub fn refused_choice(c: CacheState, n: u64) -> Choice
@@ -20,35 +21,43 @@ pub fn refused_choice(c: CacheState, n: u64) -> Choice
 }
 
 impl Cache {
-    // The block's number, its address and how many are free now. Giving a block marks nothing; the next call gives a block after it.
-    pub fn choose(self) -> Choice
-        ensures { result ≡ chooser self.settings self.state }
+    fn free_block(self) -> Result<Choice, Refusal>
+        ensures { settled_choice result self.state ≡ chooser self.settings self.state }
     {
-        let c = self.state;
+        let mut cache = self.state;
         if !settings_form(self.settings) {
-            return refused_choice(c, 1);
+            return Err(Refusal::Limits);
         }
-        if !cache_form(self.settings.device, c) {
-            return refused_choice(c, 1);
+        if !cache_form(self.settings.device, cache) {
+            return Err(Refusal::Limits);
         }
-        if c.phase != Phase::Ready {
-            return refused_choice(c, 4);
+        if cache.phase != Phase::Ready {
+            return Err(Refusal::Phase);
         }
-        let marks = c.blocks.marks;
+        let marks = cache.blocks.marks;
         let free = bitmap::free_count(marks);
         if free == 0 {
-            return refused_choice(c, 21);
+            return Err(Refusal::NoBlock);
         }
-        let block = bitmap::next_free(marks, c.blocks.last);
+        let block = bitmap::next_free(marks, cache.blocks.last);
         let addr = layout::node_block_addr(self.settings.device, block).unwrap_or(0);
-        let mut cache = c;
-        cache.blocks = Blocks { marks, last: block };
-        Choice {
+        cache.blocks.last = block;
+        Ok(Choice {
             answer: 0,
             block,
             addr,
             free,
             cache,
+        })
+    }
+
+    // The block's number, its address and how many are free now. Giving a block marks nothing; the next call gives a block after it.
+    pub fn choose(self) -> Choice
+        ensures { result ≡ chooser self.settings self.state }
+    {
+        match self.free_block() {
+            Ok(choice) => choice,
+            Err(refusal) => refused_choice(self.state, number(refusal)),
         }
     }
 }

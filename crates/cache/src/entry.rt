@@ -87,13 +87,7 @@ fn gate(number: u64, phase: Phase, version: VersionOp, disk: DiskOp) -> Result<(
 fn relocates(number: u64) -> bool
     ensures { result ≡ Steps·relocates number }
 {
-    (number == 1)
-        | (number == 2)
-        | (number == 5)
-        | (number == 9)
-        | (number == 12)
-        | (number == 13)
-        | (number == 15)
+    matches!(number, 1 | 2 | 5 | 9 | 12 | 13 | 15)
 }
 
 // The cache with the marks of the tables and the outstanding writes that a step leaves.

@@ -111,7 +111,7 @@ fn blocks_form(device: u64, phase: Phase, blocks: Blocks, ts: Tables, writes: Re
     ensures { result ≡ blocks_in phase device blocks ts writes }
 {
     match phase {
-        Phase::Ready => (blocks.marks == bitmap::marks_of(device, ts, writes))
+        Phase::Ready => bitmap::same_marks(blocks.marks, bitmap::marks_of(device, ts, writes))
             & (blocks.last <= 127),
         Phase::Unready | Phase::Loading => blocks == NO_BLOCKS,
     }

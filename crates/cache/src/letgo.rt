@@ -7,7 +7,6 @@ ghost use Rattle.blockcache.specs.Steps.{let_go_step};
 use crate::Cache;
 use crate::answers::{NOT_WAITING, awaits_table};
 use crate::judged::Judged;
-use crate::ops::{NODE_READ_RESP, TABLE_READ_RESP, dop_id, dop_kind};
 use blockcache::{CacheState, Phase, Refusal};
 use blockdisk::DiskOp;
 
@@ -16,21 +15,25 @@ use blockdisk::DiskOp;
 pub(crate) fn answer_phase(phase: Phase, op: DiskOp) -> bool
     ensures { result ≡ answer_phase phase op }
 {
-    let kind = dop_kind(op);
-    ((kind == NODE_READ_RESP) & (phase == Phase::Ready))
-        | ((kind == TABLE_READ_RESP) & (phase == Phase::Loading))
+    match op {
+        DiskOp::RespReadNodeOp(_, _) => phase == Phase::Ready,
+        DiskOp::RespReadIndirectionTableOp(_, _) => phase == Phase::Loading,
+        _ => false,
+    }
 }
 
 // Whether it does and the cache awaits it. In Ready the awaited table request is a write, so a table read answer under its id is not awaited.
-#[tactic(auto, unfolding(blockcache::specs::Rows::awaits_read))]
+#[tactic(auto, unfolding(blockcache::specs::Rows::awaits_read, blockcache::specs::Rows::answer_phase))]
 pub(crate) fn awaits_read(c: CacheState, op: DiskOp) -> bool
     ensures { result ≡ awaits_read c op }
 {
-    let kind = dop_kind(op);
-    let id = dop_id(op);
-    let node = (kind == NODE_READ_RESP) & queue::has(c.outstanding.reads, id);
-    let table = (kind == TABLE_READ_RESP) & awaits_table(c.awaited, id);
-    answer_phase(c.phase, op) & (node | table)
+    match op {
+        DiskOp::RespReadNodeOp(id, _) => (c.phase == Phase::Ready)
+            & queue::has(c.outstanding.reads, id),
+        DiskOp::RespReadIndirectionTableOp(id, _) => (c.phase == Phase::Loading)
+            & awaits_table(c.awaited, id),
+        _ => false,
+    }
 }
 
 impl Cache {
@@ -43,11 +46,11 @@ impl Cache {
         if !awaits_read(c, q.call.dop) {
             return Err(Refusal::Id);
         }
-        if dop_kind(q.call.dop) != NODE_READ_RESP {
-            c.awaited = NOT_WAITING;
+        if let DiskOp::RespReadNodeOp(id, _) = q.call.dop {
+            c.outstanding.reads = queue::remove(c.outstanding.reads, id);
             return Ok(c);
         }
-        c.outstanding.reads = queue::remove(c.outstanding.reads, dop_id(q.call.dop));
+        c.awaited = NOT_WAITING;
         Ok(c)
     }
 }

@@ -94,7 +94,11 @@ impl Cache {
         let cache = self.state;
         let refused = self.step(TRANSACTION, q).answer;
         let long = (refused == 0) & (32 < length);
-        let answer = if long { 24 } else { refused };
+        let answer = if long {
+            number(Refusal::TooLong)
+        } else {
+            refused
+        };
         OperationsOutcome {
             answer,
             place: 0,

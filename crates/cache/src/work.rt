@@ -1,20 +1,34 @@
 // Steps 5 and 11 to 17: Unalloc, Evict, Freeze, CleanUp, NoOp, Dirty, Alloc and Read. Each past V, D and phase.
 #![tactic(auto, unfolding(blockcache::specs::Step::past_gate, base::specs::Refusals::answer))]
 
-ghost use Rattle.std.specs.Prelude.{◌≡◌};
+ghost use Rattle.std.specs.Prelude.{◌&&◌, ◌||◌, ◌≡◌};
 ghost use Rattle.blockcache.specs.Next.{node_set};
+ghost use Rattle.blockcache.specs.Ops.{dop_id, is_d, node_write_resp, table_write_resp};
+ghost use Rattle.blockcache.specs.Rows.{awaits_table};
 ghost use Rattle.blockcache.specs.Step.{past_gate, read_outcome, settled_outcome};
 ghost use Rattle.blockcache.specs.Steps.{alloc_step, clean_up_step, dirty_step, evict_step, freeze_step, no_op_step, read_step};
 ghost use Rattle.blockcache.specs.Steps.{unalloc_step};
+ghost use Rattle.queue.specs.Queue.{has_of};
 
 use crate::Cache;
 use crate::answers::awaits_table;
 use crate::judged::Judged;
 use crate::letgo::awaits_read;
-use crate::ops::{NODE_WRITE_RESP, TABLE_WRITE_RESP, dop_id, dop_kind};
 use crate::scan::{has_predecessor, needs_cached, reads_of, writes_to};
 use blockcache::{CacheState, Phase, Refusal};
+use blockdisk::DiskOp;
 use sectortype::{Entry, Node, Slot};
+
+// Whether it is the answer of a write that a Ready cache awaits.
+fn awaits_write(c: CacheState, op: DiskOp) -> bool
+    ensures { result ≡ ((is_d table_write_resp op && awaits_table c.awaited (dop_id op)) || (is_d node_write_resp op && has_of c.outstanding.writes (dop_id op))) }
+{
+    match op {
+        DiskOp::RespWriteIndirectionTableOp(id) => awaits_table(c.awaited, id),
+        DiskOp::RespWriteNodeOp(id) => queue::has(c.outstanding.writes, id),
+        _ => false,
+    }
+}
 
 impl Cache {
     pub(crate) fn unalloc(self, q: Judged) -> Result<CacheState, Refusal>
@@ -100,11 +114,7 @@ impl Cache {
         ensures { settled_outcome result self.state ≡ past_gate self.settings self.state q.call no_op_step }
     {
         let c = self.state;
-        let kind = dop_kind(q.call.dop);
-        let id = dop_id(q.call.dop);
-        let table = (kind == TABLE_WRITE_RESP) & awaits_table(c.awaited, id);
-        let node = (kind == NODE_WRITE_RESP) & queue::has(c.outstanding.writes, id);
-        if (c.phase == Phase::Ready) & (table | node) {
+        if (c.phase == Phase::Ready) & awaits_write(c, q.call.dop) {
             return Err(Refusal::Id);
         }
         if awaits_read(c, q.call.dop) {

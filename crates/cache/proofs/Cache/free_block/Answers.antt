@@ -9,19 +9,19 @@ use Rattle.blockcache.proofs.Chooser.{choice_unformed, choice_unnamed, choice_un
 use Rattle.blockcache.specs.Form.{ready_phase}
 use Rattle.blockdisk.specs.Form.{is_rule}
 use Rattle.disklayout.specs.Device.{made}
-use Rattle.cache.proofs.Cache.choose.Goals as goal
+use Rattle.cache.proofs.Cache.free_block.Goals as goal
 
 pub returns-then-not-settings_form : goal.returns-then-not-settings_form
 returns-then-not-settings_form c =
     let a = c.args in
     let unnamed = sym c.settings_form.ensures ∙ c.if-not-settings_form.true in
-    c.refused_choice.ensures ∙ sym (choice_unnamed a.self.settings a.self.state unnamed)
+    sym (choice_unnamed a.self.settings a.self.state unnamed)
 
 pub returns-then-not-cache_form : goal.returns-then-not-cache_form
 returns-then-not-cache_form c =
     let a = c.args in
     let unformed = sym c.cache_form.ensures ∙ c.if-not-cache_form.true in
-    c.refused_choice-then-not-cache_form.ensures ∙ sym (choice_unformed a.self.settings a.self.state unformed)
+    sym (choice_unformed a.self.settings a.self.state unformed)
 
 pub returns-then-ne : goal.returns-then-ne
 returns-then-ne c =
@@ -29,7 +29,7 @@ returns-then-ne c =
     let named = sym c.settings_form.ensures ∙ c.if-not-settings_form.false in
     let form = sym c.cache_form.ensures ∙ c.if-not-cache_form.false in
     let unready : ready_phase a.self.state.phase ≡ false = search rules in
-    c.refused_choice-then-ne.ensures ∙ sym (choice_unready a.self.settings a.self.state named form unready)
+    sym (choice_unready a.self.settings a.self.state named form unready)
 
 pub returns-then-free-eq0 : goal.returns-then-free-eq0
 returns-then-free-eq0 c =
@@ -38,7 +38,7 @@ returns-then-free-eq0 c =
     let form = sym c.cache_form.ensures ∙ c.if-not-cache_form.false in
     let ready : ready_phase a.self.state.phase ≡ true = search rules in
     let none = sym c.free_count-free.ensures ∙ c.if-free-eq0.true in
-    c.refused_choice-then-free-eq0.ensures ∙ none_free a.self.settings a.self.state named form ready none
+    none_free a.self.settings a.self.state named form ready none
 
 pub returns : goal.returns
 returns c =
