@@ -112,7 +112,7 @@ pub struct CacheOutcome {
     pub cache: CacheState,
 }
 
-// Why a step or a part of one is refused: the conditions of documents 01 and 02 by what they speak of, so that one name stands for one number.
+// Why a step is refused: the conditions of documents 01 and 02 by what they speak of, so that one name stands for one number.
 #[derive(Clone, Copy, PartialEq, Eq)]
 pub enum Refusal {
     // Outside the limits or not in its one written form, or there is no such step.

@@ -47,7 +47,6 @@ fn gate(number: u64, phase: Phase, version: VersionOp, disk: DiskOp) -> Result<(
 {
     let v = vop_kind(version);
     let d = dop_kind(disk);
-    let uiop_no_op = vop_no_op(version);
     let ready = phase == Phase::Ready;
     let loading = phase == Phase::Loading;
     let unready = phase == Phase::Unready;
@@ -55,15 +54,13 @@ fn gate(number: u64, phase: Phase, version: VersionOp, disk: DiskOp) -> Result<(
         | (v == JOURNAL_INTERNAL)
         | (v == PUSH_SYNC)
         | (v == POP_SYNC);
-    let no_op_disk = idle_disk(disk);
     let read_resp = (d == NODE_READ_RESP) | (d == TABLE_READ_RESP);
-    let read_phase = answer_phase(phase, disk);
     match number {
         1 => gate_answer(v == INTERNAL, d == NODE_WRITE_REQ, ready),
         2 => gate_answer(v == INTERNAL, d == NODE_WRITE_RESP, ready),
         3 => gate_answer(v == INTERNAL, d == TABLE_WRITE_REQ, ready),
         4 => gate_answer(v == SEND_FROZEN_LOC, d == TABLE_WRITE_RESP, ready),
-        5 => gate_answer(uiop_no_op, d == NO_DOP, ready),
+        5 => gate_answer(vop_no_op(version), d == NO_DOP, ready),
         6 => gate_answer(v == INTERNAL, d == NODE_READ_REQ, ready),
         7 => gate_answer(v == INTERNAL, d == NODE_READ_RESP, ready),
         8 => gate_answer(v == INTERNAL, d == TABLE_READ_REQ, loading),
@@ -72,12 +69,12 @@ fn gate(number: u64, phase: Phase, version: VersionOp, disk: DiskOp) -> Result<(
         11 => gate_answer(v == INTERNAL, d == NO_DOP, ready),
         12 => gate_answer(v == FREEZE, d == NO_DOP, ready),
         13 => gate_answer(v == CLEAN_UP, d == NO_DOP, ready),
-        14 => gate_answer(no_op_version, no_op_disk, true),
+        14 => gate_answer(no_op_version, idle_disk(disk), true),
         15 => gate_answer(v == ADVANCE, d == NO_DOP, ready),
         16 => gate_answer(v == ADVANCE, d == NO_DOP, ready),
         17 => gate_answer(true, true, ready),
         18 => gate_answer(v == CRASH, true, true),
-        19 => gate_answer(v == INTERNAL, read_resp, read_phase),
+        19 => gate_answer(v == INTERNAL, read_resp, answer_phase(phase, disk)),
         20 => gate_answer(v == ADVANCE, d == NO_DOP, ready),
         _ => Err(Refusal::Limits),
     }

@@ -22,7 +22,8 @@ pub(crate) fn answer_phase(phase: Phase, op: DiskOp) -> bool
     }
 }
 
-// Whether it does and the cache awaits it. In Ready the awaited table request is a write, so a table read answer under its id is not awaited.
+// Whether it does and the cache awaits it. In Ready the awaited table request is a write, so a table read answer under its id is not
+// awaited.
 #[tactic(auto, unfolding(blockcache::specs::Rows::awaits_read, blockcache::specs::Rows::answer_phase))]
 pub(crate) fn awaits_read(c: CacheState, op: DiskOp) -> bool
     ensures { result ≡ awaits_read c op }

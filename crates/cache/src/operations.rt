@@ -72,7 +72,8 @@ fn advanced(g: Settings, w: OperationsOutcome, o: Operation, place: usize) -> Op
 impl Cache {
     // Dirty or Alloc, past V, D and phase; refused where the operation is outside the limits.
     fn operation(self, o: Operation) -> Result<CacheState, Refusal>
-        ensures { settled_outcome result self.state ≡ outcome (operation_answer self.settings self.state o) zero_node (operation_next self.state o) self.state }
+        ensures { settled_outcome result self.state
+            ≡ outcome (operation_answer self.settings self.state o) zero_node (operation_next self.state o) self.state }
     {
         let formed = sector::node_form(o.node);
         if !((o.reference <= 63) & formed) {

@@ -8,8 +8,8 @@ use disklayout::Location;
 
 const NOWHERE: Location = Location { addr: 0, len: 0 };
 
-// The kinds of version operation, by the definitions' numbers: the gate's table compares a kind in each of its twenty rows, where a pattern for each
-// would take a function of its own.
+// The kinds of version operation, by the definitions' numbers: the gate's table compares a kind in each of its twenty rows, where a pattern
+// for each kind would take a function of its own.
 pub(crate) const INTERNAL: u64 = 1;
 
 pub(crate) const JOURNAL_INTERNAL: u64 = 2;

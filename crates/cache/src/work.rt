@@ -1,14 +1,12 @@
 // Steps 5 and 11 to 17: Unalloc, Evict, Freeze, CleanUp, NoOp, Dirty, Alloc and Read. Each past V, D and phase.
 #![tactic(auto, unfolding(blockcache::specs::Step::past_gate, base::specs::Refusals::answer))]
 
-ghost use Rattle.std.specs.Prelude.{◌&&◌, ◌||◌, ◌≡◌};
+ghost use Rattle.std.specs.Prelude.{◌≡◌};
 ghost use Rattle.blockcache.specs.Next.{node_set};
-ghost use Rattle.blockcache.specs.Ops.{dop_id, is_d, node_write_resp, table_write_resp};
-ghost use Rattle.blockcache.specs.Rows.{awaits_table};
+ghost use Rattle.blockcache.specs.Rows.{awaits_write};
 ghost use Rattle.blockcache.specs.Step.{past_gate, read_outcome, settled_outcome};
 ghost use Rattle.blockcache.specs.Steps.{alloc_step, clean_up_step, dirty_step, evict_step, freeze_step, no_op_step, read_step};
 ghost use Rattle.blockcache.specs.Steps.{unalloc_step};
-ghost use Rattle.queue.specs.Queue.{has_of};
 
 use crate::Cache;
 use crate::answers::awaits_table;
@@ -21,7 +19,7 @@ use sectortype::{Entry, Node, Slot};
 
 // Whether it is the answer of a write that a Ready cache awaits.
 fn awaits_write(c: CacheState, op: DiskOp) -> bool
-    ensures { result ≡ ((is_d table_write_resp op && awaits_table c.awaited (dop_id op)) || (is_d node_write_resp op && has_of c.outstanding.writes (dop_id op))) }
+    ensures { result ≡ awaits_write c op }
 {
     match op {
         DiskOp::RespWriteIndirectionTableOp(id) => awaits_table(c.awaited, id),

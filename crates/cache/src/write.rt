@@ -6,6 +6,8 @@ ghost use Rattle.blockcache.specs.Next.{assigned};
 ghost use Rattle.blockcache.specs.Step.{past_gate, settled_outcome};
 ghost use Rattle.blockcache.specs.Steps.{write_back_indirection_table_req_step, write_back_indirection_table_resp_step};
 ghost use Rattle.blockcache.specs.Steps.{write_back_node_req_step, write_back_node_resp_step};
+ghost use Rattle.disklayout.specs.Calls.{holds_on};
+ghost use Rattle.disklayout.specs.Layout.{overlap};
 
 use crate::Cache;
 use crate::answers::{NOT_WAITING, awaits_table};
@@ -34,6 +36,14 @@ fn assign_ref_to_location(t: Table, r: usize, loc: Location) -> Table
         succs: e.succs,
     };
     sector::with_entry(t, r, next)
+}
+
+// Whether two places overlap, on a device that is made.
+#[tactic(auto, using(disklayout::proofs::Results::answered_yes))]
+fn overlaps(device: u64, a: Location, b: Location) -> bool
+    ensures { result ≡ holds_on device (overlap a b) }
+{
+    layout::overlap(device, a, b).unwrap_or(false)
 }
 
 impl Cache {
@@ -86,15 +96,14 @@ impl Cache {
         Ok(c)
     }
 
-    #[tactic(auto, using(disklayout::proofs::Results::answered_yes), unfolding(blockcache::specs::Step::past_gate, base::specs::Refusals::answer, disklayout::specs::Kinds::kind_holds))]
+    #[tactic(auto, unfolding(blockcache::specs::Step::past_gate, base::specs::Refusals::answer, disklayout::specs::Kinds::kind_holds))]
     pub(crate) fn write_back_indirection_table_req(self, q: Judged) -> Result<CacheState, Refusal>
         ensures { settled_outcome result self.state ≡ past_gate self.settings self.state q.call write_back_indirection_table_req_step }
     {
         let mut c = self.state;
         let device = self.settings.device;
         let loc = dop_loc(q.call.dop);
-        let over = layout::overlap(device, loc, c.places.persistent).unwrap_or(false);
-        if !layout::is_kind(device, loc, Kind::Table) | over {
+        if !layout::is_kind(device, loc, Kind::Table) | overlaps(device, loc, c.places.persistent) {
             return Err(Refusal::Place);
         }
         if c.tables.isfrozen & !sector::same_table(c.tables.frozen, q.call.table) {

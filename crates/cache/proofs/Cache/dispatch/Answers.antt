@@ -13,7 +13,8 @@ pub returns : goal.returns
 unfolding step_of steps past_gate answer
 returns c =
     let s = c.args.self.state in
-    let next : settled_outcome c.match-number.next s ≡ dispatched c.args.self.settings s c.args.q.call (step_of c.args.number) = elim c.match-number.branch [
+    let g = c.args.self.settings in
+    let next : settled_outcome c.match-number.next s ≡ dispatched g s c.args.q.call (step_of c.args.number) = elim c.match-number.branch [
       | in-1 w ↦ rw (w.next-is, w.in-1.is) w.write_back_node_req-next.ensures
       | in-2 w ↦ rw (w.next-is, w.in-2.is) w.write_back_node_resp-next.ensures
       | in-3 w ↦ rw (w.next-is, w.in-3.is) w.write_back_indirection_table_req-next.ensures

@@ -1,8 +1,8 @@
 -- After a refusal the cache as it was; else with the marks that `renewed` ensures, on a device that is made. Assumes nothing.
 use mathlib.Core.Bool.{Bool, ◌&&◌, false, true}
-use mathlib.Core.Path.{◌∙◌, ◌≡◌, subst, sym}
+use mathlib.Core.Path.{◌≡◌, subst}
 use lib.Dec.{eqb}
-use Rattle.base.proofs.Tests.{and_false_iff, and_iff, and_left, split}
+use Rattle.base.proofs.Tests.{and_false_iff, and_iff, split}
 use Rattle.blockcache.specs.Form.{settings_form}
 use Rattle.blockcache.specs.Next.{marks_renewed}
 use Rattle.blockcache.specs.Operations.{ended, kept}

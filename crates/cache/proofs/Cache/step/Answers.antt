@@ -1,14 +1,11 @@
 -- Not in its written form: 1. Else what V, D and phase refuse; past them, what the step does, with the marks of what it leaves. Assumes nothing.
-use mathlib.Core.Path.{◌∙◌, ◌≡◌, ap, sym}
-use borrow.Author.Rules.{rules}
+use mathlib.Core.Path.{◌∙◌, ap, sym}
 use borrow.Author.Tests.{eqb-false}
 use Rattle.base.proofs.Tests.{and_left}
 use Rattle.blockcache.proofs.Bounds.{read_reference}
-use Rattle.blockcache.proofs.Forms.{well_formed_iff}
-use Rattle.blockcache.proofs.Arms.{arm_moved, arm_shut, arm_stays, arm_unformed, arm_unnamed, formed}
+use Rattle.blockcache.proofs.Arms.{arm_moved, arm_shut, arm_stays, arm_unformed, arm_unnamed}
 use Rattle.blockcache.proofs.Refusals.{refused_not_0}
-use Rattle.blockcache.specs.Step.{answered, gated, test_number}
-use Rattle.blockcache.specs.Steps.{step_of}
+use Rattle.blockcache.specs.Step.{answered, test_number}
 use Rattle.cache.proofs.Cache.step.Goals as goal
 
 pub returns-then-not-settings_form : goal.returns-then-not-settings_form
