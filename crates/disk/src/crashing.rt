@@ -5,10 +5,10 @@ ghost use Rattle.blockdisk.specs.Crash.{empty_queues, disk_crash};
 
 use crate::Disk;
 use crate::form::records_ok;
-use blockdisk::{DiskOutcome, NodeRecord, Queues, Records, TableRecord};
+use blockdisk::{DiskOutcome, Queues, Record, Records};
 use queue::Requests;
 
-fn same_table_record(a: TableRecord, b: TableRecord) -> bool
+fn same_table_record(a: Record<Table>, b: Record<Table>) -> bool
     ensures { result ≡ same_table_record a b }
 {
     let s = a.table;
@@ -17,7 +17,7 @@ fn same_table_record(a: TableRecord, b: TableRecord) -> bool
     b.present & (a.loc == b.loc) & same
 }
 
-fn same_node_record(a: NodeRecord, b: NodeRecord) -> bool
+fn same_node_record(a: Record<Node>, b: Record<Node>) -> bool
     ensures { result ≡ same_node_record a b }
 {
     let s = a.node;
@@ -27,7 +27,7 @@ fn same_node_record(a: NodeRecord, b: NodeRecord) -> bool
 }
 
 // A stored record is offered unchanged, unless a write to its area is outstanding. A stored record is at its area's address.
-fn kept_table(q: Requests, a: TableRecord, b: TableRecord) -> bool
+fn kept_table(q: Requests, a: Record<Table>, b: Record<Table>) -> bool
     ensures { result ≡ kept_table q a b }
 {
     let loc = a.loc;
@@ -36,7 +36,7 @@ fn kept_table(q: Requests, a: TableRecord, b: TableRecord) -> bool
     !a.present | written | same
 }
 
-fn kept_node(q: Requests, a: NodeRecord, b: NodeRecord) -> bool
+fn kept_node(q: Requests, a: Record<Node>, b: Record<Node>) -> bool
     ensures { result ≡ kept_node q a b }
 {
     let loc = a.loc;
@@ -45,7 +45,7 @@ fn kept_node(q: Requests, a: NodeRecord, b: NodeRecord) -> bool
     !a.present | written | same
 }
 
-fn tables_kept(q: Requests, old: [TableRecord; 2], new: [TableRecord; 2]) -> bool
+fn tables_kept(q: Requests, old: [Record<Table>; 2], new: [Record<Table>; 2]) -> bool
     ensures { result ≡ tables_kept q old new }
 {
     let a = old[0];
@@ -57,7 +57,7 @@ fn tables_kept(q: Requests, old: [TableRecord; 2], new: [TableRecord; 2]) -> boo
     first & second
 }
 
-fn nodes_kept(q: Requests, old: [NodeRecord; 128], new: [NodeRecord; 128]) -> bool
+fn nodes_kept(q: Requests, old: [Record<Node>; 128], new: [Record<Node>; 128]) -> bool
     ensures { result ≡ nodes_kept q old new }
 {
     old.iter()

@@ -8,7 +8,7 @@ ghost use Rattle.blockdisk.specs.Form.{disk_form, node_record_checked, tables_ch
 ghost use Rattle.blockdisk.specs.Form.{node_allowed, table_allowed, table_request_ok, node_request_ok, table_queue_form, node_queue_form, queues_form};
 
 use crate::Disk;
-use blockdisk::{Checked, NodeRecord, Queues, Records, TableRecord};
+use blockdisk::{Checked, Queues, Record, Records};
 use disklayout::{Kind, Location};
 use queue::{Request, Requests};
 
@@ -33,7 +33,7 @@ fn table_record_placed(device: u64, k: u64, there: bool, loc: Location) -> bool
 }
 
 // One record, of whichever of the 128 blocks begins at `at`.
-fn node_record_ok(device: u64, at: u64, r: NodeRecord) -> Checked
+fn node_record_ok(device: u64, at: u64, r: Record<Node>) -> Checked
     ensures { (k : ℕ) → k < 128 → at ≡ running_on device k → result ≡ node_record_checked device k r }
 {
     let there = r.present;
@@ -55,7 +55,7 @@ fn node_record_ok(device: u64, at: u64, r: NodeRecord) -> Checked
     }
 }
 
-fn tables_ok(device: u64, tables: [TableRecord; 2]) -> Checked
+fn tables_ok(device: u64, tables: [Record<Table>; 2]) -> Checked
     ensures { result ≡ tables_checked device tables }
 {
     let first = tables[0];
@@ -77,7 +77,7 @@ fn tables_ok(device: u64, tables: [TableRecord; 2]) -> Checked
 }
 
 // The walk keeps a running address: the first node address, and a block's size more at each record, both as `layout` gives them.
-fn nodes_ok(device: u64, nodes: [NodeRecord; 128]) -> Checked
+fn nodes_ok(device: u64, nodes: [Record<Node>; 128]) -> Checked
     ensures { result ≡ nodes_checked device nodes }
 {
     let size = layout::node_block_size(device).unwrap_or(0);

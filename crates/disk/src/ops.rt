@@ -9,9 +9,7 @@ ghost use Rattle.blockdisk.specs.Ops.{disk_step};
 use crate::Disk;
 use crate::form::{disk_ok, node_allowed, queues_ok, records_ok, table_allowed};
 use crate::read::{node_at, table_at, with_node, with_table};
-use blockdisk::{
-    Brought, DiskCall, DiskOp, DiskOutcome, DiskRefusal, DiskState, NodeRecord, TableRecord,
-};
+use blockdisk::{Brought, DiskCall, DiskOp, DiskOutcome, DiskRefusal, DiskState, Record};
 use disklayout::Location;
 use queue::{Request, Requests};
 use sectortype::{Node, Table};
@@ -90,7 +88,7 @@ fn brings(b: Brought) -> bool
 }
 
 // Whether a table read answer brings something else than x, the record at exactly the place asked for.
-fn table_not_stored(x: TableRecord, b: Brought, table: Table) -> bool
+fn table_not_stored(x: Record<Table>, b: Brought, table: Table) -> bool
     ensures { result ≡ (something_in b && not (x.present && same_table x.table table)) }
 {
     let stored = x.table;
@@ -100,7 +98,7 @@ fn table_not_stored(x: TableRecord, b: Brought, table: Table) -> bool
 }
 
 // Whether a node read answer brings something else than x, the record at exactly the place asked for.
-fn node_not_stored(x: NodeRecord, b: Brought, node: Node) -> bool
+fn node_not_stored(x: Record<Node>, b: Brought, node: Node) -> bool
     ensures { result ≡ (something_in b && not (x.present && same_node x.node node)) }
 {
     let stored = x.node;

@@ -2,28 +2,28 @@
 ghost use Rattle.std.specs.Prelude.{◌≡◌};
 ghost use Rattle.blockdisk.specs.Records.{area_of, block_of, read_table, read_node, with_table, with_node, empty_records, zero_table_record, zero_node_record};
 
-use blockdisk::{NodeRecord, Records, TableRecord};
+use blockdisk::{Record, Records};
 use disklayout::Location;
 use sectortype::{Node, Table};
 
-fn zero_table_record() -> TableRecord
+fn zero_table_record() -> Record<Table>
     ensures { result ≡ zero_table_record }
 {
     let loc = sector::zero_loc();
     let table = sector::empty_table();
-    TableRecord {
+    Record {
         present: false,
         loc,
         table,
     }
 }
 
-pub fn zero_node_record() -> NodeRecord
+pub fn zero_node_record() -> Record<Node>
     ensures { result ≡ zero_node_record }
 {
     let loc = sector::zero_loc();
     let node = sector::zero_node();
-    NodeRecord {
+    Record {
         present: false,
         loc,
         node,
@@ -57,7 +57,7 @@ fn block_of(device: u64, loc: Location) -> Option<u64>
 
 // The record at exactly this place, or an empty one.
 #[tactic(auto, using(blockdisk::proofs::Numbers::area_small, blockdisk::proofs::Numbers::table_found, blockdisk::proofs::Numbers::table_missing, blockdisk::proofs::Numbers::table_nowhere))]
-pub fn table_at(device: u64, r: Records, loc: Location) -> TableRecord
+pub fn table_at(device: u64, r: Records, loc: Location) -> Record<Table>
     ensures { result ≡ read_table device r loc }
 {
     if let Some(area) = area_of(device, loc) {
@@ -71,7 +71,7 @@ pub fn table_at(device: u64, r: Records, loc: Location) -> TableRecord
 
 // The record at exactly this place, or an empty one.
 #[tactic(auto, using(blockdisk::proofs::Numbers::block_small, blockdisk::proofs::Numbers::node_found, blockdisk::proofs::Numbers::node_missing, blockdisk::proofs::Numbers::node_nowhere))]
-pub fn node_at(device: u64, r: Records, loc: Location) -> NodeRecord
+pub fn node_at(device: u64, r: Records, loc: Location) -> Record<Node>
     ensures { result ≡ read_node device r loc }
 {
     if let Some(block) = block_of(device, loc) {
@@ -90,7 +90,7 @@ pub(crate) fn with_table(device: u64, r: Records, loc: Location, table: Table) -
 {
     let area = area_of(device, loc).unwrap_or(0);
     let mut tables = r.tables;
-    tables[area as usize] = TableRecord {
+    tables[area as usize] = Record {
         present: true,
         loc,
         table,
@@ -106,7 +106,7 @@ pub(crate) fn with_node(device: u64, r: Records, loc: Location, node: Node) -> R
 {
     let block = block_of(device, loc).unwrap_or(0);
     let mut nodes = r.nodes;
-    nodes[block as usize] = NodeRecord {
+    nodes[block as usize] = Record {
         present: true,
         loc,
         node,
