@@ -1,5 +1,5 @@
 -- What is stored: an area or block with one record or none, reading at exactly a place, and a record replaced.
-use Rattle.std.specs.Prelude.{ℕ, ◌&&◌, cond, false, true, [], get_or, replicate, set, Option, None, is_some, unwrap_or}
+use Rattle.std.specs.Prelude.{ℕ, ◌&&◌, cond, false, true, [], get_or, replicate, set, List, Option, Some, None, is_some, unwrap_or}
 use Rattle.std.specs.Result.{result_unwrap_or}
 use Rattle.blockdisk.specs.declared.Record.{Record}
 use Rattle.blockdisk.specs.declared.Records.{Records}
@@ -54,6 +54,12 @@ area_number d l = unwrap_or (area_of d l) 0
 
 abbrev pub block_number : ℕ → Location → ℕ
 block_number d l = unwrap_or (block_of d l) 0
+
+-- the record that a number has, where there is one, if it is at exactly the place; else none, around x
+abbrev pub record_in : {T : Type 0} → Option ℕ → List (Record T) → Location → T → Record T
+record_in None l p x = absent_record x
+record_in (Some k) l p x =
+    cond ((get_or l k (absent_record x)).present && same_loc (get_or l k (absent_record x)).loc p) (get_or l k (absent_record x)) (absent_record x)
 
 -- what is stored at exactly the place, address and length; else nothing
 unfoldable pub read_table : ℕ → Records → Location → Record Table

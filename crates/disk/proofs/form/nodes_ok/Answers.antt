@@ -1,6 +1,5 @@
 -- One scan keeps both flags and the running address (`running_addr`, on the device). Assumes nothing.
 use mathlib.Core.Path.{ap}
-use borrow.Author.Rules.{rules}
 use Rattle.base.proofs.Scan.{all_end, all_none, all_turn}
 use Rattle.blockdisk.specs.Form.{nodes_checked}
 use Rattle.disklayout.proofs.RunningAddr.{walk_first, walk_next, walk_fits}
@@ -12,7 +11,7 @@ loop-r-init c = (walk_first c.args.device c.first_node_addr.ensures c.unwrap_or-
 pub overflow_add-at : goal.overflow_add-at
 overflow_add-at c =
     record {
-      fits = walk_fits c.args.device c.node_block_size.ensures c.unwrap_or-size.ensures c.loop-r.r-index c.loop-r.invariant.0 c.loop-r-test.true
+      fits = walk_fits c.args.device c.node_block_size.ensures c.unwrap_or-size.ensures c.loop-r.r-index c.loop-r.invariant.0 c.loop-r-test.true;
     }
 
 pub loop-r-preserved : goal.loop-r-preserved
