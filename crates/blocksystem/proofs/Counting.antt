@@ -13,9 +13,8 @@ use Rattle.blockdisk.proofs.Reading.{node_read_iff, table_read_iff, upstream_som
 use Rattle.blockdisk.specs.Records.{read_table}
 use Rattle.blockdisk.specs.Upstream.{Imap, disk_vars, nodes_stored, tables_stored}
 use Rattle.blockdisk.specs.declared.DiskState.{DiskState}
-use Rattle.blockdisk.specs.declared.NodeRecord.{NodeRecord}
+use Rattle.blockdisk.specs.declared.Record.{Record}
 use Rattle.blockdisk.specs.declared.Records.{Records}
-use Rattle.blockdisk.specs.declared.TableRecord.{TableRecord}
 use Rattle.disklayout.specs.declared.Location.{Location}
 use Rattle.sectortype.proofs.Equal.{same_node_iff}
 use Rattle.sectortype.proofs.Maps.{in_locs, in_nodes, locs_at, nodes_form_at, nodes_some}
@@ -54,7 +53,7 @@ pub record StoredThrough (d : ℕ) (r : Records) (l : Location) (k : ℕ) (n : N
   pub at_loc : nodes_stored d r loc ≡ some n
 
 module _ (d : ℕ) (r : Records) (l : Location) (k : ℕ) (n : Node) where
-  abbrev table_read : TableRecord
+  abbrev table_read : Record Table
   table_read = read_table d r l
 
   -- reading takes that node, and nothing else
@@ -88,12 +87,12 @@ three_ways true false same = ((λ h. clash refl h.1), (λ h. clash h refl))
 three_ways true true false = ((λ h. clash refl h.2), (λ h. clash h refl))
 three_ways true true true = ((λ h. refl), (λ h. (refl, refl, refl)))
 
-pub agrees_iff : (x : NodeRecord) (s : Slot) →
+pub agrees_iff : (x : Record Node) (s : Slot) →
     ((is_lost x s ≡ false) × (is_added x s ≡ false) × (is_altered x s ≡ false)) ↔ (agrees x s ≡ true)
 agrees_iff x s = three_ways x.present s.present (same_node x.node s.node)
 
 module _ (d : ℕ) (r : Records) (m : Named) where
-  abbrev read : ℕ → NodeRecord
+  abbrev read : ℕ → Record Node
   read = on_disk d r m.place
 
   abbrev shown : ℕ → Slot

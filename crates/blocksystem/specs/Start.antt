@@ -2,7 +2,8 @@
 use Rattle.std.specs.Prelude.{ℕ, Bool, ◌&&◌, ◌||◌, not}
 use Rattle.base.specs.Scan.{all_below}
 use Rattle.blockdisk.specs.Records.{read_node, read_table}
-use Rattle.blockdisk.specs.declared.NodeRecord.{NodeRecord}
+use Rattle.blockdisk.specs.declared.Record.{Record}
+use Rattle.sectortype.specs.declared.Node.{Node}
 use Rattle.blockdisk.specs.declared.Records.{Records}
 use Rattle.disklayout.specs.declared.Location.{Location}
 use Rattle.sectortype.specs.Form.{entry_at}
@@ -11,7 +12,7 @@ use Rattle.sectortype.specs.declared.Entry.{Entry}
 use Rattle.sectortype.specs.declared.Table.{Table}
 
 -- the node of entry e is stored at exactly its location, and its successors are the graph's list as a set, all of them in the graph
-abbrev pub node_agrees : Table → Entry → NodeRecord → Bool
+abbrev pub node_agrees : Table → Entry → Record Node → Bool
 node_agrees t e x = x.present && same_set e.succs x.node.succs && within t x.node.succs
 
 abbrev pub ref_agrees : ℕ → Records → Table → Entry → Bool

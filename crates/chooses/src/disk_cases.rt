@@ -2,7 +2,7 @@
 // form (document 01). The cache is `ready`, of which blocks 0 and 1 are marked and block 127 was given last; so on a disk in its form
 // block 2 is given, of 126, at 393216.
 use crate::choose_cases::{asked_with, full};
-use blockdisk::{DiskState, NodeRecord, TableRecord};
+use blockdisk::{DiskState, Record};
 use fixtures::{
     AREA2, BLOCK0, BLOCK1, DiskQueue, absent_node_record, at, leaf, loading, node_record, one,
     put_node, put_table, queue_of, queued, ready, stored, storing, table_record, two_entries,
@@ -49,14 +49,14 @@ fn in_form(out: &mut Output) {
 }
 
 // The disk that has this record of block 0.
-fn with_node(x: NodeRecord) -> DiskState {
+fn with_node(x: Record<Node>) -> DiskState {
     let none = disk::empty_records();
     let r = put_node(none, 0, x);
     storing(r)
 }
 
 // The disk that has this record of area 1.
-fn with_table(x: TableRecord) -> DiskState {
+fn with_table(x: Record<Table>) -> DiskState {
     let none = disk::empty_records();
     let r = put_table(none, 0, x);
     storing(r)

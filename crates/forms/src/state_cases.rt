@@ -1,6 +1,6 @@
 // Number 1: what a phase doesn't have, flags that are off, records and queued places, and numbers outside their range.
 use blockcache::{Awaited, CacheState, Phase, Settings};
-use blockdisk::{DiskCall, DiskOp, NodeRecord, TableRecord};
+use blockdisk::{DiskCall, DiskOp, Record};
 use cache::Cache;
 use disk::Disk;
 use disklayout::Location;
@@ -161,7 +161,7 @@ fn phases(out: &mut Output) {
     before_ready(out, b"loading_cache", loading);
 }
 
-fn stored_node(out: &mut Output, name: &[u8], x: NodeRecord) {
+fn stored_node(out: &mut Output, name: &[u8], x: Record<Node>) {
     let none = disk::empty_records();
     let r = put_node(none, 1, x);
     let s = storing(r);
@@ -169,7 +169,7 @@ fn stored_node(out: &mut Output, name: &[u8], x: NodeRecord) {
     line(out, name, a);
 }
 
-fn stored_table(out: &mut Output, name: &[u8], x: TableRecord) {
+fn stored_table(out: &mut Output, name: &[u8], x: Record<Table>) {
     let none = disk::empty_records();
     let r = put_table(none, 1, x);
     let s = storing(r);

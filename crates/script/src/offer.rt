@@ -3,7 +3,7 @@ ghost use Rattle.std.specs.Prelude.{◌≡◌, ◌<◌};
 ghost use Rattle.blockdisk.specs.Records.{zero_table_record};
 ghost use Rattle.script.specs.Offers.{offered_table, area_of, block_of, with_area, with_block, with_word, with_blocks, offered_of};
 
-use blockdisk::{NodeRecord, Records, TableRecord};
+use blockdisk::{Record, Records};
 use disklayout::Location;
 use sectortype::Table;
 use words::digits::{location, small};
@@ -18,11 +18,11 @@ pub struct Offer {
     pub records: Records,
 }
 
-fn no_table_record() -> TableRecord
+fn no_table_record() -> Record<Table>
     ensures { result ≡ zero_table_record }
 {
     let table = sector::empty_table();
-    TableRecord {
+    Record {
         present: false,
         loc: Location { addr: 0, len: 0 },
         table,
@@ -43,7 +43,7 @@ fn offered_table(w: &[u8]) -> Option<Table>
 
 // `none` or `ADDR+LEN/TABLE`.
 #[tactic(auto, unfolding(crate::specs::Offers::area_of))]
-fn area(w: &[u8]) -> Option<TableRecord>
+fn area(w: &[u8]) -> Option<Record<Table>>
     ensures { result ≡ area_of w.now }
 {
     if same(w, b"none") {
@@ -52,7 +52,7 @@ fn area(w: &[u8]) -> Option<TableRecord>
     let (first, second) = cut(w, b'/')?;
     let loc = location(first)?;
     let table = offered_table(second)?;
-    Some(TableRecord {
+    Some(Record {
         present: true,
         loc,
         table,
@@ -61,7 +61,7 @@ fn area(w: &[u8]) -> Option<TableRecord>
 
 // `none` or `ADDR+LEN/NODE`.
 #[tactic(auto, unfolding(crate::specs::Offers::block_of))]
-fn block(w: &[u8]) -> Option<NodeRecord>
+fn block(w: &[u8]) -> Option<Record<Node>>
     ensures { result ≡ block_of w.now }
 {
     if same(w, b"none") {
@@ -70,7 +70,7 @@ fn block(w: &[u8]) -> Option<NodeRecord>
     let (first, second) = cut(w, b'/')?;
     let loc = location(first)?;
     let node = node(second)?;
-    Some(NodeRecord {
+    Some(Record {
         present: true,
         loc,
         node,

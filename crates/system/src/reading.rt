@@ -3,12 +3,12 @@ ghost use Rattle.std.specs.Prelude.{◌≡◌};
 ghost use Rattle.blocksystem.specs.Audit.{through_table, is_lost, is_added, is_altered, tally, counted};
 
 use crate::Store;
-use blockdisk::{NodeRecord, Records, TableRecord};
+use blockdisk::{Record, Records};
 use blocksystem::{Counts, Named};
 use sectortype::{Entry, Slot};
 
 // A reference's node on the disk, through the table that was read; nothing where there is none.
-fn through_table(device: u64, r: Records, x: TableRecord, e: Entry) -> NodeRecord
+fn through_table(device: u64, r: Records, x: Record<Table>, e: Entry) -> Record<Node>
     ensures { result ≡ through_table device r x e }
 {
     if x.present & e.located {
@@ -17,19 +17,19 @@ fn through_table(device: u64, r: Records, x: TableRecord, e: Entry) -> NodeRecor
     disk::zero_node_record()
 }
 
-fn lost(x: NodeRecord, s: Slot) -> u64
+fn lost(x: Record<Node>, s: Slot) -> u64
     ensures { result ≡ tally (is_lost x s) }
 {
     u64::from(s.present & !x.present)
 }
 
-fn added(x: NodeRecord, s: Slot) -> u64
+fn added(x: Record<Node>, s: Slot) -> u64
     ensures { result ≡ tally (is_added x s) }
 {
     u64::from(x.present & !s.present)
 }
 
-fn altered(x: NodeRecord, s: Slot) -> u64
+fn altered(x: Record<Node>, s: Slot) -> u64
     ensures { result ≡ tally (is_altered x s) }
 {
     let a = x.node;

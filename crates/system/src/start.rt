@@ -2,11 +2,11 @@
 ghost use Rattle.std.specs.Prelude.{◌≡◌};
 ghost use Rattle.blocksystem.specs.Start.{node_agrees, ref_agrees, graph_stored, wf_succs};
 
-use blockdisk::{NodeRecord, Records};
+use blockdisk::{Record, Records};
 use disklayout::Location;
 use sectortype::{Entry, Table};
 
-fn node_agrees(t: Table, e: Entry, x: NodeRecord) -> bool
+fn node_agrees(t: Table, e: Entry, x: Record<Node>) -> bool
     ensures { result ≡ node_agrees t e x }
 {
     let n = x.node;
