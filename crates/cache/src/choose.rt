@@ -42,11 +42,9 @@ impl Cache {
         }
         let b = c.blocks;
         let marks = b.marks;
-        let free = bitmap::free_count(marks);
-        if free == 0 {
+        let Some(block) = bitmap::next_free(marks, b.last) else {
             return refused_choice(self.state, 21);
-        }
-        let block = bitmap::next_free(marks, b.last);
+        };
         let addr = layout::node_block_addr(g.device, block).unwrap_or(0);
         let blocks = Blocks { marks, last: block };
         let mut cache = self.state;
@@ -55,7 +53,7 @@ impl Cache {
             answer: 0,
             block,
             addr,
-            free,
+            free: bitmap::free_count(marks),
             cache,
         }
     }

@@ -3,7 +3,7 @@ use mathlib.Core.Bool.{true}
 use mathlib.Core.Path.{◌∙◌, ◌≡◌, sym}
 use borrow.Author.Tests.{lt-ltb}
 use Rattle.base.proofs.Tests.{and_left}
-use Rattle.bitmap.proofs.Chosen.{block_below, none_free, one_free}
+use Rattle.bitmap.proofs.Chosen.{none_free, one_below, one_free}
 use Rattle.blockcache.proofs.Chooser.{choice_unformed, choice_unnamed, choice_unready}
 use Rattle.blockdisk.specs.Form.{is_rule}
 use Rattle.disklayout.specs.Device.{made}
@@ -32,14 +32,14 @@ returns-then-not-ready c =
     let unready = sym c.is_ready-ready.ensures ∙ c.if-not-ready.true in
     c.refused_choice-then-not-ready.ensures ∙ sym (choice_unready a.self.settings a.self.state named form unready)
 
-pub returns-then-free-eq0 : goal.returns-then-free-eq0
-returns-then-free-eq0 c =
+pub returns-in_default : goal.returns-in_default
+returns-in_default c =
     let a = c.args in
     let named = sym c.settings_form-named.ensures ∙ c.if-not-named.false in
     let form = sym c.cache_form-form.ensures ∙ c.if-not-form.false in
     let ready = sym c.is_ready-ready.ensures ∙ c.if-not-ready.false in
-    let none = sym c.free_count-free.ensures ∙ c.if-free-eq0.true in
-    c.refused_choice-then-free-eq0.ensures ∙ none_free a.self.settings a.self.state named form ready none
+    let none = sym c.next_free.ensures ∙ c.in_default.is in
+    c.refused_choice-in_default.ensures ∙ none_free a.self.settings a.self.state named form ready none
 
 pub returns : goal.returns
 returns c =
@@ -48,14 +48,13 @@ returns c =
     let named = sym c.settings_form-named.ensures ∙ c.if-not-named.false in
     let form = sym c.cache_form-form.ensures ∙ c.if-not-form.false in
     let ready = sym c.is_ready-ready.ensures ∙ c.if-not-ready.false in
-    let ne = rw c.free_count-free.ensures at c.if-free-eq0.false in
+    let some = sym c.next_free.ensures ∙ c.in-Some.is in
     let made_device : made g.device ≡ true = and_left (made g.device) (is_rule g.rule) named in
     simp (
       c.unwrap_or-addr.ensures,
       c.node_block_addr.ensures,
-      c.next_free-block.ensures,
-      c.free_count-free.ensures,
+      c.free_count.ensures,
       made_device,
-      lt-ltb _ 128 (block_below g state named form ready ne),
+      lt-ltb _ 128 (one_below g state named form ready some),
     )
-    (one_free g state named form ready ne)
+    (one_free g state named form ready some)
