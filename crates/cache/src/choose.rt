@@ -35,18 +35,16 @@ impl Cache {
             return Err(Refusal::Phase);
         }
         let marks = cache.blocks.marks;
-        let free = bitmap::free_count(marks);
-        if free == 0 {
+        let Some(block) = bitmap::next_free(marks, cache.blocks.last) else {
             return Err(Refusal::NoBlock);
-        }
-        let block = bitmap::next_free(marks, cache.blocks.last);
+        };
         let addr = layout::node_block_addr(self.settings.device, block).unwrap_or(0);
         cache.blocks.last = block;
         Ok(Choice {
             answer: 0,
             block,
             addr,
-            free,
+            free: bitmap::free_count(marks),
             cache,
         })
     }

@@ -4,7 +4,7 @@ use borrow.Author.Rules.{rules}
 use mathlib.Core.Path.{◌∙◌, ◌≡◌, sym}
 use borrow.Author.Tests.{lt-ltb}
 use Rattle.base.proofs.Tests.{and_left}
-use Rattle.bitmap.proofs.Chosen.{block_below, none_free, one_free}
+use Rattle.bitmap.proofs.Chosen.{none_free, one_below, one_free}
 use Rattle.blockcache.proofs.Chooser.{choice_unformed, choice_unnamed, choice_unready}
 use Rattle.blockcache.specs.Form.{ready_phase}
 use Rattle.blockdisk.specs.Form.{is_rule}
@@ -31,13 +31,13 @@ returns-then-ne c =
     let unready : ready_phase a.self.state.phase ≡ false = search rules in
     sym (choice_unready a.self.settings a.self.state named form unready)
 
-pub returns-then-free-eq0 : goal.returns-then-free-eq0
-returns-then-free-eq0 c =
+pub returns-in_default : goal.returns-in_default
+returns-in_default c =
     let a = c.args in
     let named = sym c.settings_form.ensures ∙ c.if-not-settings_form.false in
     let form = sym c.cache_form.ensures ∙ c.if-not-cache_form.false in
     let ready : ready_phase a.self.state.phase ≡ true = search rules in
-    let none = sym c.free_count-free.ensures ∙ c.if-free-eq0.true in
+    let none = sym c.next_free.ensures ∙ c.in_default.is in
     none_free a.self.settings a.self.state named form ready none
 
 pub returns : goal.returns
@@ -47,14 +47,13 @@ returns c =
     let named = sym c.settings_form.ensures ∙ c.if-not-settings_form.false in
     let form = sym c.cache_form.ensures ∙ c.if-not-cache_form.false in
     let ready : ready_phase state.phase ≡ true = search rules in
-    let ne = rw c.free_count-free.ensures at c.if-free-eq0.false in
+    let some = sym c.next_free.ensures ∙ c.in-Some.is in
     let made_device : made g.device ≡ true = and_left (made g.device) (is_rule g.rule) named in
     simp (
       c.unwrap_or-addr.ensures,
       c.node_block_addr.ensures,
-      c.next_free-block.ensures,
-      c.free_count-free.ensures,
+      c.free_count.ensures,
       made_device,
-      lt-ltb _ 128 (block_below g state named form ready ne),
+      lt-ltb _ 128 (one_below g state named form ready some),
     )
-    (one_free g state named form ready ne)
+    (one_free g state named form ready some)
