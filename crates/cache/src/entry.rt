@@ -1,12 +1,10 @@
 // The step entry: any number, any call, on any cache. What goes by the number stands here, what each step takes, what it does and whether it may move
 // a location or an outstanding write, and in no other file of this crate.
-ghost use Rattle.std.specs.Prelude.{true, [], ◌≡◌, ◌<◌};
+ghost use Rattle.std.specs.Prelude.{[], ◌≡◌, ◌<◌};
 ghost use Rattle.base.specs.Refusals.{answer};
-ghost use Rattle.blockcache.specs.Next.{marks_renewed};
 ghost use Rattle.blockcache.specs.Rows.{gate, read_ref, taking};
 ghost use Rattle.blockcache.specs.Step.{cache_step, dispatched, gated, test_number};
 ghost use Rattle.blockcache.specs.Steps.{relocates as Steps·relocates, step_of};
-ghost use Rattle.disklayout.specs.Device.{made};
 
 use crate::Cache;
 use crate::answers::{refused, settled, shown};
@@ -19,7 +17,7 @@ use crate::ops::{
     SEND_PERSISTENT_LOC, TABLE_READ_REQ, TABLE_READ_RESP, TABLE_WRITE_REQ, TABLE_WRITE_RESP,
     dop_kind, idle_disk, vop_kind, vop_no_op,
 };
-use blockcache::{CacheOutcome, CacheState, Call, Phase, Refusal, VersionOp};
+use blockcache::{CacheOutcome, Call, Phase, Refusal, VersionOp};
 use blockdisk::DiskOp;
 
 // Refused by the first of version operation, disk operation and phase that is not the step's. They come before a step's own conditions, so
@@ -87,36 +85,26 @@ fn relocates(number: u64) -> bool
     matches!(number, 1 | 2 | 5 | 9 | 12 | 13 | 15)
 }
 
-// The cache with the marks of the tables and the outstanding writes that a step leaves.
-pub(crate) fn renewed(device: u64, c: CacheState) -> CacheState
-    requires { made device ≡ true }
-    ensures { result ≡ marks_renewed device c }
-{
-    let mut c = c;
-    c.blocks.marks = bitmap::marks_of(device, c.tables, c.outstanding.writes);
-    c
-}
-
 impl Cache {
     pub fn step(self, number: u64, q: Call) -> CacheOutcome
         ensures { result ≡ cache_step self.settings self.state number q }
     {
-        let c = self.state;
+        let device = self.settings.device;
         if !settings_form(self.settings) {
-            return refused(c, Refusal::Limits);
+            return refused(self.state, Refusal::Limits);
         }
-        if !(cache_form(self.settings.device, c) & call_form(q)) {
-            return refused(c, Refusal::Limits);
+        if !(cache_form(device, self.state) & call_form(q)) {
+            return refused(self.state, Refusal::Limits);
         }
-        if let Err(refusal) = gate(number, c.phase, q.vop, q.dop) {
-            return refused(c, refusal);
+        if let Err(refusal) = gate(number, self.state.phase, q.vop, q.dop) {
+            return refused(self.state, refusal);
         }
         let mut o = self.dispatch(number, Judged { call: q });
         let moved = (o.answer == 0) & relocates(number);
         if !moved {
             return o;
         }
-        o.cache = renewed(self.settings.device, o.cache);
+        o.cache.blocks.marks = bitmap::marks_of(device, o.cache.tables, o.cache.outstanding.writes);
         o
     }
 

@@ -8,7 +8,6 @@ ghost use Rattle.sectortype.specs.Form.{zero_node};
 
 use crate::Cache;
 use crate::answers::number;
-use crate::entry::renewed;
 use crate::form::settings_form;
 use crate::judged::Judged;
 use blockcache::{CacheState, Call, Operation, OperationsOutcome, Refusal, Settings, VersionOp};
@@ -119,10 +118,16 @@ impl Cache {
                 cache: self.state,
             };
         }
+        let mut cache = w.cache;
+        cache.blocks.marks = bitmap::marks_of(
+            self.settings.device,
+            cache.tables,
+            cache.outstanding.writes,
+        );
         OperationsOutcome {
             answer: 0,
             place: 0,
-            cache: renewed(self.settings.device, w.cache),
+            cache,
         }
     }
 

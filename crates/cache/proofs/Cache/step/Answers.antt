@@ -1,12 +1,24 @@
 -- Not in its written form: 1. Else what V, D and phase refuse; past them, what the step does, with the marks of what it leaves. Assumes nothing.
-use mathlib.Core.Path.{◌∙◌, ap, sym}
+use Prim.Native.Nat.{ℕ}
+use mathlib.Core.Bool.{true}
+use mathlib.Core.Path.{◌∙◌, ◌≡◌, ap, sym}
 use borrow.Author.Tests.{eqb-false}
 use Rattle.base.proofs.Tests.{and_left}
 use Rattle.blockcache.proofs.Bounds.{read_reference}
 use Rattle.blockcache.proofs.Arms.{arm_moved, arm_shut, arm_stays, arm_unformed, arm_unnamed}
 use Rattle.blockcache.proofs.Refusals.{refused_not_0}
-use Rattle.blockcache.specs.Step.{answered, test_number}
+use Rattle.blockcache.specs.Step.{answered, renewed_outcome, test_number}
+use Rattle.bitmap.specs.Bitmap.{marks_on}
+use Rattle.blockcache.specs.Next.{with_marks}
+use Rattle.blockcache.specs.declared.CacheOutcome.{CacheOutcome}
+use Rattle.blockcache.specs.declared.Marks.{Marks}
+use Rattle.disklayout.specs.Device.{made}
 use Rattle.cache.proofs.Cache.step.Goals as goal
+
+-- what is done, with the marks made anew on a device that is made
+renewed_is : (d : ℕ) (o does : CacheOutcome) (m : Marks) → made d ≡ true → m ≡ marks_on d o.cache.tables o.cache.outstanding.writes → o ≡ does →
+    record { answer = o.answer; node = o.node; cache = with_marks o.cache m } ≡ renewed_outcome d does
+renewed_is d o does m t e s = rw (e, t, s)
 
 pub returns-then-not-settings_form : goal.returns-then-not-settings_form
 returns-then-not-settings_form c =
@@ -47,4 +59,5 @@ returns c =
     let good = rw (c.call_form.ensures, c.cache_form.ensures) at c.if-not-cache_form-call_form.false in
     let past = sym c.gate.ensures ∙ ap (λ r. test_number r) c.in_default.is in
     let moved = rw (c.relocates.ensures, c.dispatch-o.ensures) at c.if-not-moved.false in
-    simp (c.renewed-o.ensures, c.dispatch-o.ensures) (arm_moved _ _ _ _ named (good) past moved)
+    let made_device = and_left _ _ named in
+    renewed_is _ _ _ _ made_device c.marks_of-o.ensures c.dispatch-o.ensures ∙ arm_moved _ _ _ _ named (good) past moved
