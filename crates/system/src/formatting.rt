@@ -4,7 +4,7 @@ ghost use Rattle.blocksystem.specs.Format.{formatted_place, root_table, formatte
 ghost use Rattle.blocksystem.specs.Names.{zero_named, with_root, first_pictures};
 
 use crate::Store;
-use blockdisk::{DiskState, Record, Records};
+use blockdisk::{DiskState, Records};
 use blocksystem::{Named, Outcome, Pictures};
 use disklayout::Location;
 use sectortype::{Contents, Nodes, Slot, Table};
@@ -34,18 +34,8 @@ fn formatted_records(at: Location, place: Location, contents: Contents) -> Recor
     let mut r = disk::empty_records();
     let mut tables = r.tables;
     let mut nodes = r.nodes;
-    let x = Record {
-        present: true,
-        loc: at,
-        table,
-    };
-    let y = Record {
-        present: true,
-        loc: place,
-        node,
-    };
-    tables[0] = x;
-    nodes[0] = y;
+    tables[0] = disk::present(at, table);
+    nodes[0] = disk::present(place, node);
     r.tables = tables;
     r.nodes = nodes;
     r

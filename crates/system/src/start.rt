@@ -4,12 +4,12 @@ ghost use Rattle.blocksystem.specs.Start.{node_agrees, ref_agrees, graph_stored,
 
 use blockdisk::{Record, Records};
 use disklayout::Location;
-use sectortype::{Entry, Table};
+use sectortype::{Entry, Node, Table};
 
 fn node_agrees(t: Table, e: Entry, x: Record<Node>) -> bool
     ensures { result ≡ node_agrees t e x }
 {
-    let n = x.node;
+    let n = x.held;
     let s = e.succs;
     let u = n.succs;
     let same = sector::same_set(s, u);
@@ -43,7 +43,7 @@ pub(crate) fn wf_succs(device: u64, r: Records, loc: Location) -> bool
     ensures { result ≡ wf_succs device r loc }
 {
     let x = disk::table_at(device, r, loc);
-    let t = x.table;
+    let t = x.held;
     let complete = sector::wf_complete_indirection_table(device, t);
     let stored = graph_stored(device, r, t);
     x.present & complete & stored
