@@ -2,7 +2,10 @@
 use blockcache::CacheState;
 use blockdisk::{Brought, DiskOp};
 use fixtures::show::{cache_answer, internal, line};
-use fixtures::{BLOCK1, BLOCK2, BLOCK3, at, entry_nowhere, leaf, one, queue_of, ready, two_entries, with_cached, with_ephemeral, with_frozen, with_reads, with_writes};
+use fixtures::{
+    BLOCK1, BLOCK2, BLOCK3, at, entry_nowhere, leaf, one, queue_of, ready, two_entries,
+    with_cached, with_ephemeral, with_frozen, with_reads, with_writes,
+};
 use output::Output;
 use sectortype::Table;
 

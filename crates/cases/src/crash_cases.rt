@@ -1,7 +1,10 @@
 // A crash of the disk: 19 unless the records offered are possible, 1 where one is not in its written form.
 use blockdisk::{Queues, Records};
 use fixtures::show::{crash_answer, line, pair};
-use fixtures::{AREA1, AREA2, BLOCK0, BLOCK1, DiskQueue, absent_record, at, high_leaf, leaf, one, put_node, put_table, queues_with, stored, two_entries};
+use fixtures::{
+    AREA1, AREA2, BLOCK0, BLOCK1, DiskQueue, absent_record, at, high_leaf, leaf, one, put_node,
+    put_table, queues_with, stored, two_entries,
+};
 use output::Output;
 
 // Block k has a node with these contents at this place.

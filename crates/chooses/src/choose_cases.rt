@@ -4,7 +4,10 @@ use blockcache::{Awaited, CacheState};
 use blockdisk::DiskState;
 use fixtures::ranges::table_of;
 use fixtures::show::choice;
-use fixtures::{AREA2, BLOCK2, RULE_1, at, entry_at, loading, marked_on, one, ready, storing, two_entries, with_ephemeral, with_frozen, with_frozen_place, with_last, with_persistent, with_writes};
+use fixtures::{
+    AREA2, BLOCK2, RULE_1, at, entry_at, loading, marked_on, one, ready, storing, two_entries,
+    with_ephemeral, with_frozen, with_frozen_place, with_last, with_persistent, with_writes,
+};
 use output::Output;
 use sectortype::Entry;
 use system::Store;

@@ -3,7 +3,10 @@
 // block 2 is given, of 126, at 393216.
 use crate::choose_cases::{asked_with, full};
 use blockdisk::{DiskState, Record};
-use fixtures::{AREA2, BLOCK0, BLOCK1, DiskQueue, absent_record, at, leaf, loading, one, put_node, put_table, queue_of, queued, ready, stored, storing, two_entries, with_last};
+use fixtures::{
+    AREA2, BLOCK0, BLOCK1, DiskQueue, absent_record, at, leaf, loading, one, put_node, put_table,
+    queue_of, queued, ready, stored, storing, two_entries, with_last,
+};
 use output::Output;
 use queue::{Request, Requests};
 

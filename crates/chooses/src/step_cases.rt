@@ -6,7 +6,10 @@ use cache::Cache;
 use disklayout::Location;
 use fixtures::ranges::block_addr;
 use fixtures::show::{blocks, internal, versioned};
-use fixtures::{AREA1, AREA2, BLOCK3, RULE_1, at, entry_at, entry_nowhere, leaf, loading, ready, two_entries, with_cached, with_ephemeral, with_frozen, with_frozen_place, with_last};
+use fixtures::{
+    AREA1, AREA2, BLOCK3, RULE_1, at, entry_at, entry_nowhere, leaf, loading, ready, two_entries,
+    with_cached, with_ephemeral, with_frozen, with_frozen_place, with_last,
+};
 use output::Output;
 use sectortype::{Entry, Table};
 

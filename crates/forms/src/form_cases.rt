@@ -5,7 +5,11 @@ use disklayout::Location;
 use fixtures::show::{
     cache_answer, cache_form, crash_answer, disk_brings, disk_form, internal, no_op_call, pair,
 };
-use fixtures::{AREA1, BLOCK0, BLOCK1, DiskQueue, at, entry_at, entry_nowhere, put_node, put_table, queue_of, queued, ready, storing, two_entries, with_cached, with_ephemeral, with_frozen, with_persistent, with_reads, with_writes};
+use fixtures::{
+    AREA1, BLOCK0, BLOCK1, DiskQueue, at, entry_at, entry_nowhere, put_node, put_table, queue_of,
+    queued, ready, storing, two_entries, with_cached, with_ephemeral, with_frozen, with_persistent,
+    with_reads, with_writes,
+};
 use output::Output;
 use queue::Requests;
 use sectortype::{Node, Succs, Table};

@@ -5,7 +5,10 @@ use blockcache::{CacheState, Settings};
 use cache::Cache;
 use fixtures::ranges::block_addr;
 use fixtures::show::{no_op_call, pair};
-use fixtures::{BLOCK2, BLOCK3, RULE_1, at, entry_at, leaf, loading, one, ready, two_entries, with_blocks, with_cached, with_ephemeral, with_frozen, with_last, with_marks, with_persistent, with_writes};
+use fixtures::{
+    BLOCK2, BLOCK3, RULE_1, at, entry_at, leaf, loading, one, ready, two_entries, with_blocks,
+    with_cached, with_ephemeral, with_frozen, with_last, with_marks, with_persistent, with_writes,
+};
 use output::Output;
 use sectortype::Table;
 

@@ -5,7 +5,11 @@ use cache::Cache;
 use disk::Disk;
 use disklayout::Location;
 use fixtures::show::{cache_answer, cache_form, disk_form, internal, line, no_op_call, pair};
-use fixtures::{AREA1, AREA2, BLOCK0, BLOCK1, DiskQueue, RULE_1, absent_record, at, high_leaf, in_phase, leaf, marked_on, one, put_node, put_table, queued, ready, storing, two_entries, with_cached, with_ephemeral, with_frozen, with_frozen_place, with_persistent, with_reads, with_writes};
+use fixtures::{
+    AREA1, AREA2, BLOCK0, BLOCK1, DiskQueue, RULE_1, absent_record, at, high_leaf, in_phase, leaf,
+    marked_on, one, put_node, put_table, queued, ready, storing, two_entries, with_cached,
+    with_ephemeral, with_frozen, with_frozen_place, with_persistent, with_reads, with_writes,
+};
 use output::Output;
 use sectortype::Node;
 

@@ -17,25 +17,25 @@ fn through_table(device: u64, r: Records, x: Record<Table>, e: Entry) -> Record<
     disk::absent(sector::zero_node())
 }
 
+#[tactic(auto, unfolding(blocksystem::specs::Audit::tally))]
 fn lost(x: Record<Node>, s: Slot) -> u64
     ensures { result ≡ tally (is_lost x s) }
 {
     u64::from(s.present & !x.present)
 }
 
+#[tactic(auto, unfolding(blocksystem::specs::Audit::tally))]
 fn added(x: Record<Node>, s: Slot) -> u64
     ensures { result ≡ tally (is_added x s) }
 {
     u64::from(x.present & !s.present)
 }
 
+#[tactic(auto, unfolding(blocksystem::specs::Audit::tally))]
 fn altered(x: Record<Node>, s: Slot) -> u64
     ensures { result ≡ tally (is_altered x s) }
 {
-    let a = x.held;
-    let b = s.node;
-    let same = sector::same_node(a, b);
-    u64::from(x.present & s.present & !same)
+    u64::from(x.present & s.present & !sector::same_node(x.held, s.node))
 }
 
 impl Store {
