@@ -24,7 +24,7 @@ through_table d r x e = cond x.present (at_entry d r e) zero_node_record
 
 -- reference k read through the table stored at exactly the place l
 abbrev pub on_disk : ℕ → Records → Location → ℕ → Record Node
-on_disk d r l k = through_table d r (read_table d r l) (entry_at (read_table d r l).table k)
+on_disk d r l k = through_table d r (read_table d r l) (entry_at (read_table d r l).held k)
 
 -- only the picture has it
 abbrev pub is_lost : Record Node → Slot → Bool
@@ -36,11 +36,11 @@ is_added x s = x.present && not s.present
 
 -- both have it, with different nodes
 abbrev pub is_altered : Record Node → Slot → Bool
-is_altered x s = x.present && s.present && not (same_node x.node s.node)
+is_altered x s = x.present && s.present && not (same_node x.held s.node)
 
 -- reading and picture agree about a reference: neither has a node, or both have one and the two are equal
 abbrev pub agrees : Record Node → Slot → Bool
-agrees x s = (not x.present && not s.present) || (x.present && s.present && same_node x.node s.node)
+agrees x s = (not x.present && not s.present) || (x.present && s.present && same_node x.held s.node)
 
 -- what one reference adds to a count
 unfoldable pub tally : Bool → ℕ

@@ -58,7 +58,7 @@ module _ (d : ℕ) (s : State) (ref : ℕ) where
     pub cached : (cache_slot s ref).present ≡ true → is_pictured s.pictures.working ref (cache_slot s ref).node ≡ true
     -- if it has an ephemeral location, the disk has the picture's node there
     pub located : (ephemeral_entry s ref).located ≡ true →
-        (stored_record.present && is_pictured s.pictures.working ref stored_record.node) ≡ true
+        (stored_record.present && is_pictured s.pictures.working ref stored_record.held) ≡ true
 
 -- the working picture has exactly the allocated references, and what is said above holds of each of them
 pub record ReadyShown (d : ℕ) (s : State) : Type 0 where

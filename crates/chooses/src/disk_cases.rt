@@ -4,9 +4,8 @@
 use crate::choose_cases::{asked_with, full};
 use blockdisk::{DiskState, Record};
 use fixtures::{
-    AREA2, BLOCK0, BLOCK1, DiskQueue, absent_node_record, at, leaf, loading, node_record, one,
-    put_node, put_table, queue_of, queued, ready, stored, storing, table_record, two_entries,
-    with_last,
+    AREA2, BLOCK0, BLOCK1, DiskQueue, absent_record, at, leaf, loading, one, put_node, put_table,
+    queue_of, queued, ready, stored, storing, two_entries, with_last,
 };
 use output::Output;
 use queue::{Request, Requests};
@@ -71,10 +70,10 @@ fn records(out: &mut Output) {
     let here = at(BLOCK0, 4096);
     let area = at(AREA2, 4096);
     let table = two_entries();
-    let a = node_record(other, node);
-    let b = node_record(odd, node);
-    let c = absent_node_record(here, node);
-    let d = table_record(area, table);
+    let a = disk::present(other, node);
+    let b = disk::present(odd, node);
+    let c = absent_record(here, node);
+    let d = disk::present(area, table);
     let e = with_node(a);
     let f = with_node(b);
     let g = with_node(c);

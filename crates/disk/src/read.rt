@@ -1,14 +1,14 @@
 // What is stored at exactly a place, address and length; and the records with another at its place.
 ghost use Rattle.std.specs.Prelude.{◌≡◌};
 ghost use Rattle.blockdisk.specs.Records.{absent_record, present_record, area_of, block_of, record_in, read_table, read_node, with_table, with_node};
-ghost use Rattle.blockdisk.specs.Records.{empty_records, zero_node_record};
+ghost use Rattle.blockdisk.specs.Records.{empty_records};
 
 use blockdisk::{Record, Records};
 use disklayout::Location;
 use sectortype::{Node, Table};
 
 // No record, around a table or a node of zeros.
-fn absent<T>(zero: T) -> Record<T>
+pub fn absent<T>(zero: T) -> Record<T>
     ensures { result ≡ absent_record zero }
 {
     Record {
@@ -18,7 +18,8 @@ fn absent<T>(zero: T) -> Record<T>
     }
 }
 
-fn present<T>(loc: Location, held: T) -> Record<T>
+// This table or node at this place.
+pub fn present<T>(loc: Location, held: T) -> Record<T>
     ensures { result ≡ present_record loc held }
 {
     Record {
@@ -28,19 +29,13 @@ fn present<T>(loc: Location, held: T) -> Record<T>
     }
 }
 
-pub fn zero_node_record() -> Record<Node>
-    ensures { result ≡ zero_node_record }
-{
-    absent(sector::zero_node())
-}
-
 // Nothing stored.
 pub fn empty_records() -> Records
     ensures { result ≡ empty_records }
 {
     Records {
         tables: [absent(sector::empty_table()); 2],
-        nodes: [zero_node_record(); 128],
+        nodes: [absent(sector::zero_node()); 128],
     }
 }
 

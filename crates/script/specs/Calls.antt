@@ -29,7 +29,7 @@ use Rattle.script.specs.declared.request.TableSource.TheVariants as table
 unfoldable pub stored_node : ℕ → DiskState → ℕ → Option Node
 stored_node d s id =
     cond (has_of s.queues.nodereads id && (read_node d s.records (entry_of s.queues.nodereads id).loc).present)
-    (Some (read_node d s.records (entry_of s.queues.nodereads id).loc).node)
+    (Some (read_node d s.records (entry_of s.queues.nodereads id).loc).held)
     None
 
 -- cached: the cached node of the reference, zeros if none
@@ -49,7 +49,7 @@ node_value node.Cached r id d c s = Some (cached_node c.nodes r)
 unfoldable pub stored_table : ℕ → DiskState → ℕ → Option Table
 stored_table d s id =
     cond (has_of s.queues.tablereads id && (read_table d s.records (entry_of s.queues.tablereads id).loc).present)
-    (Some (read_table d s.records (entry_of s.queues.tablereads id).loc).table)
+    (Some (read_table d s.records (entry_of s.queues.tablereads id).loc).held)
     None
 
 -- one of the cache's, the empty table if absent

@@ -2,7 +2,7 @@
 use Rattle.std.specs.Prelude.{ℕ, true, false, cond, List, [], ◌∷◌, eqb, length, get_or, set, drop, replicate, Option, Some, None}
 use Rattle.sectortype.specs.Form.{empty_table}
 use Rattle.sectortype.specs.declared.Table.{Table}
-use Rattle.blockdisk.specs.Records.{zero_node_record, zero_table_record}
+use Rattle.blockdisk.specs.Records.{present_record, zero_node_record, zero_table_record}
 use Rattle.blockdisk.specs.declared.Record.{Record}
 use Rattle.sectortype.specs.declared.Node.{Node}
 use Rattle.blockdisk.specs.declared.Records.{Records}
@@ -30,7 +30,7 @@ area_written w = do
   p ← cut_of w 47
   l ← location_of p.0
   t ← offered_table p.1
-  Some (record { present = true; loc = l; table = t })
+  Some (present_record l t)
 
 -- `none`, an area without a record, or one that is written out
 unfoldable pub area_of : List ℕ → Option (Record Table)
@@ -44,7 +44,7 @@ block_written w = do
   p ← cut_of w 47
   l ← location_of p.0
   n ← node_of p.1
-  Some (record { present = true; loc = l; node = n })
+  Some (present_record l n)
 
 -- `none`, a block without a record, or one that is written out
 unfoldable pub block_of : List ℕ → Option (Record Node)

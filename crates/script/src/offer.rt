@@ -1,11 +1,9 @@
 // The records that a crash line offers: what is stored, but where a word of the line says otherwise.
 ghost use Rattle.std.specs.Prelude.{◌≡◌, ◌<◌};
-ghost use Rattle.blockdisk.specs.Records.{zero_table_record};
 ghost use Rattle.script.specs.Offers.{offered_table, area_of, block_of, with_area, with_block, with_word, with_blocks, offered_of};
 
 use blockdisk::{Record, Records};
-use disklayout::Location;
-use sectortype::Table;
+use sectortype::{Node, Table};
 use words::digits::{location, small};
 use words::lists::node;
 use words::tables::table;
@@ -16,17 +14,6 @@ use words::text::{after, cut, same, word, words};
 pub struct Offer {
     pub named: [bool; 128],
     pub records: Records,
-}
-
-fn no_table_record() -> Record<Table>
-    ensures { result ≡ zero_table_record }
-{
-    let table = sector::empty_table();
-    Record {
-        present: false,
-        loc: Location { addr: 0, len: 0 },
-        table,
-    }
 }
 
 // A table behind a `/`: written out, or `empty`.
@@ -47,16 +34,12 @@ fn area(w: &[u8]) -> Option<Record<Table>>
     ensures { result ≡ area_of w.now }
 {
     if same(w, b"none") {
-        return Some(no_table_record());
+        return Some(disk::absent(sector::empty_table()));
     }
     let (first, second) = cut(w, b'/')?;
     let loc = location(first)?;
     let table = offered_table(second)?;
-    Some(Record {
-        present: true,
-        loc,
-        table,
-    })
+    Some(disk::present(loc, table))
 }
 
 // `none` or `ADDR+LEN/NODE`.
@@ -65,16 +48,12 @@ fn block(w: &[u8]) -> Option<Record<Node>>
     ensures { result ≡ block_of w.now }
 {
     if same(w, b"none") {
-        return Some(disk::zero_node_record());
+        return Some(disk::absent(sector::zero_node()));
     }
     let (first, second) = cut(w, b'/')?;
     let loc = location(first)?;
     let node = node(second)?;
-    Some(Record {
-        present: true,
-        loc,
-        node,
-    })
+    Some(disk::present(loc, node))
 }
 
 // With what a line has for one of the table areas, 0 or 1; what is stored there where it has nothing.
