@@ -108,7 +108,8 @@ impl Cache {
         o
     }
 
-    // The step's own conditions and what it does, on a cache and a call in their written form, past V, D and phase.
+    // The step's own conditions and what it does, on a cache and a call in their written form, past V, D and phase. The arms meet before the
+    // outcome is made: made in each, or of a lent cache, it is copied more often, and a call takes longer.
     #[tactic(auto, unfolding(blockcache::specs::Steps::step_of, blockcache::specs::Steps::steps, blockcache::specs::Step::past_gate, base::specs::Refusals::answer))]
     fn dispatch(self, number: u64, q: Judged) -> CacheOutcome
         requires { read_ref self.settings self.state q.call < 64 }

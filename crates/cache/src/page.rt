@@ -47,8 +47,8 @@ impl Cache {
         Ok(c)
     }
 
-    // 9 is asked only where the id is awaited, and its reference allocated and not cached: nothing brought, or successors that differ
-    // from the graph's as sets.
+    // The reference is that of the read answered, which the cache's form bounds. 9 is asked only where the id is awaited, and its reference
+    // allocated and not cached: nothing brought, or successors that differ from the graph's as sets.
     pub(crate) fn page_in_node_resp(self, q: Judged) -> Result<CacheState, Refusal>
         requires { read_ref self.settings self.state q.call < 64 }
         ensures { settled_outcome result self.state ≡ past_gate self.settings self.state q.call page_in_node_resp_step }
