@@ -9,6 +9,7 @@ use fixtures::{
 };
 use output::Output;
 use queue::{Request, Requests};
+use sectortype::{Node, Table};
 
 fn on(out: &mut Output, name: &[u8], disk: DiskState) {
     let c = ready();

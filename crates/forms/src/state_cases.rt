@@ -11,7 +11,7 @@ use fixtures::{
     with_ephemeral, with_frozen, with_frozen_place, with_persistent, with_reads, with_writes,
 };
 use output::Output;
-use sectortype::Node;
+use sectortype::{Node, Table};
 
 fn with_awaited(c: CacheState, waiting: bool, id: u64) -> CacheState {
     let mut next = c;
