@@ -16,7 +16,7 @@ use Rattle.blockdisk.specs.declared.DiskOp.TheVariants.{RespWriteIndirectionTabl
 use Rattle.blockcache.specs.Form.{is_ready}
 use Rattle.blockcache.specs.declared.CacheState.{CacheState}
 use Rattle.blockcache.specs.declared.Call.{Call}
-use Rattle.smalltable.specs.Tables.{small_table}
+use Rattle.smalltable.specs.Tables.{numbered_table}
 use Rattle.script.specs.declared.request.NodeSource.{NodeSource}
 use Rattle.script.specs.declared.request.TableSource.{TableSource}
 use Rattle.script.specs.declared.request.Request.{Request}
@@ -65,7 +65,7 @@ table_value table.Stored id d c s = stored_table d s id
 table_value table.Frozen id d c s = Some (cache_table (is_ready c && c.tables.isfrozen) c.tables.frozen)
 table_value table.Ephemeral id d c s = Some (cache_table (is_ready c) c.tables.ephemeral)
 table_value table.Persistent id d c s = Some (cache_table (is_ready c) c.tables.persistent)
-table_value (table.Small k) id d c s = Some (small_table d k).table
+table_value (table.Small k) id d c s = Some (numbered_table d k)
 
 -- THE CALL
 

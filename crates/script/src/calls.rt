@@ -100,7 +100,7 @@ fn table_value(
         TableSource::Persistent => Some(cache_table(ready, tables.persistent)),
         TableSource::Small(k) => {
             let small = numbering::small_table(device, k);
-            Some(small.table)
+            Some(small.unwrap_or(sector::empty_table()))
         }
     }
 }
