@@ -3,7 +3,9 @@ use blockdisk::{Brought, DiskCall, DiskOp, DiskState, Queues};
 use disk::Disk;
 use disklayout::Location;
 use fixtures::show::{disk_answer, disk_brings, line, pair};
-use fixtures::{DiskQueue, AREA1, AREA2, BLOCK0, at, high_leaf, leaf, queue_of, stored, storing, two_entries};
+use fixtures::{
+    AREA1, AREA2, BLOCK0, DiskQueue, at, high_leaf, leaf, queue_of, stored, storing, two_entries,
+};
 use output::Output;
 use queue::{Request, Requests};
 use sectortype::{Node, Table};

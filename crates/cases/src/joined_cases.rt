@@ -5,9 +5,9 @@ use blockdisk::{Brought, DiskOp, DiskState, Records};
 use disklayout::Location;
 use fixtures::changed::changed;
 use fixtures::show::{internal, no_op_call, pair};
-use fixtures::{DiskQueue, 
-    AREA1, AREA2, BLOCK1, BLOCK2, BLOCK3, at, entry_at, in_phase, leaf, one, queue_of, queued,
-    ready, stored, storing, two_entries, with_cached, with_ephemeral, with_frozen,
+use fixtures::{
+    AREA1, AREA2, BLOCK1, BLOCK2, BLOCK3, DiskQueue, at, entry_at, in_phase, leaf, one, queue_of,
+    queued, ready, stored, storing, two_entries, with_cached, with_ephemeral, with_frozen,
     with_frozen_place, with_reads, with_writes,
 };
 use output::Output;

@@ -7,7 +7,7 @@ use crate::joined_cases::{
 use blockcache::{Awaited, CacheState, Call};
 use blockdisk::{Brought, DiskOp, DiskState};
 use fixtures::show::{internal, line};
-use fixtures::{DiskQueue, AREA2, at, queued, ready, two_entries};
+use fixtures::{AREA2, DiskQueue, at, queued, ready, two_entries};
 use output::Output;
 use system::Store;
 

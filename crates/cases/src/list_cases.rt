@@ -6,7 +6,7 @@ use blockcache::{CacheState, Operation, Phase, VersionOp};
 use blockdisk::DiskState;
 use fixtures::changed::changed;
 use fixtures::show::{pair, versioned};
-use fixtures::{DiskQueue, AREA1, at, in_phase, leaf, one, queued, ready, with_reads};
+use fixtures::{AREA1, DiskQueue, at, in_phase, leaf, one, queued, ready, with_reads};
 use output::Output;
 use system::{Store, TRANSACTION};
 
