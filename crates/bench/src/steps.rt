@@ -96,7 +96,7 @@ fn stored_table(s: State, second: bool) -> Table {
     let tables = records.tables;
     let one = tables[0];
     let two = tables[1];
-    if second { two.table } else { one.table }
+    if second { two.held } else { one.held }
 }
 
 // 9

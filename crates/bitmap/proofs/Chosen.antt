@@ -1,9 +1,13 @@
 -- What the chooser gives, read off the two words of a cache in its written form. Assumes nothing.
-use Prim.Native.Nat.{◌<◌, ℕ}
-use mathlib.Core.Bool.{not, true}
+use Prim.Native.Nat.{◌<◌, ◌≤◌, ℕ}
+use native.Mathlib.Omega.{arith}
+use lib.Dec.{eqb, ltb}
+use Rattle.std.specs.Prelude.{Option, Some, None}
+use Rattle.base.proofs.Chains.{place_some}
+use mathlib.Core.Bool.{false, not, true}
 use mathlib.Core.Path.{◌∙◌, ◌≡◌, ap, refl, sym}
-use borrow.Author.Tests.{le-leb}
-use Rattle.base.proofs.Scan.{all_at, all_of, count_same, count_zero, count_zero_at, first_same, some_same}
+use borrow.Author.Tests.{eqb-false, eqb-true, le-leb, ltb-false}
+use Rattle.base.proofs.Scan.{all_at, all_of, count_same, count_zero, count_zero_at, first_same, some_of_none, some_same}
 use Rattle.base.proofs.Tests.{not_iff, split}
 use Rattle.base.specs.Refusals.{answer}
 use Rattle.base.specs.Scan.{all_below, count_below, first_below, some_below}
@@ -20,7 +24,7 @@ use Rattle.blockcache.specs.declared.Marks.{Marks}
 use Rattle.blockcache.specs.declared.Settings.{Settings}
 use Rattle.disklayout.specs.Blocks.{node_block_addr}
 use Rattle.disklayout.specs.Device.{device_of}
-use Rattle.bitmap.specs.Bitmap.{is_free_in, next_free}
+use Rattle.bitmap.specs.Bitmap.{if_below, is_free_in, next_free}
 
 module _ (g : Settings) (c : CacheState) (s : settings_form g ≡ true) (f : cache_form g.device c ≡ true) (r : is_ready c ≡ true) where
   abbrev m : Marks
@@ -37,8 +41,8 @@ module _ (g : Settings) (c : CacheState) (s : settings_form g ≡ true) (f : cac
   count = count_below (is_free_in m) 128
 
   -- none is free: 21
-  pub none_free : count ≡ 0 → refused_choice 21 c ≡ chooser g c
-  none_free z =
+  full : count ≡ 0 → refused_choice 21 c ≡ chooser g c
+  full z =
       sym (choice_full g c s f r (all_of (marked g c) 128
       (λ b h. (not_iff (marked g c b)).0 (sym (free_read b h) ∙ count_zero_at (is_free_in m) 128 b z h))))
 
@@ -63,18 +67,40 @@ module _ (g : Settings) (c : CacheState) (s : settings_form g ≡ true) (f : cac
       (λ k h. free_read (block_after last k) (after_small last k)) in
       rw (small, some) (ap (block_after last) turn)
 
-  pub block_below : (count ≡ 0 → ⊥) → block < 128
+  block_below : (count ≡ 0 → ⊥) → block < 128
   block_below ne = rw (next_is ne) (after_small last (first_below _ 128))
 
+  counted : 128 ≤ block → count ≡ 0
+  counted h = split (eqb count 0) (λ t. eqb-true count 0 t) (λ t. absurd (omega (arith, h, block_below (eqb-false count 0 t))))
+
+  uncounted : block < 128 → count ≡ 0 → ⊥
+  unfolding next_free
+  uncounted h z =
+      let n : some_below (is_free_in m) 128 ≡ false = some_of_none (is_free_in m) 128 (λ b l. count_zero_at (is_free_in m) 128 b z l) in
+      let small = le-leb last 127 ((cache_form_iff g.device c).0 f).1.last.small in
+      let k = rw (small, n) at h in absurd (omega (arith, k))
+
+  pub none_free : if_below 128 block ≡ None → refused_choice 21 c ≡ chooser g c
+  none_free e =
+      split (ltb block 128)
+      (λ t. let s : ◌≡◌ {A = Option ℕ} (Some block) None = rw t at e in cc)
+      (λ t. full (counted (ltb-false block 128 t)))
+
+  pub one_below : {k : ℕ} → if_below 128 block ≡ Some k → k < 128
+  one_below {k} e = (place_some block 128 e).1
+
   -- else the next free block in turn
-  pub one_free : (count ≡ 0 → ⊥) →
+  pub one_free : {k : ℕ} → if_below 128 block ≡ Some k →
       ◌≡◌ {A = Choice} (record {
         answer = 0;
-        block = block;
-        addr = node_block_addr
-            (device_of g.device) block;
+        block = k;
+        addr = node_block_addr (device_of g.device) k;
         free = count;
-        cache = with_last c block;
+        cache = with_last c k;
       }) (chooser g c)
   unfolding chooser choice_by
-  one_free ne = rw (given ne) (rw (next_is ne, count_same (is_free_in m) (is_free_block g c) 128 free_read) refl)
+  one_free {k} e =
+      let p = place_some block 128 e in
+      let ne : count ≡ 0 → ⊥ = uncounted (omega (arith, p.0, p.1)) in
+      rw (← p.0, given ne)
+      (rw (next_is ne, count_same (is_free_in m) (is_free_block g c) 128 free_read) refl)

@@ -2,20 +2,37 @@
 -- the free blocks by the words' ones. Assumes nothing.
 use Prim.Native.Nat.{◌+◌, ◌-◌, ◌/◌, ◌<◌, ◌^◌, ◌≤◌, ℕ}
 use mathlib.Core.Bool.{Bool, false, not, true}
-use mathlib.Core.Path.{◌∙◌, ◌≡◌, ap, sym}
+use mathlib.Core.Path.{◌∙◌, ◌≡◌, ap, refl, sym}
 use native.Mathlib.Omega.{arith}
 use borrow.Author.Tests.{le-leb, le-ltb, lt-leb, lt-ltb, ltb-false, ltb-true}
 use lib.Count.{ones, count_trailing_zeros}
 use lib.Dec.{ltb}
+use Rattle.std.specs.Prelude.{Option, Some, None}
 use Rattle.base.proofs.Bits.{word_not, word_of_digits, word_ones, word_shift, word_trailing, word_zero_iff}
-use Rattle.base.proofs.Scan.{count_cut, count_not, count_same, first_before, first_is, first_le, first_miss, first_passes, some_at}
+use Rattle.base.proofs.Scan.{count_cut, count_not, count_same, first_before, first_found, first_is, first_le, first_miss, first_passes, some_at}
 use Rattle.base.proofs.Scan.{some_of_none}
 use Rattle.base.proofs.Tests.{clash, split}
 use Rattle.base.specs.Bits.{digit_at, word_of}
 use Rattle.base.specs.Scan.{count_below, first_below, first_from, some_below}
-use Rattle.bitmap.specs.Bitmap.{is_free_in, next_free}
+use Rattle.bitmap.specs.Bitmap.{if_below, is_free_in, next_free}
 use Rattle.blockcache.specs.Chooser.{block_after}
 use Rattle.blockcache.specs.declared.Marks.{Marks}
+
+-- A NUMBER BELOW AN END, OR NONE
+
+pub below_some : (n k : ℕ) → k < n → Some k ≡ if_below n k
+below_some n k h = rw (lt-ltb k n h) refl
+
+pub below_none : (n k : ℕ) → n ≤ k → None ≡ if_below n k
+below_none n k h = rw (le-ltb k n h) refl
+
+-- what is asked first, and where that gives none what is asked then
+pub or_then : (n j : ℕ) {o r y z : Option ℕ} → o ≡ if_below n j → ((k : ℕ) → o ≡ Some k → r ≡ Some k) → (o ≡ None → r ≡ y) →
+    (j < n → Some j ≡ z) → (n ≤ j → y ≡ z) → r ≡ z
+or_then n j e some none found missed =
+    split (ltb j n)
+    (λ t. let h : j < n = ltb-true j n t in some j (e ∙ sym (below_some n j h)) ∙ found h)
+    (λ t. let h : n ≤ j = ltb-false j n t in none (e ∙ sym (below_none n j h)) ∙ missed h)
 
 -- THE FIRST FROM A PLACE ON
 
@@ -66,19 +83,21 @@ module _ (w f : ℕ) (small : w < 2 ^ 64) (within : f ≤ 64) where
       let q : 64 ≡ f + (64 - f) = omega arith in
       ap (λ x. x / 2 ^ f) (e ∙ ap (word_of (clear_at w)) q) ∙ word_shift (clear_at w) f (64 - f)
 
-  pub no_clear : rest_of w f ≡ 0 → 64 ≡ first_from (clear_at w) f 64
+  pub no_clear : rest_of w f ≡ 0 → None ≡ if_below 64 (first_from (clear_at w) f 64)
   no_clear z =
       let s = (word_zero_iff (λ k. clear_at w (f + k)) (64 - f)).0 (sym rest_word ∙ z) in
-      omega (arith, first_miss (λ k. clear_at w (f + k)) (64 - f) (sym s))
+      below_none 64 _ (omega (arith, first_miss (λ k. clear_at w (f + k)) (64 - f) (sym s)))
 
-  pub clear_found : (rest_of w f ≡ 0 → ⊥) → f + count_trailing_zeros 64 (rest_of w f) ≡ first_from (clear_at w) f 64
+  pub clear_found : (rest_of w f ≡ 0 → ⊥) → Some (f + count_trailing_zeros 64 (rest_of w f)) ≡ if_below 64 (first_from (clear_at w) f 64)
   clear_found z =
       split (some_below (λ k. clear_at w (f + k)) (64 - f))
-      (λ t. rw rest_word (ap (λ x. f + x) (word_trailing (λ k. clear_at w (f + k)) 64 (64 - f) t (omega arith))))
+      (λ t. let e : f + count_trailing_zeros 64 (rest_of w f) ≡ first_from (clear_at w) f 64 =
+      rw rest_word (ap (λ x. f + x) (word_trailing (λ k. clear_at w (f + k)) 64 (64 - f) t (omega arith))) in
+      rw e (below_some 64 _ (omega (arith, first_found (λ k. clear_at w (f + k)) (64 - f) t))))
       (λ t. absurd (z (rest_word ∙ (word_zero_iff (λ k. clear_at w (f + k)) (64 - f)).1 t)))
 
-pub clear_le : (w f : ℕ) → f ≤ 64 → first_from (clear_at w) f 64 ≤ 64
-clear_le w f h = from_le (clear_at w) f 64 h
+pub clear_none : (w f : ℕ) → 64 ≤ f → None ≡ if_below 64 (first_from (clear_at w) f 64)
+clear_none w f h = below_none 64 _ (omega arith)
 
 -- OF TWO WORDS
 
@@ -89,8 +108,8 @@ module _ (m : Marks) where
   free_high : (b : ℕ) → is_free_in m (64 + b) ≡ clear_at m.high b
   free_high b = let q : (64 + b) - 64 ≡ b = omega arith in rw (le-ltb (64 + b) 64 (omega arith)) (ap (clear_at m.high) q)
 
-  pub first_in_low : (a : ℕ) → first_from (clear_at m.low) a 64 < 64 → first_from (clear_at m.low) a 64 ≡ first_from (is_free_in m) a 128
-  first_in_low a l =
+  in_low : (a : ℕ) → first_from (clear_at m.low) a 64 < 64 → first_from (clear_at m.low) a 64 ≡ first_from (is_free_in m) a 128
+  in_low a l =
       let f = first_from (clear_at m.low) a 64 in
       from_is (is_free_in m) a 128 f (omega arith) (omega arith)
       (λ i. free_low f l ∙ from_passes (clear_at m.low) a 64 l)
@@ -110,18 +129,24 @@ module _ (m : Marks) where
       let q : j ≡ 64 + (j - 64) = omega arith in
       rw q (free_high (j - 64) ∙ from_before (clear_at m.high) c 64 (j - 64) (omega arith) (omega arith))))
 
-  pub first_past_low : (a : ℕ) → a ≤ 64 → 64 ≤ first_from (clear_at m.low) a 64 →
-      64 + first_from (clear_at m.high) 0 64 ≡ first_from (is_free_in m) a 128
-  first_past_low a h l = past a 0 h (omega arith) (λ j c b. free_low j b ∙ from_before (clear_at m.low) a 64 j c (omega arith))
+  pub low_found : (a : ℕ) → first_from (clear_at m.low) a 64 < 64 →
+      Some (first_from (clear_at m.low) a 64) ≡ if_below 128 (first_from (is_free_in m) a 128)
+  low_found a l = below_some 128 (first_from (clear_at m.low) a 64) (omega arith) ∙ ap (if_below 128) (in_low a l)
 
-  pub first_in_high : (a : ℕ) → 64 ≤ a → a ≤ 128 → 64 + first_from (clear_at m.high) (a - 64) 64 ≡ first_from (is_free_in m) a 128
-  first_in_high a l h = past a (a - 64) (omega arith) (omega arith) (λ j c b. absurd (omega arith))
+  pub low_missed : (a : ℕ) → a ≤ 64 → 64 ≤ first_from (clear_at m.low) a 64 →
+      if_below 128 (64 + first_from (clear_at m.high) 0 64) ≡ if_below 128 (first_from (is_free_in m) a 128)
+  low_missed a h l =
+      ap (if_below 128) (past a 0 h (omega arith) (λ j c b. free_low j b ∙ from_before (clear_at m.low) a 64 j c (omega arith)))
+
+  pub in_high : (a : ℕ) → 64 ≤ a → a ≤ 128 →
+      if_below 128 (64 + first_from (clear_at m.high) (a - 64) 64) ≡ if_below 128 (first_from (is_free_in m) a 128)
+  in_high a l h = ap (if_below 128) (past a (a - 64) (omega arith) (omega arith) (λ j c b. absurd (omega arith)))
 
   -- GOING ROUND
 
-  pub none_there : (last : ℕ) → 127 < last → 128 ≡ next_free m last
+  pub none_there : (last : ℕ) → 127 < last → None ≡ if_below 128 (next_free m last)
   unfolding next_free
-  none_there last h = rw (lt-leb last 127 h)
+  none_there last h = rw (lt-leb last 127 h) refl
 
   module _ (last : ℕ) (h : last ≤ 127) where
     -- block f is free, k places on, and none before it is
@@ -133,12 +158,13 @@ module _ (m : Marks) where
         (ap (is_free_in m) e ∙ t) n in
         rw (le-leb last 127 h, some_at (is_free_in m) 128 f b t) (sym (ap (block_after last) q ∙ e))
 
-    pub next_after : first_from (is_free_in m) (last + 1) 128 < 128 → first_from (is_free_in m) (last + 1) 128 ≡ next_free m last
+    pub next_after : first_from (is_free_in m) (last + 1) 128 < 128 →
+        Some (first_from (is_free_in m) (last + 1) 128) ≡ if_below 128 (next_free m last)
     next_after b =
         let f = first_from (is_free_in m) (last + 1) 128 in
-        round f (f - last - 1) (omega arith) b (omega arith) (from_passes (is_free_in m) (last + 1) 128 b)
+        below_some 128 f b ∙ ap (if_below 128) (round f (f - last - 1) (omega arith) b (omega arith) (from_passes (is_free_in m) (last + 1) 128 b)
         (λ j l. let q : block_after last j ≡ last + 1 + j = omega arith in
-        rw q (from_before (is_free_in m) (last + 1) 128 (last + 1 + j) (omega arith) (omega arith)))
+        rw q (from_before (is_free_in m) (last + 1) 128 (last + 1 + j) (omega arith) (omega arith))))
 
     -- none is free from block 0 on
     missed : 128 ≤ first_from (is_free_in m) 0 128 → first_from (is_free_in m) 0 128 ≡ next_free m last
@@ -149,11 +175,13 @@ module _ (m : Marks) where
         (λ j c. from_before (is_free_in m) 0 128 j (omega arith) (omega arith)) in
         rw (le-leb last 127 h, n) (omega arith)
 
-    pub next_round : 128 ≤ first_from (is_free_in m) (last + 1) 128 → first_from (is_free_in m) 0 128 ≡ next_free m last
+    pub next_round : 128 ≤ first_from (is_free_in m) (last + 1) 128 →
+        if_below 128 (first_from (is_free_in m) 0 128) ≡ if_below 128 (next_free m last)
     next_round b =
-        split (ltb (first_from (is_free_in m) 0 128) 128)
+        ap (if_below 128)
+        (split (ltb (first_from (is_free_in m) 0 128) 128)
         (λ t. found (ltb-true (first_from (is_free_in m) 0 128) 128 t))
-        (λ t. missed (ltb-false (first_from (is_free_in m) 0 128) 128 t))
+        (λ t. missed (ltb-false (first_from (is_free_in m) 0 128) 128 t)))
       where
         behind : (j : ℕ) → last < j → j < 128 → is_free_in m j ≡ false
         behind j l u = from_before (is_free_in m) (last + 1) 128 j (omega arith) (omega arith)

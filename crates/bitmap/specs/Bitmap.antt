@@ -2,6 +2,7 @@
 -- writes (`marks_of`), and the chooser.
 use Rattle.std.specs.Prelude.{◌-◌, ◌^◌, ℕ, Bool, ◌&&◌, cond, not, leb, ltb}
 use Rattle.std.proofs.Math.Option.{Option, none, some}
+use Rattle.std.specs.Prelude as code
 use Rattle.std.specs.Int.Bits.{bit_or}
 use Rattle.base.specs.Scan.{some_below}
 use Rattle.blockcache.specs.Chooser.{next_fit}
@@ -51,6 +52,10 @@ marks_on d ts q = on_device d (marks_of d ts q)
 
 abbrev pub is_free_in : Marks → ℕ → Bool
 is_free_in m b = not (mark_at m b)
+
+-- a number below n, and else none
+abbrev pub if_below : ℕ → ℕ → code.Option ℕ
+if_below n k = cond (ltb k n) (code.Some k) code.None
 
 -- the first free block after the one given last, going round; 128 where there is none, or no such block was given
 unfoldable pub next_free : Marks → ℕ → ℕ

@@ -95,5 +95,5 @@ pub fn marks_of(device: u64, ts: Tables, writes: Requests) -> Marks
 pub fn same_marks(a: Marks, b: Marks) -> bool
     ensures { result ≡ Marks·same_marks a b }
 {
-    (a.low == b.low) & (a.high == b.high)
+    a == b
 }

@@ -33,6 +33,7 @@ pub mod OtherSteps
 pub mod Outcomes
 pub mod ReadAnswers
 pub mod ReadSteps
+pub mod Refusals
 pub mod Waiting
 pub mod Walk
 pub mod WriteSteps

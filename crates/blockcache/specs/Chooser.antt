@@ -1,12 +1,14 @@
 -- The chooser (document 02, Q-1): the first unmarked block after the one given last, going round to block 0 after block 127.
-use Rattle.std.specs.Prelude.{◌%◌, ◌+◌, ℕ, Bool, ◌&&◌, cond, not, List, [], ◌∷◌, eqb}
+use Rattle.std.specs.Prelude.{◌%◌, ◌+◌, ℕ, Bool, ◌&&◌, cond, not, List, [], ◌∷◌, eqb, Result, Ok, Err}
 use Rattle.base.specs.Refusals.{Row, ◌when◌, answer}
 use Rattle.base.specs.Scan.{all_below, count_below, first_below}
 use Rattle.blockcache.specs.Form.{cache_form, is_ready, settings_form}
 use Rattle.blockcache.specs.Marks.{is_marked}
 use Rattle.blockcache.specs.Next.{with_last}
+use Rattle.blockcache.specs.Step.{refusal_number}
 use Rattle.blockcache.specs.declared.CacheState.{CacheState}
 use Rattle.blockcache.specs.declared.Choice.{Choice}
+use Rattle.blockcache.specs.declared.Refusal.{Refusal}
 use Rattle.blockcache.specs.declared.Settings.{Settings}
 use Rattle.disklayout.specs.Blocks.{node_block_addr}
 use Rattle.disklayout.specs.Device.{device_of}
@@ -26,6 +28,11 @@ refused_choice n c = record { answer = n; block = 0; addr = 0; free = 0; cache =
 -- accepted: a block with its address, how many are free, and the cache with that block as the one given last
 abbrev pub given_choice : ℕ → ℕ → ℕ → CacheState → Choice
 given_choice block addr free c = record { answer = 0; block = block; addr = addr; free = free; cache = with_last c block }
+
+-- what the search for a block gives: the choice, or the number with the cache as it was
+abbrev pub settled_choice : Result Choice Refusal → CacheState → Choice
+settled_choice (Ok choice) c = choice
+settled_choice (Err e) c = refused_choice (refusal_number e) c
 
 module _ (g : Settings) (c : CacheState) where
   abbrev pub marked : ℕ → Bool

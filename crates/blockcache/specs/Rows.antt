@@ -48,6 +48,11 @@ awaits_read c o =
     answer_phase c.phase o
     && ((is_d node_read_resp o && has_of c.outstanding.reads (dop_id o)) || (is_d table_read_resp o && awaits_table c.awaited (dop_id o)))
 
+-- the answer of a write that a Ready cache awaits
+abbrev pub awaits_write : CacheState → DiskOp → Bool
+awaits_write c o =
+    (is_d table_write_resp o && awaits_table c.awaited (dop_id o)) || (is_d node_write_resp o && has_of c.outstanding.writes (dop_id o))
+
 -- THE FREEZE RULE
 
 -- under rule 2 a frozen place that is set is held: no Freeze drops it

@@ -1,5 +1,5 @@
 -- A step of the cache: the number decides which rows and which next state apply; a number that is no step's is refused with 1.
-use Rattle.std.specs.Prelude.{ℕ, Bool, ◌&&◌, ◌||◌, cond, not, List, [], ◌∷◌, eqb}
+use Rattle.std.specs.Prelude.{ℕ, Bool, ◌&&◌, ◌||◌, cond, not, List, [], ◌∷◌, eqb, Result, Ok, Err}
 use Rattle.std.proofs.Math.Option.{Option, none, some}
 use Rattle.base.specs.Maps.{is_some}
 use Rattle.base.specs.Refusals.{Row, ◌when◌, answer}
@@ -11,6 +11,8 @@ use Rattle.blockcache.specs.declared.CacheOutcome.{CacheOutcome}
 use Rattle.blockcache.specs.declared.CacheState.{CacheState}
 use Rattle.blockcache.specs.declared.Call.{Call}
 use Rattle.blockcache.specs.declared.Phase.{Phase}
+use Rattle.blockcache.specs.declared.Refusal.{Refusal}
+use Rattle.blockcache.specs.declared.Refusal.TheVariants as refusal
 use Rattle.blockcache.specs.declared.Settings.{Settings}
 use Rattle.blockcache.specs.declared.VersionOp.{VersionOp}
 use Rattle.blockdisk.specs.declared.DiskOp.{DiskOp}
@@ -59,6 +61,42 @@ cache_step g c n q = outcome (answer (cache_rows g c n q)) (node_of c n q) (cach
 
 abbrev pub answered : ℕ → CacheState → CacheOutcome
 answered n c = record { answer = n; node = zero_node; cache = c }
+
+-- the numbers of documents 01 and 02
+abbrev pub refusal_number : Refusal → ℕ
+refusal_number refusal.Limits = 1
+refusal_number refusal.Version = 2
+refusal_number refusal.Disk = 3
+refusal_number refusal.Phase = 4
+refusal_number refusal.Id = 5
+refusal_number refusal.Place = 6
+refusal_number refusal.Held = 7
+refusal_number refusal.Reference = 8
+refusal_number refusal.Contents = 9
+refusal_number refusal.Outstanding = 10
+refusal_number refusal.Frozen = 11
+refusal_number refusal.Named = 12
+refusal_number refusal.Successor = 13
+refusal_number refusal.Full = 14
+refusal_number refusal.NoBlock = 21
+refusal_number refusal.Awaited = 22
+refusal_number refusal.TooLong = 24
+refusal_number refusal.Rule = 25
+
+-- what a test gives: 0 where it refuses nothing
+abbrev pub test_number : {A : Type 0} → Result A Refusal → ℕ
+test_number (Ok a) = 0
+test_number (Err e) = refusal_number e
+
+-- what a step gives: the next cache, or the number with the cache as it was
+abbrev pub settled_outcome : Result CacheState Refusal → CacheState → CacheOutcome
+settled_outcome (Ok next) c = answered 0 next
+settled_outcome (Err e) c = answered (refusal_number e) c
+
+-- what a read gives: the node, or the number with a node of zeros; the cache as it was
+abbrev pub read_outcome : Result Node Refusal → CacheState → CacheOutcome
+read_outcome (Ok node) c = record { answer = 0; node = node; cache = c }
+read_outcome (Err e) c = answered (refusal_number e) c
 
 -- 0 where V, D and the phase are the step's, 1 where there is no such step
 unfoldable pub gated : Phase → VersionOp → DiskOp → Option Step → ℕ

@@ -112,6 +112,45 @@ pub struct CacheOutcome {
     pub cache: CacheState,
 }
 
+// Why a step is refused: the conditions of documents 01 and 02 by what they speak of, so that one name stands for one number.
+#[derive(Clone, Copy, PartialEq, Eq)]
+pub enum Refusal {
+    // Outside the limits or not in its one written form, or there is no such step.
+    Limits,
+    // The version operation, the disk operation or the phase isn't the step's.
+    Version,
+    Disk,
+    Phase,
+    // A request's id is outstanding already, an answer's isn't awaited, or NoOp is given a write answer that is.
+    Id,
+    // The place given isn't valid, or isn't the one that the cache has.
+    Place,
+    // The address is held already.
+    Held,
+    // The reference is cached or allocated where it may not be, or isn't where it must be.
+    Reference,
+    // A node or a table differs from the one that the cache has, or can't be loaded.
+    Contents,
+    // A request that has to end first is outstanding.
+    Outstanding,
+    // The frozen table or its place is missing or incomplete, or still needs the node.
+    Frozen,
+    // The root, or a list in the graph names it.
+    Named,
+    // A successor isn't allocated.
+    Successor,
+    // 16 requests are outstanding.
+    Full,
+    // Every block is marked.
+    NoBlock,
+    // A read answer that the cache awaits, which is for the step that lets go.
+    Awaited,
+    // A list of more than 32 operations.
+    TooLong,
+    // Rule 2 holds the frozen place.
+    Rule,
+}
+
 // One operation of step 20's list (document 02, Q-7), upstream's Op: an alloc, else a write, which is Dirty, of a node under a
 // reference. Any 64-bit number may stand as the reference, and any node.
 #[derive(Clone, Copy)]

@@ -20,8 +20,9 @@ use Rattle.blockdisk.specs.Form.{table_request_ok}
 use Rattle.blockdisk.specs.Records.{node_record_at, table_record_at, zero_node_record, zero_table_record}
 use Rattle.blockdisk.specs.Upstream.{disk_vars, nodes_stored, places, upstream_tables}
 use Rattle.blockdisk.specs.declared.DiskState.{DiskState}
-use Rattle.blockdisk.specs.declared.NodeRecord.{NodeRecord}
-use Rattle.blockdisk.specs.declared.TableRecord.{TableRecord}
+use Rattle.blockdisk.specs.declared.Record.{Record}
+use Rattle.sectortype.specs.declared.Node.{Node}
+use Rattle.sectortype.specs.declared.Table.{Table}
 use Rattle.queue.proofs.Decided.{mapped_decided, request_ext}
 use Rattle.queue.specs.declared.Request.{Request}
 use Rattle.queue.specs.declared.Requests.{Requests}
@@ -67,25 +68,25 @@ module _ {R A : Type 0} (s : RecordArray R A) where
 
 -- NODES AND TABLES
 
-absent_node : (d k : ℕ) (x : NodeRecord) → (node_record_checked d k x).form ≡ true → x.present ≡ false → x ≡ zero_node_record
+absent_node : (d k : ℕ) (x : Record Node) → (node_record_checked d k x).form ≡ true → x.present ≡ false → x ≡ zero_node_record
 unfolding node_record_checked
 absent_node d k x e p =
-    let zeros = loc_zero x.loc && node_zero x.node in
-    let h = (and_iff (loc_zero x.loc) (node_zero x.node)).0
-    ((or_true_iff x.present zeros).0 (and_right (node_form x.node) (x.present || zeros) e) p) in
+    let zeros = loc_zero x.loc && node_zero x.held in
+    let h = (and_iff (loc_zero x.loc) (node_zero x.held)).0
+    ((or_true_iff x.present zeros).0 (and_right (node_form x.held) (x.present || zeros) e) p) in
     let l = loc_zero_is x.loc h.0 in
-    let n = node_zero_is x.node h.1 in
-    λ i. record { present = p i; loc = l i; node = n i }
+    let n = node_zero_is x.held h.1 in
+    λ i. record { present = p i; loc = l i; held = n i }
 
-absent_table : (d k : ℕ) (x : TableRecord) → (table_record_checked d k x).form ≡ true → x.present ≡ false → x ≡ zero_table_record
+absent_table : (d k : ℕ) (x : Record Table) → (table_record_checked d k x).form ≡ true → x.present ≡ false → x ≡ zero_table_record
 unfolding table_record_checked
 absent_table d k x e p =
-    let zeros = loc_zero x.loc && eqb x.table.count 0 in
-    let h = (and_iff (loc_zero x.loc) (eqb x.table.count 0)).0
-    ((or_true_iff x.present zeros).0 (and_right (table_form x.table) (x.present || zeros) e) p) in
+    let zeros = loc_zero x.loc && eqb x.held.count 0 in
+    let h = (and_iff (loc_zero x.loc) (eqb x.held.count 0)).0
+    ((or_true_iff x.present zeros).0 (and_right (table_form x.held) (x.present || zeros) e) p) in
     let l = loc_zero_is x.loc h.0 in
-    let t = table_zero_is x.table (and_left (table_form x.table) (x.present || zeros) e) (eqb-true _ _ h.1) in
-    λ i. record { present = p i; loc = l i; table = t i }
+    let t = table_zero_is x.held (and_left (table_form x.held) (x.present || zeros) e) (eqb-true _ _ h.1) in
+    λ i. record { present = p i; loc = l i; held = t i }
 
 module _ (d : ℕ) (s : DiskState) (f : DiskForm d s) where
   nodes_written : Written (node_array d) zero_node_record s.records.nodes
@@ -111,18 +112,14 @@ module _ (d : ℕ) (s : DiskState) (f : DiskForm d s) where
 module _ (d : ℕ) (s t : DiskState) (f : DiskForm d s) (g : DiskForm d t) where
   nodes_decided : nodes_stored d s.records ≡ nodes_stored d t.records → s.records.nodes ≡ t.records.nodes
   nodes_decided same =
-      array_decided (node_array d) zero_node_record (λ x y u v a b c. λ i. record {
-        present =
-            a i;
-        loc = b i;
-        node = c i;
-      }) s.records.nodes t.records.nodes
+      array_decided (node_array d) zero_node_record (λ x y u v a b c i. record { present = a i; loc = b i; held = c i })
+      s.records.nodes t.records.nodes
       (nodes_written d s f) (nodes_written d t g) (sym (nodes_read d s.records f.on) ∙ same ∙ nodes_read d t.records f.on)
 
   tables_decided : upstream_tables d s.records ≡ upstream_tables d t.records → s.records.tables ≡ t.records.tables
   tables_decided same =
       array_decided (upstream_array d) zero_table_record
-      (λ x y u v a b c. let e = (table_abstract x.table y.table u v).0 c in λ i. record { present = a i; loc = b i; table = e i })
+      (λ x y u v a b c. let e = (table_abstract x.held y.held u v).0 c in λ i. record { present = a i; loc = b i; held = e i })
       s.records.tables t.records.tables
       (tables_written d s f) (tables_written d t g) (sym (upstream_read d s.records f.on) ∙ same ∙ upstream_read d t.records f.on)
 

@@ -16,9 +16,10 @@ use Rattle.blockdisk.specs.Form.{records_checked, table_queue_form, table_record
 use Rattle.blockdisk.specs.Records.{node_record_at, table_record_at}
 use Rattle.blockdisk.specs.Upstream.{places}
 use Rattle.blockdisk.specs.declared.DiskState.{DiskState}
-use Rattle.blockdisk.specs.declared.NodeRecord.{NodeRecord}
+use Rattle.blockdisk.specs.declared.Record.{Record}
+use Rattle.sectortype.specs.declared.Node.{Node}
+use Rattle.sectortype.specs.declared.Table.{Table}
 use Rattle.blockdisk.specs.declared.Records.{Records}
-use Rattle.blockdisk.specs.declared.TableRecord.{TableRecord}
 use Rattle.disklayout.specs.Blocks.{node_place, node_place_in, table_place_in}
 use Rattle.disklayout.specs.Device.{device_of, made}
 use Rattle.disklayout.specs.Layout.{valid_indirection_table_location}
@@ -35,28 +36,28 @@ both g a b (suc (suc k)) h = absurd (omega arith)
 
 -- A RECORD
 
-pub table_form_of : (d k : ℕ) (x : TableRecord) → (table_record_checked d k x).form ≡ true → table_form x.table ≡ true
+pub table_form_of : (d k : ℕ) (x : Record Table) → (table_record_checked d k x).form ≡ true → table_form x.held ≡ true
 unfolding table_record_checked
-table_form_of d k x e = and_left (table_form x.table) (x.present || (loc_zero x.loc && eqb x.table.count 0)) e
+table_form_of d k x e = and_left (table_form x.held) (x.present || (loc_zero x.loc && eqb x.held.count 0)) e
 
-pub node_form_of : (d k : ℕ) (x : NodeRecord) → (node_record_checked d k x).form ≡ true → node_form x.node ≡ true
+pub node_form_of : (d k : ℕ) (x : Record Node) → (node_record_checked d k x).form ≡ true → node_form x.held ≡ true
 unfolding node_record_checked
-node_form_of d k x e = and_left (node_form x.node) _ e
+node_form_of d k x e = and_left (node_form x.held) _ e
 
-pub table_form_there : (d k : ℕ) (x : TableRecord) → x.present ≡ true → table_form x.table ≡ true → (table_record_checked d k x).form ≡ true
+pub table_form_there : (d k : ℕ) (x : Record Table) → x.present ≡ true → table_form x.held ≡ true → (table_record_checked d k x).form ≡ true
 unfolding table_record_checked
 table_form_there d k x p e = rw (e, p)
 
-pub node_form_there : (d k : ℕ) (x : NodeRecord) → x.present ≡ true → node_form x.node ≡ true → (node_record_checked d k x).form ≡ true
+pub node_form_there : (d k : ℕ) (x : Record Node) → x.present ≡ true → node_form x.held ≡ true → (node_record_checked d k x).form ≡ true
 unfolding node_record_checked
 node_form_there d k x p e = rw (e, p)
 
-pub table_placed_iff : (d k : ℕ) (x : TableRecord) →
+pub table_placed_iff : (d k : ℕ) (x : Record Table) →
     ((table_record_checked d k x).placed ≡ true) ↔ (x.present ≡ true → (made d ≡ true) × (table_place_in (device_of d) k x.loc ≡ true))
 unfolding table_record_checked
 table_placed_iff d k x = simp (or_true_iff, not_iff, and_iff) Iff.rfl
 
-pub node_placed_iff : (d k : ℕ) (x : NodeRecord) →
+pub node_placed_iff : (d k : ℕ) (x : Record Node) →
     ((node_record_checked d k x).placed ≡ true) ↔ (x.present ≡ true → (made d ≡ true) × (node_place_in (device_of d) k x.loc ≡ true))
 unfolding node_record_checked
 node_placed_iff d k x = simp (or_true_iff, not_iff, and_iff) Iff.rfl

@@ -24,9 +24,8 @@ use Rattle.blockdisk.specs.declared.DiskOp.{DiskOp}
 use Rattle.blockdisk.specs.declared.DiskOp.TheVariants.{NoDiskOp, ReqReadIndirectionTableOp, ReqReadNodeOp, ReqWriteIndirectionTableOp}
 use Rattle.blockdisk.specs.declared.DiskOp.TheVariants.{ReqWriteNodeOp, RespReadIndirectionTableOp, RespReadNodeOp}
 use Rattle.blockdisk.specs.declared.DiskOp.TheVariants.{RespWriteIndirectionTableOp, RespWriteNodeOp}
-use Rattle.blockdisk.specs.declared.NodeRecord.{NodeRecord}
+use Rattle.blockdisk.specs.declared.Record.{Record}
 use Rattle.blockdisk.specs.declared.Records.{Records}
-use Rattle.blockdisk.specs.declared.TableRecord.{TableRecord}
 use Rattle.disklayout.proofs.Devices.{device_good}
 use Rattle.disklayout.proofs.NodeBlocks.{node_place_in_of}
 use Rattle.disklayout.proofs.TableAreas.{table_place_in_of}
@@ -52,8 +51,8 @@ set_each g z l n k v b e h j c =
 module _ (d : ℕ) (r : Records) (on : made d ≡ true) (form : (records_checked d r).form ≡ true)
     (placed : (records_checked d r).placed ≡ true) (l : Location) where
   module _ (x : Node) (allowed : node_place (device_of d) l ≡ true) where
-    abbrev new_node_lem : NodeRecord
-    new_node_lem = record { present = true; loc = l; node = x }
+    abbrev new_node_lem : Record Node
+    new_node_lem = record { present = true; loc = l; held = x }
 
     abbrev node_after : ℕ → Records
     node_after k = record { tables = r.tables; nodes = set r.nodes k new_node_lem }
@@ -87,8 +86,8 @@ module _ (d : ℕ) (r : Records) (on : made d ≡ true) (form : (records_checked
         }))
 
   module _ (x : Table) (allowed : valid_indirection_table_location (device_of d) l ≡ true) where
-    abbrev new_table_lem : TableRecord
-    new_table_lem = record { present = true; loc = l; table = x }
+    abbrev new_table_lem : Record Table
+    new_table_lem = record { present = true; loc = l; held = x }
 
     abbrev table_after : ℕ → Records
     table_after k = record { tables = set r.tables k new_table_lem; nodes = r.nodes }

@@ -1,20 +1,22 @@
--- The number of an area or block is small, and what the code's test of the record at that number tells. Assumes nothing.
+-- The number of an area or block is small, and reading by that number takes what is stored at exactly the place. Assumes nothing.
 use Prim.Native.Nat.{◌-◌, ◌/◌, ◌<◌, ℕ}
-use mathlib.Core.Bool.{◌&&◌, false, true}
-use mathlib.Core.Path.{◌≡◌, ap}
+use mathlib.Core.Bool.{◌&&◌}
+use mathlib.Core.Path.{◌≡◌, ap, refl}
 use native.Mathlib.Omega.{arith}
 use borrow.Author.Tests.{ltb-true}
 use lib.Dec.{eqb, ltb}
 use Rattle.base.proofs.Tests.{and_right, split}
-use Rattle.std.specs.Prelude.{Some, None, unwrap_or}
-use Rattle.blockdisk.specs.Records.{area_number, area_of, block_number, block_of, node_record_at, read_node, read_table, table_record_at}
-use Rattle.blockdisk.specs.Records.{zero_node_record, zero_table_record}
+use Rattle.std.proofs.lemmas.List.{get_or_default}
+use Rattle.std.specs.Prelude.{Option, Some, None, length, unwrap_or}
+use Rattle.blockdisk.specs.Records.{absent_record, area_number, area_of, block_number, block_of, default_node_record, default_table_record}
+use Rattle.blockdisk.specs.Records.{read_node, read_table, record_in}
 use Rattle.blockdisk.specs.declared.Records.{Records}
 use Rattle.disklayout.specs.Blocks.{node_block_of, table_area_of}
 use Rattle.disklayout.specs.Device.{device_of, made}
 use Rattle.disklayout.specs.Layout.{indirection_table1_addr, indirection_table2_addr, min_node_block_index, node_block_size}
-use Rattle.disklayout.specs.Layout.{valid_node_addr, same_loc}
+use Rattle.disklayout.specs.Layout.{valid_node_addr}
 use Rattle.disklayout.specs.declared.Location.{Location}
+use Rattle.sectortype.specs.Form.{empty_table, zero_node}
 
 pub block_below : (d : ℕ) (l : Location) → block_number d l < 128
 unfolding node_block_of
@@ -36,41 +38,24 @@ area_below d l =
     (λ e. rw e (split (eqb l.addr (indirection_table2_addr (device_of d))) (λ f. rw f (omega arith)) (λ f. rw f (omega arith))))))
     (λ t. rw t (omega arith))
 
+-- what is read by that number
 module _ (d : ℕ) (r : Records) (l : Location) where
-  module _ (k : ℕ) (e : block_of d l ≡ Some k) where
-    block_is : block_number d l ≡ k
-    block_is = ap (λ o. unwrap_or o 0) e
-
-    pub block_small : k < 128
-    block_small = rw (← block_is) (block_below d l)
-
-    pub node_found : ((node_record_at r k).present && same_loc (node_record_at r k).loc l) ≡ true → node_record_at r k ≡ read_node d r l
-    unfolding read_node
-    node_found h = rw (e, h)
-
-    pub node_missing : ((node_record_at r k).present && same_loc (node_record_at r k).loc l) ≡ false → zero_node_record ≡ read_node d r l
-    unfolding read_node
-    node_missing h = rw (e, h)
-
-  pub node_nowhere : block_of d l ≡ None → zero_node_record ≡ read_node d r l
+  pub node_in_block : length r.nodes ≡ 128 → record_in (block_of d l) r.nodes l zero_node ≡ read_node d r l
   unfolding read_node
-  node_nowhere e = rw e
+  node_in_block long = go (block_of d l) refl
+    where
+      go : (o : Option ℕ) → block_of d l ≡ o → record_in o r.nodes l zero_node ≡ read_node d r l
+      go None e = rw e
+      go (Some k) e =
+          let b : k < length r.nodes = rw (long, ← (ap (λ o. unwrap_or o 0) e)) (block_below d l) in
+          rw (e, get_or_default r.nodes k (absent_record zero_node) default_node_record b)
 
-  module _ (k : ℕ) (e : area_of d l ≡ Some k) where
-    area_is : area_number d l ≡ k
-    area_is = ap (λ o. unwrap_or o 0) e
-
-    pub area_small : k < 2
-    area_small = rw (← area_is) (area_below d l)
-
-    pub table_found : ((table_record_at r k).present && same_loc (table_record_at r k).loc l) ≡ true → table_record_at r k ≡ read_table d r l
-    unfolding read_table
-    table_found h = rw (e, h)
-
-    pub table_missing : ((table_record_at r k).present && same_loc (table_record_at r k).loc l) ≡ false → zero_table_record ≡ read_table d r l
-    unfolding read_table
-    table_missing h = rw (e, h)
-
-  pub table_nowhere : area_of d l ≡ None → zero_table_record ≡ read_table d r l
+  pub table_in_area : length r.tables ≡ 2 → record_in (area_of d l) r.tables l empty_table ≡ read_table d r l
   unfolding read_table
-  table_nowhere e = rw e
+  table_in_area long = go (area_of d l) refl
+    where
+      go : (o : Option ℕ) → area_of d l ≡ o → record_in o r.tables l empty_table ≡ read_table d r l
+      go None e = rw e
+      go (Some k) e =
+          let b : k < length r.tables = rw (long, ← (ap (λ o. unwrap_or o 0) e)) (area_below d l) in
+          rw (e, get_or_default r.tables k (absent_record empty_table) default_table_record b)

@@ -18,9 +18,8 @@ use Rattle.blockdisk.proofs.RecordArrays.{tables_are_formed, tables_are_placed, 
 use Rattle.blockdisk.specs.Form.{records_checked}
 use Rattle.blockdisk.specs.Records.{node_record_at, read_node, read_table, table_record_at, with_node, with_table}
 use Rattle.blockdisk.specs.Upstream.{DiskMapUpdate, Imap, nodes_stored, tables_stored, upstream_tables}
-use Rattle.blockdisk.specs.declared.NodeRecord.{NodeRecord}
+use Rattle.blockdisk.specs.declared.Record.{Record}
 use Rattle.blockdisk.specs.declared.Records.{Records}
-use Rattle.blockdisk.specs.declared.TableRecord.{TableRecord}
 use Rattle.disklayout.specs.Blocks.{node_block_of, node_place, table_area_of}
 use Rattle.disklayout.specs.Device.{device_of, made}
 use Rattle.disklayout.specs.Layout.{valid_indirection_table_location, same_loc}
@@ -39,7 +38,7 @@ pub record NodeAt (d : ℕ) (r : Records) (l : Location) (n : Node) (k : ℕ) : 
   pub block : node_block_of (device_of d) l.addr ≡ some k
   pub present : (node_record_at r k).present ≡ true
   pub loc : (node_record_at r k).loc ≡ l
-  pub node : (node_record_at r k).node ≡ n
+  pub node : (node_record_at r k).held ≡ n
 
 -- area k holds the table at the place
 pub record TableAt (d : ℕ) (r : Records) (l : Location) (t : Table) (k : ℕ) : Type 0 where
@@ -47,7 +46,7 @@ pub record TableAt (d : ℕ) (r : Records) (l : Location) (t : Table) (k : ℕ) 
   pub area : table_area_of (device_of d) l.addr ≡ some k
   pub present : (table_record_at r k).present ≡ true
   pub loc : (table_record_at r k).loc ≡ l
-  pub table : (table_record_at r k).table ≡ t
+  pub table : (table_record_at r k).held ≡ t
 
 -- a map after a write: at the written address the new thing at exactly its place, elsewhere what was
 abbrev pub replacing : {A : Type 0} → Imap A → Location → A → Imap A
@@ -79,14 +78,14 @@ replaced_map m m' l a here else gone =
 
 -- what the code's read gives
 pub node_read_iff : (d : ℕ) (r : Records) (l : Location) (n : Node) →
-    (nodes_stored d r l ≡ some n) ↔ (((read_node d r l).present ≡ true) × ((read_node d r l).node ≡ n))
+    (nodes_stored d r l ≡ some n) ↔ (((read_node d r l).present ≡ true) × ((read_node d r l).held ≡ n))
 unfolding nodes_stored
-node_read_iff d r l n = (flagged_some (read_node d r l).present (read_node d r l).node, (λ h. rw (h.0, h.1)))
+node_read_iff d r l n = (flagged_some (read_node d r l).present (read_node d r l).held, (λ h. rw (h.0, h.1)))
 
 pub table_read_iff : (d : ℕ) (r : Records) (l : Location) (t : Table) →
-    (tables_stored d r l ≡ some t) ↔ (((read_table d r l).present ≡ true) × ((read_table d r l).table ≡ t))
+    (tables_stored d r l ≡ some t) ↔ (((read_table d r l).present ≡ true) × ((read_table d r l).held ≡ t))
 unfolding tables_stored
-table_read_iff d r l t = (flagged_some (read_table d r l).present (read_table d r l).table, (λ h. rw (h.0, h.1)))
+table_read_iff d r l t = (flagged_some (read_table d r l).present (read_table d r l).held, (λ h. rw (h.0, h.1)))
 
 -- a table as upstream's
 pub upstream_some : (d : ℕ) (r : Records) (l : Location) {x : IndirectionTable} → upstream_tables d r l ≡ some x → (t : Table)
@@ -139,21 +138,21 @@ module _ (d : ℕ) (r : Records) (on : made d ≡ true) where
 
   -- the code's test of exactly what is stored
   pub node_is_iff : (records_checked d r).form ≡ true → (l : Location) (n : Node) → node_form n ≡ true →
-      (((read_node d r l).present && same_node (read_node d r l).node n) ≡ true) ↔ (nodes_stored d r l ≡ some n)
+      (((read_node d r l).present && same_node (read_node d r l).held n) ≡ true) ↔ (nodes_stored d r l ≡ some n)
   node_is_iff form l n f = (
-    (λ e. let h = (and_iff (read_node d r l).present (same_node (read_node d r l).node n)).0 e in
-        let g = stored_node_form form l (read_node d r l).node ((node_read_iff d r l (read_node d r l).node).1 (h.0, refl)) in
-        (node_read_iff d r l n).1 (h.0, (same_node_iff (read_node d r l).node n g f).0 h.1)),
-    (λ e. let h = (node_read_iff d r l n).0 e in and_both h.0 ((same_node_iff (read_node d r l).node n (rw h.1 f) f).1 h.1)),
+    (λ e. let h = (and_iff (read_node d r l).present (same_node (read_node d r l).held n)).0 e in
+        let g = stored_node_form form l (read_node d r l).held ((node_read_iff d r l (read_node d r l).held).1 (h.0, refl)) in
+        (node_read_iff d r l n).1 (h.0, (same_node_iff (read_node d r l).held n g f).0 h.1)),
+    (λ e. let h = (node_read_iff d r l n).0 e in and_both h.0 ((same_node_iff (read_node d r l).held n (rw h.1 f) f).1 h.1)),
   )
 
   pub table_is_iff : (records_checked d r).form ≡ true → (l : Location) (t : Table) → table_form t ≡ true →
-      (((read_table d r l).present && same_table (read_table d r l).table t) ≡ true) ↔ (tables_stored d r l ≡ some t)
+      (((read_table d r l).present && same_table (read_table d r l).held t) ≡ true) ↔ (tables_stored d r l ≡ some t)
   table_is_iff form l t f = (
-    (λ e. let h = (and_iff (read_table d r l).present (same_table (read_table d r l).table t)).0 e in
-        let g = stored_table_form form l (read_table d r l).table ((table_read_iff d r l (read_table d r l).table).1 (h.0, refl)) in
-        (table_read_iff d r l t).1 (h.0, (same_table_iff (read_table d r l).table t g f).0 h.1)),
-    (λ e. let h = (table_read_iff d r l t).0 e in and_both h.0 ((same_table_iff (read_table d r l).table t (rw h.1 f) f).1 h.1)),
+    (λ e. let h = (and_iff (read_table d r l).present (same_table (read_table d r l).held t)).0 e in
+        let g = stored_table_form form l (read_table d r l).held ((table_read_iff d r l (read_table d r l).held).1 (h.0, refl)) in
+        (table_read_iff d r l t).1 (h.0, (same_table_iff (read_table d r l).held t g f).0 h.1)),
+    (λ e. let h = (table_read_iff d r l t).0 e in and_both h.0 ((same_table_iff (read_table d r l).held t (rw h.1 f) f).1 h.1)),
   )
 
   -- so upstream's table settles the stored one
@@ -170,7 +169,7 @@ node_leaves_tables d r l n = refl
 
 -- its block's record is replaced
 pub with_node_is : (d : ℕ) (r : Records) (l : Location) (n : Node) (k : ℕ) → made d ≡ true → node_block_of (device_of d) l.addr ≡ some k →
-    with_node d r l n ≡ record { tables = r.tables; nodes = set r.nodes k (record { present = true; loc = l; node = n }) }
+    with_node d r l n ≡ record { tables = r.tables; nodes = set r.nodes k (record { present = true; loc = l; held = n }) }
 unfolding with_node
 with_node_is d r l n k on e = rw (on, e)
 
@@ -187,8 +186,8 @@ node_block d r form l place =
 
 module _ (d : ℕ) (r : Records) (on : made d ≡ true) (form : (records_checked d r).form ≡ true) (l : Location) (n : Node)
     (place : node_place (device_of d) l ≡ true) where
-  abbrev new_node : NodeRecord
-  new_node = record { present = true; loc = l; node = n }
+  abbrev new_node : Record Node
+  new_node = record { present = true; loc = l; held = n }
 
   abbrev block : ℕ
   block = (node_block d r form l place).0
@@ -228,7 +227,7 @@ module _ (d : ℕ) (r : Records) (on : made d ≡ true) (form : (records_checked
 
 -- its area's record is replaced
 pub with_table_is : (d : ℕ) (r : Records) (l : Location) (t : Table) (k : ℕ) → made d ≡ true → table_area_of (device_of d) l.addr ≡ some k →
-    with_table d r l t ≡ record { tables = set r.tables k (record { present = true; loc = l; table = t }); nodes = r.nodes }
+    with_table d r l t ≡ record { tables = set r.tables k (record { present = true; loc = l; held = t }); nodes = r.nodes }
 unfolding with_table
 with_table_is d r l t k on e = rw (on, e)
 
@@ -246,8 +245,8 @@ table_area d r form l place =
 
 module _ (d : ℕ) (r : Records) (on : made d ≡ true) (form : (records_checked d r).form ≡ true) (l : Location) (t : Table)
     (place : valid_indirection_table_location (device_of d) l ≡ true) where
-  abbrev new_table : TableRecord
-  new_table = record { present = true; loc = l; table = t }
+  abbrev new_table : Record Table
+  new_table = record { present = true; loc = l; held = t }
 
   abbrev area : ℕ
   area = (table_area d r form l place).0

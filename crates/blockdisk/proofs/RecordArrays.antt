@@ -12,9 +12,8 @@ use Rattle.blockdisk.specs.Form.{records_checked}
 use Rattle.blockdisk.specs.Records.{default_node_record, default_table_record, node_record_at, read_node, read_table, table_record_at}
 use Rattle.blockdisk.specs.Records.{zero_node_record, zero_table_record}
 use Rattle.blockdisk.specs.Upstream.{nodes_stored, tables_stored, upstream_tables}
-use Rattle.blockdisk.specs.declared.NodeRecord.{NodeRecord}
+use Rattle.blockdisk.specs.declared.Record.{Record}
 use Rattle.blockdisk.specs.declared.Records.{Records}
-use Rattle.blockdisk.specs.declared.TableRecord.{TableRecord}
 use Rattle.disklayout.proofs.Devices.{device_good}
 use Rattle.disklayout.proofs.NodeBlocks.{node_block_iff, node_place_iff, node_place_in_iff, node_place_in_of}
 use Rattle.disklayout.proofs.Places.{node_overlap_iff, table_overlap_iff}
@@ -33,39 +32,39 @@ use Rattle.sectortype.specs.Same.{same_node, same_table}
 use Rattle.sectortype.specs.declared.Node.{Node}
 use Rattle.sectortype.specs.declared.Table.{Table}
 
-abbrev pub node_array : ℕ → RecordArray NodeRecord Node
+abbrev pub node_array : ℕ → RecordArray (Record Node) Node
 node_array d =
     record {
       there = λ x. x.present;
       loc = λ x. x.loc;
-      thing = λ x. x.node;
+      thing = λ x. x.held;
       blank = default_node_record;
       size = 128;
       number = node_block_of (device_of d);
       place = node_place (device_of d);
-      form = λ x. node_form x.node;
-      same = λ x y. same_node x.node y.node;
+      form = λ x. node_form x.held;
+      same = λ x y. same_node x.held y.held;
     }
 
 -- a table seen as f sees it
-abbrev pub table_array_of : {A : Type 0} → (Table → A) → ℕ → RecordArray TableRecord A
+abbrev pub table_array_of : {A : Type 0} → (Table → A) → ℕ → RecordArray (Record Table) A
 table_array_of f d =
     record {
       there = λ x. x.present;
       loc = λ x. x.loc;
-      thing = λ x. f x.table;
+      thing = λ x. f x.held;
       blank = default_table_record;
       size = 2;
       number = table_area_of (device_of d);
       place = valid_indirection_table_location (device_of d);
-      form = λ x. table_form x.table;
-      same = λ x y. same_table x.table y.table;
+      form = λ x. table_form x.held;
+      same = λ x y. same_table x.held y.held;
     }
 
-abbrev pub table_array : ℕ → RecordArray TableRecord Table
+abbrev pub table_array : ℕ → RecordArray (Record Table) Table
 table_array d = table_array_of (λ t. t) d
 
-abbrev pub upstream_array : ℕ → RecordArray TableRecord IndirectionTable
+abbrev pub upstream_array : ℕ → RecordArray (Record Table) IndirectionTable
 upstream_array d = table_array_of indirection_table d
 
 -- THE LAWS
@@ -82,7 +81,7 @@ node_laws d =
           let x = (node_place_in_iff w g a.0 l).0 a.2 in
           let y = (node_place_in_iff w g b.0 k).0 b.2 in
           node_overlap_iff w l k x.2 y.2 x.3 y.3;
-      same_iff = λ x y f h. same_node_iff x.node y.node f h;
+      same_iff = λ x y f h. same_node_iff x.held y.held f h;
     }
   where
     w : Device
@@ -100,7 +99,7 @@ table_array_laws f d same =
           ∙ sym ((table_area_iff (device_of d) (device_table d) b k).0 h).1;
       numbered = λ l p. let h = (table_place_iff (device_of d) l).0 p in (h.0, (table_place_in_of (device_of d) h.0 l p).0 h.2);
       overlapping = table_overlap_iff (device_of d);
-      same_iff = λ x y a b. same x.table y.table a b;
+      same_iff = λ x y a b. same x.held y.held a b;
     }
 
 pub table_laws : (d : ℕ) → Laws (table_array d)
@@ -122,12 +121,12 @@ module _ (d : ℕ) (r : Records) (on : made d ≡ true) where
   nodes_read = fun_ext (λ l. rw on (go l (node_block_of (device_of d) l.addr)))
     where
       -- the record found in block k, or zeros
-      found : Location → Option ℕ → NodeRecord
+      found : Location → Option ℕ → Record Node
       found l o =
           cond (is_told (told o) && (node_record_at r (unwrap_or (told o) 0)).present && same_loc (node_record_at r (unwrap_or (told o) 0)).loc l)
           (node_record_at r (unwrap_or (told o) 0)) zero_node_record
 
-      go : (l : Location) (o : Option ℕ) → flagged (found l o).present (found l o).node ≡ read_in (node_array d) r.nodes l o
+      go : (l : Location) (o : Option ℕ) → flagged (found l o).present (found l o).held ≡ read_in (node_array d) r.nodes l o
       go l none = refl
       go l (some k) =
           split (node_record_at r k).present (λ p. split (same_loc (node_record_at r k).loc l) (λ q. rw (p, q, p)) (λ q. rw (p, q)))
@@ -137,12 +136,12 @@ module _ (d : ℕ) (r : Records) (on : made d ≡ true) where
   unfolding tables_stored read_table reads
   tables_read = fun_ext (λ l. rw on (go l (table_area_of (device_of d) l.addr)))
     where
-      found : Location → Option ℕ → TableRecord
+      found : Location → Option ℕ → Record Table
       found l o =
           cond (is_told (told o) && (table_record_at r (unwrap_or (told o) 0)).present && same_loc (table_record_at r (unwrap_or (told o) 0)).loc l)
           (table_record_at r (unwrap_or (told o) 0)) zero_table_record
 
-      go : (l : Location) (o : Option ℕ) → flagged (found l o).present (found l o).table ≡ read_in (table_array d) r.tables l o
+      go : (l : Location) (o : Option ℕ) → flagged (found l o).present (found l o).held ≡ read_in (table_array d) r.tables l o
       go l none = refl
       go l (some k) =
           split (table_record_at r k).present (λ p. split (same_loc (table_record_at r k).loc l) (λ q. rw (p, q, p)) (λ q. rw (p, q)))

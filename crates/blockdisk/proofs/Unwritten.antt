@@ -147,7 +147,7 @@ module _ (d : ℕ) (s : DiskState) (none : has_no_writes s ≡ true) where
     tables_stay =
         let q = s.queues.tablewrites in
         let f = (records_form_iff d s.records).0 accepted.disk.form in
-        record_stays (table_array d) (λ x y a b c i. record { present = a i; loc = b i; table = c i }) q both_empty.0 refl (table_laws d)
+        record_stays (table_array d) (λ x y a b c i. record { present = a i; loc = b i; held = c i }) q both_empty.0 refl (table_laws d)
         s.records.tables o.tables f.tables_long
         (tables_are_formed d s.records (λ x. x) accepted.disk.form) (tables_are_formed d o (λ x. x) accepted.form)
         ((tables_kept_iff q s.records o).0 ((records_kept_iff s.queues s.records o).0 accepted.kept).0)
@@ -156,7 +156,7 @@ module _ (d : ℕ) (s : DiskState) (none : has_no_writes s ≡ true) where
     nodes_stay =
         let q = s.queues.nodewrites in
         let f = (records_form_iff d s.records).0 accepted.disk.form in
-        record_stays (node_array d) (λ x y a b c i. record { present = a i; loc = b i; node = c i }) q both_empty.1 refl (node_laws d)
+        record_stays (node_array d) (λ x y a b c i. record { present = a i; loc = b i; held = c i }) q both_empty.1 refl (node_laws d)
         s.records.nodes o.nodes f.nodes_long
         (nodes_are_formed d s.records accepted.disk.form) (nodes_are_formed d o accepted.form)
         ((nodes_kept_iff q s.records o).0 ((records_kept_iff s.queues s.records o).0 accepted.kept).1)

@@ -7,34 +7,36 @@ use Rattle.blockdisk.specs.Ops.{outcome, with_queues, with_records}
 use Rattle.blockdisk.specs.Records.{default_node_record, default_table_record}
 use Rattle.blockdisk.specs.declared.DiskState.{DiskState}
 use Rattle.blockdisk.specs.declared.DiskOutcome.{DiskOutcome}
-use Rattle.blockdisk.specs.declared.NodeRecord.{NodeRecord}
+use Rattle.blockdisk.specs.declared.Record.{Record}
+use Rattle.sectortype.specs.declared.Node.{Node}
+use Rattle.sectortype.specs.declared.Table.{Table}
 use Rattle.blockdisk.specs.declared.Queues.{Queues}
 use Rattle.blockdisk.specs.declared.Records.{Records}
-use Rattle.blockdisk.specs.declared.TableRecord.{TableRecord}
 use Rattle.queue.specs.Queue.{has_addr, empty_requests}
 use Rattle.queue.specs.declared.Requests.{Requests}
 use Rattle.disklayout.specs.Layout.{same_loc}
 use Rattle.sectortype.specs.Same.{same_node, same_table}
 
-abbrev pub same_table_record : TableRecord → TableRecord → Bool
-same_table_record a b = b.present && same_loc a.loc b.loc && same_table a.table b.table
-
-abbrev pub same_node_record : NodeRecord → NodeRecord → Bool
-same_node_record a b = b.present && same_loc a.loc b.loc && same_node a.node b.node
+-- b has a record at a's place, and it is told whether the two hold the same
+abbrev pub same_record : {T : Type 0} → Record T → Record T → Bool → Bool
+same_record a b same = b.present && same_loc a.loc b.loc && same
 
 -- a stored record, whose address is its area's or block's, is there unchanged unless a write is outstanding there
-abbrev pub kept_table : Requests → TableRecord → TableRecord → Bool
-kept_table q a b = not a.present || has_addr q a.loc.addr || same_table_record a b
+abbrev pub kept : {T : Type 0} → Requests → Record T → Record T → Bool → Bool
+kept q a b same = not a.present || has_addr q a.loc.addr || same_record a b same
 
-abbrev pub kept_node : Requests → NodeRecord → NodeRecord → Bool
-kept_node q a b = not a.present || has_addr q a.loc.addr || same_node_record a b
+abbrev pub kept_table : Requests → Record Table → Record Table → Bool
+kept_table q a b = kept q a b (same_table a.held b.held)
 
-unfoldable pub tables_kept : Requests → List TableRecord → List TableRecord → Bool
+abbrev pub kept_node : Requests → Record Node → Record Node → Bool
+kept_node q a b = kept q a b (same_node a.held b.held)
+
+unfoldable pub tables_kept : Requests → List (Record Table) → List (Record Table) → Bool
 tables_kept q old new =
     kept_table q (get_or old 0 default_table_record) (get_or new 0 default_table_record) && kept_table q
     (get_or old 1 default_table_record) (get_or new 1 default_table_record)
 
-unfoldable pub nodes_kept : Requests → List NodeRecord → List NodeRecord → Bool
+unfoldable pub nodes_kept : Requests → List (Record Node) → List (Record Node) → Bool
 nodes_kept q old new = all_below (λ k. kept_node q (get_or old k default_node_record) (get_or new k default_node_record)) 128
 
 unfoldable pub records_kept : Queues → Records → Records → Bool

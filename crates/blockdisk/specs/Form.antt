@@ -4,10 +4,11 @@ use Rattle.base.specs.Scan.{all_below}
 use Rattle.blockdisk.specs.Records.{default_node_record, default_table_record}
 use Rattle.blockdisk.specs.declared.Checked.{Checked}
 use Rattle.blockdisk.specs.declared.DiskState.{DiskState}
-use Rattle.blockdisk.specs.declared.NodeRecord.{NodeRecord}
+use Rattle.blockdisk.specs.declared.Record.{Record}
+use Rattle.sectortype.specs.declared.Node.{Node}
+use Rattle.sectortype.specs.declared.Table.{Table}
 use Rattle.blockdisk.specs.declared.Queues.{Queues}
 use Rattle.blockdisk.specs.declared.Records.{Records}
-use Rattle.blockdisk.specs.declared.TableRecord.{TableRecord}
 use Rattle.disklayout.specs.Blocks.{node_place, node_place_in, table_place_in}
 use Rattle.disklayout.specs.Calls.{holds_on}
 use Rattle.disklayout.specs.Device.{device_of, made}
@@ -19,22 +20,22 @@ use Rattle.queue.specs.declared.Requests.{Requests}
 use Rattle.sectortype.specs.Form.{loc_zero, node_form, node_zero, table_form}
 
 -- an absent record is zeros; one that is there lies in area k
-unfoldable pub table_record_checked : ℕ → ℕ → TableRecord → Checked
+unfoldable pub table_record_checked : ℕ → ℕ → Record Table → Checked
 table_record_checked d k r =
     record {
-      form = table_form r.table && (r.present || (loc_zero r.loc && eqb r.table.count 0));
+      form = table_form r.held && (r.present || (loc_zero r.loc && eqb r.held.count 0));
       placed = not r.present || holds_on d (table_place_in (device_of d) k r.loc);
     }
 
 -- an absent record is zeros; one that is there lies in block k
-unfoldable pub node_record_checked : ℕ → ℕ → NodeRecord → Checked
+unfoldable pub node_record_checked : ℕ → ℕ → Record Node → Checked
 node_record_checked d k r =
     record {
-      form = node_form r.node && (r.present || (loc_zero r.loc && node_zero r.node));
+      form = node_form r.held && (r.present || (loc_zero r.loc && node_zero r.held));
       placed = not r.present || holds_on d (node_place_in (device_of d) k r.loc);
     }
 
-unfoldable pub tables_checked : ℕ → List TableRecord → Checked
+unfoldable pub tables_checked : ℕ → List (Record Table) → Checked
 tables_checked d l =
     record {
       form = (table_record_checked d 0 (get_or l 0 default_table_record)).form &&
@@ -43,7 +44,7 @@ tables_checked d l =
           (table_record_checked d 1 (get_or l 1 default_table_record)).placed;
     }
 
-unfoldable pub nodes_checked : ℕ → List NodeRecord → Checked
+unfoldable pub nodes_checked : ℕ → List (Record Node) → Checked
 nodes_checked d l =
     record {
       form = all_below (λ k. (node_record_checked d k (get_or l k default_node_record)).form) 128;

@@ -77,13 +77,13 @@ unfoldable pub table_not_stored : ℕ → DiskState → ℕ → Brought → Tabl
 table_not_stored d s id b t =
     something_in b &&
     not ((read_table d s.records (entry_of s.queues.tablereads id).loc).present && same_table
-    (read_table d s.records (entry_of s.queues.tablereads id).loc).table t)
+    (read_table d s.records (entry_of s.queues.tablereads id).loc).held t)
 
 unfoldable pub node_not_stored : ℕ → DiskState → ℕ → Brought → Node → Bool
 node_not_stored d s id b n =
     something_in b &&
     not ((read_node d s.records (entry_of s.queues.nodereads id).loc).present && same_node
-    (read_node d s.records (entry_of s.queues.nodereads id).loc).node n)
+    (read_node d s.records (entry_of s.queues.nodereads id).loc).held n)
 
 -- THE ROWS OF EACH OPERATION
 

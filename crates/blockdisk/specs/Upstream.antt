@@ -204,10 +204,10 @@ unfoldable pub places : Requests → Map Location
 places = mapped (λ w. w.loc)
 
 unfoldable pub tables_stored : ℕ → Records → Imap Table
-tables_stored d r = λ l. flagged (read_table d r l).present (read_table d r l).table
+tables_stored d r = λ l. flagged (read_table d r l).present (read_table d r l).held
 
 unfoldable pub nodes_stored : ℕ → Records → Imap Node
-nodes_stored d r = λ l. flagged (read_node d r l).present (read_node d r l).node
+nodes_stored d r = λ l. flagged (read_node d r l).present (read_node d r l).held
 
 -- each table as upstream's
 unfoldable pub upstream_tables : ℕ → Records → Imap IndirectionTable

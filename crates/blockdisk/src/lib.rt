@@ -6,27 +6,19 @@ use disklayout::Location;
 use queue::Requests;
 use sectortype::{Node, Table};
 
-// What a table area holds: one table at a place within it, or nothing, all zeros.
+// What a table area or a node block holds: one table or one node at a place within it, or nothing, all zeros.
 #[derive(Clone, Copy, PartialEq, Eq)]
-pub struct TableRecord {
+pub struct Record<T> {
     pub present: bool,
     pub loc: Location,
-    pub table: Table,
-}
-
-// What a node block holds: one node at a place within it, or nothing, all zeros.
-#[derive(Clone, Copy, PartialEq, Eq)]
-pub struct NodeRecord {
-    pub present: bool,
-    pub loc: Location,
-    pub node: Node,
+    pub held: T,
 }
 
 // All that is stored.
 #[derive(Clone, Copy, PartialEq, Eq)]
 pub struct Records {
-    pub tables: [TableRecord; 2],
-    pub nodes: [NodeRecord; 128],
+    pub tables: [Record<Table>; 2],
+    pub nodes: [Record<Node>; 128],
 }
 
 // All that is outstanding: upstream's req_read_indirection_tables, req_read_nodes, req_write_indirection_tables and req_write_nodes.

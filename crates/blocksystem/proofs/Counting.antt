@@ -13,9 +13,8 @@ use Rattle.blockdisk.proofs.Reading.{node_read_iff, table_read_iff, upstream_som
 use Rattle.blockdisk.specs.Records.{read_table}
 use Rattle.blockdisk.specs.Upstream.{Imap, disk_vars, nodes_stored, tables_stored}
 use Rattle.blockdisk.specs.declared.DiskState.{DiskState}
-use Rattle.blockdisk.specs.declared.NodeRecord.{NodeRecord}
+use Rattle.blockdisk.specs.declared.Record.{Record}
 use Rattle.blockdisk.specs.declared.Records.{Records}
-use Rattle.blockdisk.specs.declared.TableRecord.{TableRecord}
 use Rattle.disklayout.specs.declared.Location.{Location}
 use Rattle.sectortype.proofs.Equal.{same_node_iff}
 use Rattle.sectortype.proofs.Maps.{in_locs, in_nodes, locs_at, nodes_form_at, nodes_some}
@@ -34,7 +33,7 @@ use Rattle.blocksystem.specs.declared.Named.{Named}
 
 -- what is read by an entry of a table is what upstream's disk has at the reference's location
 pub entry_read_iff : (d : ℕ) (r : Records) (t : Table) (k : ℕ) (n : Node) →
-    (((at_entry d r (entry_at t k)).present ≡ true) × ((at_entry d r (entry_at t k)).node ≡ n)) ↔
+    (((at_entry d r (entry_at t k)).present ≡ true) × ((at_entry d r (entry_at t k)).held ≡ n)) ↔
     (at (nodes_stored d r) (locs_of t k) ≡ some n)
 entry_read_iff d r t k n =
     split (entry_at t k).located
@@ -54,18 +53,18 @@ pub record StoredThrough (d : ℕ) (r : Records) (l : Location) (k : ℕ) (n : N
   pub at_loc : nodes_stored d r loc ≡ some n
 
 module _ (d : ℕ) (r : Records) (l : Location) (k : ℕ) (n : Node) where
-  abbrev table_read : TableRecord
+  abbrev table_read : Record Table
   table_read = read_table d r l
 
   -- reading takes that node, and nothing else
-  pub read_iff : (((on_disk d r l k).present ≡ true) × ((on_disk d r l k).node ≡ n)) ↔ StoredThrough d r l k n
+  pub read_iff : (((on_disk d r l k).present ≡ true) × ((on_disk d r l k).held ≡ n)) ↔ StoredThrough d r l k n
   read_iff = (
     (λ h. split table_read.present
-        (λ t. let e = (entry_read_iff d r table_read.table k n).0 (rw t at h) in
-        let m = at_some (nodes_stored d r) (locs_of table_read.table k) e in
+        (λ t. let e = (entry_read_iff d r table_read.held k n).0 (rw t at h) in
+        let m = at_some (nodes_stored d r) (locs_of table_read.held k) e in
         record {
-          table = table_read.table;
-          at_place = (table_read_iff d r l table_read.table).1
+          table = table_read.held;
+          at_place = (table_read_iff d r l table_read.held).1
               (t, refl);
           loc = m.0;
           located = m.1;
@@ -88,12 +87,12 @@ three_ways true false same = ((λ h. clash refl h.1), (λ h. clash h refl))
 three_ways true true false = ((λ h. clash refl h.2), (λ h. clash h refl))
 three_ways true true true = ((λ h. refl), (λ h. (refl, refl, refl)))
 
-pub agrees_iff : (x : NodeRecord) (s : Slot) →
+pub agrees_iff : (x : Record Node) (s : Slot) →
     ((is_lost x s ≡ false) × (is_added x s ≡ false) × (is_altered x s ≡ false)) ↔ (agrees x s ≡ true)
-agrees_iff x s = three_ways x.present s.present (same_node x.node s.node)
+agrees_iff x s = three_ways x.present s.present (same_node x.held s.node)
 
 module _ (d : ℕ) (r : Records) (m : Named) where
-  abbrev read : ℕ → NodeRecord
+  abbrev read : ℕ → Record Node
   read = on_disk d r m.place
 
   abbrev shown : ℕ → Slot

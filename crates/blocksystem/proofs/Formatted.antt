@@ -24,7 +24,7 @@ use Rattle.blockdisk.proofs.Rules.{rule_iff}
 use Rattle.blockdisk.proofs.Reading.{node_written_lem, table_leaves_nodes, table_written_lem, upstream_of, with_node_is, with_table_is}
 use Rattle.blockdisk.specs.Crash.{empty_queues}
 use Rattle.blockdisk.specs.Form.{disk_form, is_rule, records_checked}
-use Rattle.blockdisk.specs.Records.{empty_records, with_node, with_table}
+use Rattle.blockdisk.specs.Records.{empty_records, present_record, with_node, with_table}
 use Rattle.blockdisk.specs.Upstream.{disk_vars, nodes_stored, upstream_tables}
 use Rattle.blockdisk.specs.declared.Records.{Records}
 use Rattle.disklayout.specs.Blocks.{node_block_of, node_place, table_area_of}
@@ -156,11 +156,7 @@ module _ (d : ℕ) (x : Contents) (on : made d ≡ true) where
       let node_is = with_node_is d empty_records l (root_node x) 0 on (root_block d on) in
       sym
       (with_table_is d rooted k (root_table l) 0 on (table_area d on)
-      ∙ ap (λ (r : Records). record {
-        tables = set r.tables 0
-            (record { present = true; loc = k; table = root_table l });
-        nodes = r.nodes;
-      }) node_is)
+      ∙ ap (λ (r : Records). record { tables = set r.tables 0 (present_record k (root_table l)); nodes = r.nodes }) node_is)
 
   rooted_form : (records_checked d rooted).form ≡ true
   rooted_form =

@@ -60,7 +60,7 @@ module _ (d : ℕ) (s : State) (cache_form_lem : cache_form d s.cache ≡ true) 
       pictured_iff s.pictures.working ref n form (stored_node_form d s.disk.records f.on f.form l n e)
 
   -- the record looked at is what the disk has at the ephemeral location
-  record_iff : (n : Node) → (((stored_record d s ref).present ≡ true) × ((stored_record d s ref).node ≡ n)) ↔ (at nodes (locs ref) ≡ some n)
+  record_iff : (n : Node) → (((stored_record d s ref).present ≡ true) × ((stored_record d s ref).held ≡ n)) ↔ (at nodes (locs ref) ≡ some n)
   record_iff n = entry_read_iff d s.disk.records s.cache.tables.ephemeral ref n
 
   shown_there : Shown d s ref → ShownOf (nodes_map s.cache.nodes ref) (locs ref) nodes (nodes_map s.pictures.working ref)
@@ -68,19 +68,19 @@ module _ (d : ℕ) (s : State) (cache_form_lem : cache_form d s.cache ≡ true) 
       record {
         found =
             ⊎_elim (λ t. inl (in_nodes s.cache.nodes ref ∙ t))
-            (λ t. inr (ap is_some ((record_iff (stored_record d s ref).node).0 (t, refl))))
+            (λ t. inr (ap is_some ((record_iff (stored_record d s ref).held).0 (t, refl))))
             (or_cases (cache_slot s ref).present (stored_record d s ref).present h.found);
         in_cache = λ n e. let c = nodes_some s.cache.nodes ref e in (cached_iff n e).0 (rw c.1 at (h.cached c.0));
         on_disk_lem = λ l e.
             let c = locs_some s.cache.tables.ephemeral ref e in
-            let y = (and_iff (stored_record d s ref).present (is_pictured s.pictures.working ref (stored_record d s ref).node)).0
+            let y = (and_iff (stored_record d s ref).present (is_pictured s.pictures.working ref (stored_record d s ref).held)).0
             (h.located c.0) in
-            let there : nodes l ≡ some (stored_record d s ref).node = rw e at ((record_iff (stored_record d s ref).node).0 (y.0, refl)) in
+            let there : nodes l ≡ some (stored_record d s ref).held = rw e at ((record_iff (stored_record d s ref).held).0 (y.0, refl)) in
             record {
-              node = (stored_record d s ref).node;
+              node = (stored_record d s ref).held;
               stored = there;
               pictured = (stored_iff l
-                  (stored_record d s ref).node there).0 y.1;
+                  (stored_record d s ref).held there).0 y.1;
             };
       }
 

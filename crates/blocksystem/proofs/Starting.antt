@@ -52,21 +52,21 @@ module _ (d : ℕ) (s : DiskState) (f : DiskForm d s) where
       located ref a = sym (in_locs t ref) ∙ sym (h.complete.keys ref) ∙ in_graph t ref ∙ a
 
       agrees : (ref : ℕ) (a : (entry_at t ref).allocated ≡ true) →
-          (nodes (entry_at t ref).loc ≡ some (read_node d s.records (entry_at t ref).loc).node)
-          × SameSuccs (entry_at t ref).succs (read_node d s.records (entry_at t ref).loc).node
-          × ((r : ℕ) → has_succ (read_node d s.records (entry_at t ref).loc).node.succs r ≡ true → In r (graph_of t))
+          (nodes (entry_at t ref).loc ≡ some (read_node d s.records (entry_at t ref).loc).held)
+          × SameSuccs (entry_at t ref).succs (read_node d s.records (entry_at t ref).loc).held
+          × ((r : ℕ) → has_succ (read_node d s.records (entry_at t ref).loc).held.succs r ≡ true → In r (graph_of t))
       agrees ref a =
           let x = read_node d s.records (entry_at t ref).loc in
           let g = simp and_iff at (h.node ref a) in (
-            (node_read_iff d s.records (entry_at t ref).loc x.node).1 (g.0.0, refl),
-            (same_set_iff (entry_at t ref).succs x.node.succs).0 (and_both g.0.1.0 g.0.1.1),
-            (within_iff t x.node.succs).0 g.1,
+            (node_read_iff d s.records (entry_at t ref).loc x.held).1 (g.0.0, refl),
+            (same_set_iff (entry_at t ref).succs x.held.succs).0 (and_both g.0.1.0 g.0.1.1),
+            (within_iff t x.held.succs).0 g.1,
           )
 
       graph_node : (ref : ℕ) (a : (entry_at t ref).allocated ≡ true) →
-          disk_graph (indirection_table t) nodes ref ≡ some (read_node d s.records (entry_at t ref).loc).node
+          disk_graph (indirection_table t) nodes ref ≡ some (read_node d s.records (entry_at t ref).loc).held
       graph_node ref a =
-          graph_of_lem ref (entry_at t ref).loc (read_node d s.records (entry_at t ref).loc).node a (locs_at t ref (located ref a))
+          graph_of_lem ref (entry_at t ref).loc (read_node d s.records (entry_at t ref).loc).held a (locs_at t ref (located ref a))
           (agrees ref a).0
 
       in_disk_graph : (ref : ℕ) → In ref (disk_graph (indirection_table t) nodes) → In ref (graph_of t)
@@ -83,16 +83,16 @@ module _ (d : ℕ) (s : DiskState) (f : DiskForm d s) where
             back = in_disk_graph;
             same = λ ref list n g e r.
                 let a = graph_some t ref g in
-                let k : some (read_node d s.records (entry_at t ref).loc).node ≡ some n = sym (graph_node ref a.0) ∙ e in
-                let z : (read_node d s.records (entry_at t ref).loc).node ≡ n = cc in
+                let k : some (read_node d s.records (entry_at t ref).loc).held ≡ some n = sym (graph_node ref a.0) ∙ e in
+                let z : (read_node d s.records (entry_at t ref).loc).held ≡ n = cc in
                 rw (← a.1, ← z) ((agrees ref a.0).1 r);
           }
 
       pub stored_closed : NoDanglingPointers (disk_graph (indirection_table t) nodes)
       stored_closed r1 r2 n e hs =
           let a : (entry_at t r1).allocated ≡ true = sym (in_graph t r1) ∙ in_disk_graph r1 (rw e) in
-          let k : some (read_node d s.records (entry_at t r1).loc).node ≡ some n = sym (graph_node r1 a) ∙ e in
-          let z : (read_node d s.records (entry_at t r1).loc).node ≡ n = cc in
+          let k : some (read_node d s.records (entry_at t r1).loc).held ≡ some n = sym (graph_node r1 a) ∙ e in
+          let z : (read_node d s.records (entry_at t r1).loc).held ≡ n = cc in
           disk_graph_in r2 ((agrees r1 a).2 r2 (rw z hs))
 
       pub stored_nodes : (ref : ℕ) (loc : Location) → locs_of t ref ≡ some loc → is_some (nodes loc) ≡ true
@@ -143,7 +143,7 @@ module _ (d : ℕ) (s : DiskState) (f : DiskForm d s) where
       where
         to : whole_graph d s.records l ≡ true → WFSuccs d (system_vars d c s) l
         to e =
-            let t = (read_table d s.records l).table in
+            let t = (read_table d s.records l).held in
             let g = simp and_iff at e in
             let st : tables_stored d s.records l ≡ some t = (table_read_iff d s.records l t).1 (g.0.0, refl) in
             let tf = stored_table_form d s.records f.on f.form l t st in

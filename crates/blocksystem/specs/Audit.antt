@@ -2,9 +2,10 @@
 use Rattle.std.specs.Prelude.{ℕ, Bool, ◌&&◌, ◌||◌, cond, not}
 use Rattle.base.specs.Scan.{bit, count_below}
 use Rattle.blockdisk.specs.Records.{read_node, read_table, zero_node_record}
-use Rattle.blockdisk.specs.declared.NodeRecord.{NodeRecord}
+use Rattle.blockdisk.specs.declared.Record.{Record}
+use Rattle.sectortype.specs.declared.Node.{Node}
+use Rattle.sectortype.specs.declared.Table.{Table}
 use Rattle.blockdisk.specs.declared.Records.{Records}
-use Rattle.blockdisk.specs.declared.TableRecord.{TableRecord}
 use Rattle.disklayout.specs.declared.Location.{Location}
 use Rattle.sectortype.specs.Form.{entry_at, slot_at}
 use Rattle.sectortype.specs.Same.{same_node}
@@ -14,32 +15,32 @@ use Rattle.blocksystem.specs.declared.Counts.{Counts}
 use Rattle.blocksystem.specs.declared.Named.{Named}
 
 -- the node on the disk by a table's entry: what is stored at exactly its location; nothing where it has none
-abbrev pub at_entry : ℕ → Records → Entry → NodeRecord
+abbrev pub at_entry : ℕ → Records → Entry → Record Node
 at_entry d r e = cond e.located (read_node d r e.loc) zero_node_record
 
 -- through the table read at a place; nothing where none is stored there
-abbrev pub through_table : ℕ → Records → TableRecord → Entry → NodeRecord
+abbrev pub through_table : ℕ → Records → Record Table → Entry → Record Node
 through_table d r x e = cond x.present (at_entry d r e) zero_node_record
 
 -- reference k read through the table stored at exactly the place l
-abbrev pub on_disk : ℕ → Records → Location → ℕ → NodeRecord
-on_disk d r l k = through_table d r (read_table d r l) (entry_at (read_table d r l).table k)
+abbrev pub on_disk : ℕ → Records → Location → ℕ → Record Node
+on_disk d r l k = through_table d r (read_table d r l) (entry_at (read_table d r l).held k)
 
 -- only the picture has it
-abbrev pub is_lost : NodeRecord → Slot → Bool
+abbrev pub is_lost : Record Node → Slot → Bool
 is_lost x s = s.present && not x.present
 
 -- only the disk has it
-abbrev pub is_added : NodeRecord → Slot → Bool
+abbrev pub is_added : Record Node → Slot → Bool
 is_added x s = x.present && not s.present
 
 -- both have it, with different nodes
-abbrev pub is_altered : NodeRecord → Slot → Bool
-is_altered x s = x.present && s.present && not (same_node x.node s.node)
+abbrev pub is_altered : Record Node → Slot → Bool
+is_altered x s = x.present && s.present && not (same_node x.held s.node)
 
 -- reading and picture agree about a reference: neither has a node, or both have one and the two are equal
-abbrev pub agrees : NodeRecord → Slot → Bool
-agrees x s = (not x.present && not s.present) || (x.present && s.present && same_node x.node s.node)
+abbrev pub agrees : Record Node → Slot → Bool
+agrees x s = (not x.present && not s.present) || (x.present && s.present && same_node x.held s.node)
 
 -- what one reference adds to a count
 unfoldable pub tally : Bool → ℕ

@@ -4,7 +4,7 @@ use Rattle.std.specs.Prelude.{ℕ, ◌&&◌, cond, true, set}
 use Rattle.blockcache.specs.Form.{empty_cache}
 use Rattle.blockdisk.specs.Crash.{empty_queues}
 use Rattle.blockdisk.specs.Form.{is_rule}
-use Rattle.blockdisk.specs.Records.{empty_records}
+use Rattle.blockdisk.specs.Records.{empty_records, present_record}
 use Rattle.blockdisk.specs.declared.DiskState.{DiskState}
 use Rattle.blockdisk.specs.declared.Records.{Records}
 use Rattle.disklayout.specs.Blocks.{first_node_addr}
@@ -40,8 +40,8 @@ root_table l = with_entry empty_table 0 (record { allocated = true; located = tr
 unfoldable pub formatted_records : Location → Location → Contents → Records
 formatted_records k l x =
     record {
-      tables = set empty_records.tables 0 (record { present = true; loc = k; table = root_table l });
-      nodes = set empty_records.nodes 0 (record { present = true; loc = l; node = root_node x });
+      tables = set empty_records.tables 0 (present_record k (root_table l));
+      nodes = set empty_records.nodes 0 (present_record l (root_node x));
     }
 
 abbrev pub formatted_disk : ℕ → Contents → ℕ → DiskState

@@ -4,7 +4,7 @@ use Rattle.std.specs.Prelude.{◌+◌, ℕ, Bool, ◌&&◌, ◌||◌, false, not
 use Rattle.base.specs.Scan.{bit}
 use Rattle.blockcache.specs.Steps.{is_read}
 use Rattle.blockcache.specs.declared.Call.{Call}
-use Rattle.blockdisk.specs.declared.NodeRecord.{NodeRecord}
+use Rattle.blockdisk.specs.declared.Record.{Record}
 use Rattle.blockdisk.specs.declared.Records.{Records}
 use Rattle.sectortype.specs.Form.{entry_at, slot_at}
 use Rattle.sectortype.specs.Same.{same_node}
@@ -48,7 +48,7 @@ module _ (s : State) (ref : ℕ) where
 
 module _ (d : ℕ) (s : State) (ref : ℕ) where
   -- what the disk has at exactly its ephemeral location; an older node in another block is not meant
-  abbrev pub stored_record : NodeRecord
+  abbrev pub stored_record : Record Node
   stored_record = at_entry d s.disk.records (ephemeral_entry s ref)
 
   pub record Shown : Type 0 where
@@ -58,7 +58,7 @@ module _ (d : ℕ) (s : State) (ref : ℕ) where
     pub cached : (cache_slot s ref).present ≡ true → is_pictured s.pictures.working ref (cache_slot s ref).node ≡ true
     -- if it has an ephemeral location, the disk has the picture's node there
     pub located : (ephemeral_entry s ref).located ≡ true →
-        (stored_record.present && is_pictured s.pictures.working ref stored_record.node) ≡ true
+        (stored_record.present && is_pictured s.pictures.working ref stored_record.held) ≡ true
 
 -- the working picture has exactly the allocated references, and what is said above holds of each of them
 pub record ReadyShown (d : ℕ) (s : State) : Type 0 where

@@ -8,7 +8,7 @@ use disklayout::Location;
 use sectortype::{Node, Nodes};
 
 // What a joined call returns: the number that documents 01 and 02 give, the node of a read (zeros with every other answer), and cache and disk,
-// unchanged where the number is not 0.
+// unchanged where the number is not 0. (A number beside the state, here and below: document 01, "steps take self and return answer and state".)
 #[derive(Clone, Copy)]
 pub struct Outcome {
     pub answer: u64,

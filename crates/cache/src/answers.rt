@@ -1,39 +1,22 @@
-// What the steps ask and hand back: the phase, the awaited table request, the number of the first condition that holds, the outcome.
-ghost use Rattle.std.specs.Prelude.{cond, ◌≡◌};
-ghost use Rattle.blockcache.specs.Form.{loading_phase, ready_phase, unready_phase};
+// What the steps ask and hand back: the awaited table request, a refusal's number, the outcome.
+ghost use Rattle.std.specs.Prelude.{◌≡◌};
+ghost use Rattle.blockcache.specs.Form.{ready_phase};
 ghost use Rattle.blockcache.specs.Rows.{awaits_table};
-ghost use Rattle.blockcache.specs.Step.{answered};
+ghost use Rattle.blockcache.specs.Step.{answered, read_outcome, refusal_number, settled_outcome};
 
-use blockcache::{Awaited, CacheOutcome, CacheState, Phase};
+use blockcache::{Awaited, CacheOutcome, CacheState, Phase, Refusal};
+use sectortype::Node;
+
+// No table request is waited for.
+pub(crate) const NOT_WAITING: Awaited = Awaited {
+    waiting: false,
+    id: 0,
+};
 
 pub fn is_ready(phase: Phase) -> bool
     ensures { result ≡ ready_phase phase }
 {
-    match phase {
-        Phase::Unready => false,
-        Phase::Loading => false,
-        Phase::Ready => true,
-    }
-}
-
-pub(crate) fn is_loading(phase: Phase) -> bool
-    ensures { result ≡ loading_phase phase }
-{
-    match phase {
-        Phase::Unready => false,
-        Phase::Loading => true,
-        Phase::Ready => false,
-    }
-}
-
-pub(crate) fn is_unready(phase: Phase) -> bool
-    ensures { result ≡ unready_phase phase }
-{
-    match phase {
-        Phase::Unready => true,
-        Phase::Loading => false,
-        Phase::Ready => false,
-    }
+    phase == Phase::Ready
 }
 
 // Whether the awaited table request has this id: in Loading a read, in Ready a write.
@@ -43,22 +26,67 @@ pub(crate) fn awaits_table(a: Awaited, id: u64) -> bool
     a.waiting & (a.id == id)
 }
 
-// The number where the condition holds, else what the later conditions give. A step with many conditions asks them all and puts them in
-// order by this, in a function of its own; one with one or two, and a page-in answer, returns at the first that holds.
-pub(crate) fn first_of(c: bool, n: u64, rest: u64) -> u64
-    ensures { result ≡ cond c n rest }
+// The number of documents 01 and 02.
+pub(crate) fn number(refusal: Refusal) -> u64
+    ensures { result ≡ refusal_number refusal }
 {
-    if c { n } else { rest }
+    match refusal {
+        Refusal::Limits => 1,
+        Refusal::Version => 2,
+        Refusal::Disk => 3,
+        Refusal::Phase => 4,
+        Refusal::Id => 5,
+        Refusal::Place => 6,
+        Refusal::Held => 7,
+        Refusal::Reference => 8,
+        Refusal::Contents => 9,
+        Refusal::Outstanding => 10,
+        Refusal::Frozen => 11,
+        Refusal::Named => 12,
+        Refusal::Successor => 13,
+        Refusal::Full => 14,
+        Refusal::NoBlock => 21,
+        Refusal::Awaited => 22,
+        Refusal::TooLong => 24,
+        Refusal::Rule => 25,
+    }
 }
 
-// The cache as it is now, with the answer; no node.
-pub(crate) fn answered(c: CacheState, n: u64) -> CacheOutcome
-    ensures { result ≡ answered n c }
+// The refusal's number, no node, and the cache as it was.
+pub(crate) fn refused(old: CacheState, refusal: Refusal) -> CacheOutcome
+    ensures { result ≡ answered (refusal_number refusal) old }
 {
-    let node = sector::zero_node();
     CacheOutcome {
-        answer: n,
-        node,
-        cache: c,
+        answer: number(refusal),
+        node: sector::zero_node(),
+        cache: old,
+    }
+}
+
+// What a step gives, as the outcome of its call.
+pub(crate) fn settled(next: Result<CacheState, Refusal>, old: CacheState) -> CacheOutcome
+    ensures { result ≡ settled_outcome next old }
+{
+    match next {
+        Ok(cache) => CacheOutcome {
+            answer: 0,
+            node: sector::zero_node(),
+            cache,
+        },
+        Err(refusal) => refused(old, refusal),
+    }
+}
+
+// What a read gives, as the outcome of its call: it leaves the cache as it is.
+pub(crate) fn shown(read: Result<Node, Refusal>, cache: CacheState) -> CacheOutcome
+    ensures { result ≡ read_outcome read cache }
+{
+    match read {
+        Ok(node) => CacheOutcome {
+            answer: 0,
+            node,
+            cache,
+        },
+        Err(refusal) => refused(cache, refusal),
     }
 }

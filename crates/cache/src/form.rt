@@ -4,12 +4,18 @@ ghost use Rattle.blockcache.specs.Form.{writes_form, reads_form, tables_form, pl
 ghost use Rattle.blockcache.specs.Form.{phase_form, parts_form, blocks_in, cache_form, call_form, settings_form, empty_cache, loading_at};
 ghost use Rattle.disklayout.specs.Device.{made};
 
-use crate::answers::is_ready;
+use crate::answers::NOT_WAITING;
 use blockcache::{
     Awaited, Blocks, CacheState, Call, Marks, Outstanding, Phase, Places, Settings, Tables,
 };
 use disklayout::Location;
 use queue::Requests;
+
+// No block marked, and none given.
+const NO_BLOCKS: Blocks = Blocks {
+    marks: Marks { low: 0, high: 0 },
+    last: 0,
+};
 
 // Each write that is outstanding is of a reference.
 fn writes_form(q: Requests) -> bool
@@ -36,21 +42,16 @@ fn reads_form(q: Requests) -> bool
 fn tables_form(ts: Tables) -> bool
     ensures { result ≡ tables_form ts }
 {
-    let p = ts.persistent;
-    let e = ts.ephemeral;
-    let f = ts.frozen;
-    let a = sector::table_form(p);
-    let b = sector::table_form(e);
-    let c = sector::table_form(f);
-    a & b & c & (ts.isfrozen | (f.count == 0))
+    let persistent = sector::table_form(ts.persistent);
+    let ephemeral = sector::table_form(ts.ephemeral);
+    let frozen = sector::table_form(ts.frozen);
+    persistent & ephemeral & frozen & (ts.isfrozen | (ts.frozen.count == 0))
 }
 
 fn places_form(ps: Places) -> bool
     ensures { result ≡ places_form ps }
 {
-    let f = ps.frozen;
-    let nowhere = sector::loc_zero(f);
-    ps.isfrozen | nowhere
+    ps.isfrozen | sector::loc_zero(ps.frozen)
 }
 
 fn awaited_form(a: Awaited) -> bool
@@ -62,67 +63,46 @@ fn awaited_form(a: Awaited) -> bool
 fn outstanding_form(o: Outstanding) -> bool
     ensures { result ≡ outstanding_form o }
 {
-    let w = o.writes;
-    let r = o.reads;
-    let a = writes_form(w);
-    let b = reads_form(r);
-    a & b
+    writes_form(o.writes) & reads_form(o.reads)
 }
 
 // No table, no frozen place, nothing outstanding, nothing cached.
+#[tactic(auto, unfolding(blockcache::specs::Form::idle))]
 fn idle(c: CacheState) -> bool
     ensures { result ≡ idle c }
 {
-    let ts = c.tables;
-    let ps = c.places;
-    let o = c.outstanding;
-    let p = ts.persistent;
-    let e = ts.ephemeral;
-    let w = o.writes;
-    let r = o.reads;
-    let m = c.nodes;
-    (p.count == 0)
-        & (e.count == 0)
-        & !ts.isfrozen
-        & !ps.isfrozen
-        & (w.count == 0)
-        & (r.count == 0)
-        & (m.count == 0)
+    (c.tables.persistent.count == 0)
+        & (c.tables.ephemeral.count == 0)
+        & !c.tables.isfrozen
+        & !c.places.isfrozen
+        & (c.outstanding.writes.count == 0)
+        & (c.outstanding.reads.count == 0)
+        & (c.nodes.count == 0)
 }
 
 // What the phase doesn't have is zeros.
+#[tactic(auto, unfolding(blockcache::specs::Form::phase_form))]
 fn phase_form(c: CacheState) -> bool
     ensures { result ≡ phase_form c }
 {
-    let phase = c.phase;
-    let idle = idle(c);
-    let ps = c.places;
-    let p = ps.persistent;
-    let a = c.awaited;
-    let nowhere = sector::loc_zero(p);
-    match phase {
-        Phase::Unready => idle & nowhere & !a.waiting,
-        Phase::Loading => idle,
+    match c.phase {
+        Phase::Unready => idle(c) & sector::loc_zero(c.places.persistent) & !c.awaited.waiting,
+        Phase::Loading => idle(c),
         Phase::Ready => true,
     }
 }
 
 // Each part by itself, and what the phase doesn't have.
+#[tactic(auto, unfolding(blockcache::specs::Form::parts_form))]
 fn parts_form(c: CacheState) -> bool
     ensures { result ≡ parts_form c }
 {
-    let ts = c.tables;
-    let ps = c.places;
-    let a = c.awaited;
-    let o = c.outstanding;
-    let m = c.nodes;
-    let tables = tables_form(ts);
-    let places = places_form(ps);
-    let awaited = awaited_form(a);
-    let outstanding = outstanding_form(o);
-    let nodes = sector::nodes_form(m);
-    let phase = phase_form(c);
-    tables & places & awaited & outstanding & nodes & phase
+    let tables = tables_form(c.tables);
+    let places = places_form(c.places);
+    let awaited = awaited_form(c.awaited);
+    let outstanding = outstanding_form(c.outstanding);
+    let nodes = sector::nodes_form(c.nodes);
+    tables & places & awaited & outstanding & nodes & phase_form(c)
 }
 
 // In Ready the marks are those of the tables and the outstanding writes, and the block given last is one of the 128; outside Ready both are zeros.
@@ -130,28 +110,21 @@ fn blocks_form(device: u64, phase: Phase, blocks: Blocks, ts: Tables, writes: Re
     requires { made device ≡ true }
     ensures { result ≡ blocks_in phase device blocks ts writes }
 {
-    let m = blocks.marks;
-    let ready = is_ready(phase);
-    if ready {
-        let right = bitmap::marks_of(device, ts, writes);
-        let same = bitmap::same_marks(m, right);
-        return same & (blocks.last <= 127);
+    match phase {
+        Phase::Ready => bitmap::same_marks(blocks.marks, bitmap::marks_of(device, ts, writes))
+            & (blocks.last <= 127),
+        Phase::Unready | Phase::Loading => blocks == NO_BLOCKS,
     }
-    (m.low == 0) & (m.high == 0) & (blocks.last == 0)
 }
 
 // The cache's one written form, on a device that is made.
+#[tactic(auto, unfolding(blockcache::specs::Form::cache_form, blockcache::specs::Form::blocks_form))]
 pub(crate) fn cache_form(device: u64, c: CacheState) -> bool
     requires { made device ≡ true }
     ensures { result ≡ cache_form device c }
 {
     let parts = parts_form(c);
-    let phase = c.phase;
-    let blocks = c.blocks;
-    let ts = c.tables;
-    let o = c.outstanding;
-    let writes = o.writes;
-    let marked = blocks_form(device, phase, blocks, ts, writes);
+    let marked = blocks_form(device, c.phase, c.blocks, c.tables, c.outstanding.writes);
     parts & marked
 }
 
@@ -166,10 +139,8 @@ pub(crate) fn settings_form(g: Settings) -> bool
 pub(crate) fn call_form(q: Call) -> bool
     ensures { result ≡ call_form q }
 {
-    let n = q.node;
-    let t = q.table;
-    let node = sector::node_form(n);
-    let table = sector::table_form(t);
+    let node = sector::node_form(q.node);
+    let table = sector::table_form(q.table);
     (q.reference <= 63) & node & table
 }
 
@@ -177,46 +148,32 @@ pub(crate) fn call_form(q: Call) -> bool
 pub fn empty_cache() -> CacheState
     ensures { result ≡ empty_cache }
 {
-    let nowhere = sector::zero_loc();
-    loading(Phase::Unready, nowhere)
+    loading(Phase::Unready, sector::zero_loc())
 }
 
 // A cache in a phase before Ready, with the place being loaded.
 pub(crate) fn loading(phase: Phase, place: Location) -> CacheState
     ensures { result ≡ loading_at phase place }
 {
-    let p = sector::empty_table();
-    let e = sector::empty_table();
-    let f = sector::empty_table();
-    let nowhere = sector::zero_loc();
-    let w = queue::empty();
-    let r = queue::empty();
-    let nodes = sector::empty_nodes();
     CacheState {
         phase,
         tables: Tables {
-            persistent: p,
-            ephemeral: e,
+            persistent: sector::empty_table(),
+            ephemeral: sector::empty_table(),
             isfrozen: false,
-            frozen: f,
+            frozen: sector::empty_table(),
         },
         places: Places {
             persistent: place,
             isfrozen: false,
-            frozen: nowhere,
+            frozen: sector::zero_loc(),
         },
-        awaited: Awaited {
-            waiting: false,
-            id: 0,
-        },
+        awaited: NOT_WAITING,
         outstanding: Outstanding {
-            writes: w,
-            reads: r,
+            writes: queue::empty(),
+            reads: queue::empty(),
         },
-        nodes,
-        blocks: Blocks {
-            marks: Marks { low: 0, high: 0 },
-            last: 0,
-        },
+        nodes: sector::empty_nodes(),
+        blocks: NO_BLOCKS,
     }
 }

@@ -1,68 +1,57 @@
 // Step 19, let go, past V, D and phase; and which answers it takes: the gate asks for their phase, and NoOp leaves them to it.
 ghost use Rattle.std.specs.Prelude.{◌≡◌};
 ghost use Rattle.blockcache.specs.Rows.{answer_phase, awaits_read};
-ghost use Rattle.blockcache.specs.Step.{past_gate};
+ghost use Rattle.blockcache.specs.Step.{past_gate, settled_outcome};
 ghost use Rattle.blockcache.specs.Steps.{let_go_step};
 
 use crate::Cache;
-use crate::answers::{answered, awaits_table, is_loading, is_ready};
-use crate::ops::{NODE_READ_RESP, TABLE_READ_RESP, dop_id, dop_kind};
-use blockcache::{Awaited, CacheOutcome, CacheState, Call, Phase};
+use crate::answers::{NOT_WAITING, awaits_table};
+use crate::judged::Judged;
+use blockcache::{CacheState, Phase, Refusal};
 use blockdisk::DiskOp;
 
 // Whether the answer of a read comes in its phase: a node's in Ready, a table's in Loading.
+#[tactic(auto, unfolding(blockcache::specs::Rows::answer_phase))]
 pub(crate) fn answer_phase(phase: Phase, op: DiskOp) -> bool
     ensures { result ≡ answer_phase phase op }
 {
-    let k = dop_kind(op);
-    let ready = is_ready(phase);
-    let loading = is_loading(phase);
-    ((k == NODE_READ_RESP) & ready) | ((k == TABLE_READ_RESP) & loading)
+    match op {
+        DiskOp::RespReadNodeOp(_, _) => phase == Phase::Ready,
+        DiskOp::RespReadIndirectionTableOp(_, _) => phase == Phase::Loading,
+        _ => false,
+    }
 }
 
-// Whether it does and the cache awaits it. In Ready the awaited table request is a write, so a table read answer under its id is not awaited.
+// Whether it does and the cache awaits it. In Ready the awaited table request is a write, so a table read answer under its id is not
+// awaited.
+#[tactic(auto, unfolding(blockcache::specs::Rows::awaits_read, blockcache::specs::Rows::answer_phase))]
 pub(crate) fn awaits_read(c: CacheState, op: DiskOp) -> bool
     ensures { result ≡ awaits_read c op }
 {
-    let k = dop_kind(op);
-    let id = dop_id(op);
-    let phase = c.phase;
-    let comes = answer_phase(phase, op);
-    let a = c.awaited;
-    let o = c.outstanding;
-    let w = o.reads;
-    let read = queue::has(w, id);
-    let load = awaits_table(a, id);
-    comes & (((k == NODE_READ_RESP) & read) | ((k == TABLE_READ_RESP) & load))
+    match op {
+        DiskOp::RespReadNodeOp(id, _) => (c.phase == Phase::Ready)
+            & queue::has(c.outstanding.reads, id),
+        DiskOp::RespReadIndirectionTableOp(id, _) => (c.phase == Phase::Loading)
+            & awaits_table(c.awaited, id),
+        _ => false,
+    }
 }
 
 impl Cache {
     // The wait for the answered read ends, whatever was brought; nothing else changes.
-    pub(crate) fn let_go(self, q: Call) -> CacheOutcome
-        ensures { result ≡ past_gate self.settings self.state q let_go_step }
+    #[tactic(auto, unfolding(blockcache::specs::Step::past_gate, base::specs::Refusals::answer))]
+    pub(crate) fn let_go(self, q: Judged) -> Result<CacheState, Refusal>
+        ensures { settled_outcome result self.state ≡ past_gate self.settings self.state q.call let_go_step }
     {
         let mut c = self.state;
-        let d = q.dop;
-        let awaited = awaits_read(c, d);
-        if !awaited {
-            return answered(c, 5);
+        if !awaits_read(c, q.call.dop) {
+            return Err(Refusal::Id);
         }
-        let k = dop_kind(d);
-        let node = k == NODE_READ_RESP;
-        if !node {
-            let none = Awaited {
-                waiting: false,
-                id: 0,
-            };
-            c.awaited = none;
-            return answered(c, 0);
+        if let DiskOp::RespReadNodeOp(id, _) = q.call.dop {
+            c.outstanding.reads = queue::remove(c.outstanding.reads, id);
+            return Ok(c);
         }
-        let id = dop_id(d);
-        let mut o = c.outstanding;
-        let w = o.reads;
-        let w2 = queue::remove(w, id);
-        o.reads = w2;
-        c.outstanding = o;
-        answered(c, 0)
+        c.awaited = NOT_WAITING;
+        Ok(c)
     }
 }

@@ -6,6 +6,7 @@ mod answers;
 mod choose;
 mod entry;
 mod form;
+mod judged;
 mod letgo;
 mod load;
 mod operations;

@@ -2,15 +2,15 @@
 // slice, `operations`; it has no condition but the loop's and reads no field, and asks the others.
 ghost use Rattle.std.specs.Prelude.{◌≡◌};
 ghost use Rattle.blockcache.specs.Operations.{cache_operations, operation_answer, operation_call, operation_next};
-ghost use Rattle.blockcache.specs.Step.{outcome};
+ghost use Rattle.blockcache.specs.Step.{outcome, settled_outcome};
 ghost use Rattle.blockcache.specs.Walk.{advanced, begun, finished, limit};
 ghost use Rattle.sectortype.specs.Form.{zero_node};
 
 use crate::Cache;
-use crate::answers::answered;
-use crate::entry::renew_marks;
+use crate::answers::number;
 use crate::form::settings_form;
-use blockcache::{CacheOutcome, Call, Operation, OperationsOutcome, Settings, VersionOp};
+use crate::judged::Judged;
+use blockcache::{CacheState, Call, Operation, OperationsOutcome, Refusal, Settings, VersionOp};
 use blockdisk::DiskOp;
 
 // The step of a list.
@@ -20,10 +20,7 @@ const TRANSACTION: u64 = 20;
 fn limit(length: usize) -> usize
     ensures { result ≡ limit length }
 {
-    if 32 < length {
-        return 0;
-    }
-    length
+    if 32 < length { 0 } else { length }
 }
 
 fn settings_of(c: Cache) -> Settings
@@ -36,58 +33,55 @@ fn settings_of(c: Cache) -> Settings
 fn operation_call(o: Operation) -> Call
     ensures { result ≡ operation_call o }
 {
-    let node = o.node;
-    let table = sector::empty_table();
     Call {
         reference: o.reference,
         vop: VersionOp::AdvanceOp(false),
         dop: DiskOp::NoDiskOp,
-        node,
-        table,
+        node: o.node,
+        table: sector::empty_table(),
     }
 }
 
 // One operation more, at its place; after a refusal nothing moves.
+#[tactic(auto, unfolding(blockcache::specs::Walk::advanced))]
 fn advanced(g: Settings, w: OperationsOutcome, o: Operation, place: usize) -> OperationsOutcome
     ensures { result ≡ advanced g w o place }
 {
-    let going = w.answer == 0;
-    if !going {
+    if w.answer != 0 {
         return w;
     }
-    let state = w.cache;
-    let c = Cache { settings: g, state };
-    let x = c.operation(o);
-    let cache = x.cache;
-    let answer = x.answer;
-    if answer != 0 {
-        return OperationsOutcome {
-            answer,
-            place: place as u64,
+    let c = Cache {
+        settings: g,
+        state: w.cache,
+    };
+    match c.operation(o) {
+        Ok(cache) => OperationsOutcome {
+            answer: 0,
+            place: 0,
             cache,
-        };
-    }
-    OperationsOutcome {
-        answer: 0,
-        place: 0,
-        cache,
+        },
+        Err(refusal) => OperationsOutcome {
+            answer: number(refusal),
+            place: place as u64,
+            cache: w.cache,
+        },
     }
 }
 
 impl Cache {
-    // Dirty or Alloc, past V, D and phase; 1 where the operation is outside the limits.
-    fn operation(self, o: Operation) -> CacheOutcome
-        ensures { result ≡ outcome (operation_answer self.settings self.state o) zero_node (operation_next self.state o) self.state }
+    // Dirty or Alloc, past V, D and phase; refused where the operation is outside the limits.
+    fn operation(self, o: Operation) -> Result<CacheState, Refusal>
+        ensures { settled_outcome result self.state
+            ≡ outcome (operation_answer self.settings self.state o) zero_node (operation_next self.state o) self.state }
     {
-        let node = o.node;
-        let formed = sector::node_form(node);
-        let good = (o.reference <= 63) & formed;
-        if !good {
-            return answered(self.state, 1);
+        let formed = sector::node_form(o.node);
+        if !((o.reference <= 63) & formed) {
+            return Err(Refusal::Limits);
         }
-        let q = operation_call(o);
-        let alloc = o.alloc;
-        if alloc {
+        let q = Judged {
+            call: operation_call(o),
+        };
+        if o.alloc {
             return self.alloc(q);
         }
         self.dirty(q)
@@ -97,11 +91,14 @@ impl Cache {
     fn begun(self, q: Call, length: usize) -> OperationsOutcome
         ensures { result ≡ begun self.settings self.state q length }
     {
-        let x = self.step(TRANSACTION, q);
         let cache = self.state;
-        let refused = x.answer;
+        let refused = self.step(TRANSACTION, q).answer;
         let long = (refused == 0) & (32 < length);
-        let answer = if long { 24 } else { refused };
+        let answer = if long {
+            number(Refusal::TooLong)
+        } else {
+            refused
+        };
         OperationsOutcome {
             answer,
             place: 0,
@@ -114,20 +111,19 @@ impl Cache {
     fn finished(self, w: OperationsOutcome) -> OperationsOutcome
         ensures { result ≡ finished self.settings self.state w }
     {
-        let g = self.settings;
-        let named = settings_form(g);
-        let taken = named & (w.answer == 0);
-        if !taken {
-            let cache = self.state;
+        if !(settings_form(self.settings) & (w.answer == 0)) {
             return OperationsOutcome {
                 answer: w.answer,
                 place: w.place,
-                cache,
+                cache: self.state,
             };
         }
-        let o = answered(w.cache, 0);
-        let renewed = renew_marks(g.device, o);
-        let cache = renewed.cache;
+        let mut cache = w.cache;
+        cache.blocks.marks = bitmap::marks_of(
+            self.settings.device,
+            cache.tables,
+            cache.outstanding.writes,
+        );
         OperationsOutcome {
             answer: 0,
             place: 0,

@@ -6,7 +6,10 @@ use blockcache::VersionOp;
 use blockdisk::{Brought, DiskOp};
 use disklayout::Location;
 
-// The kinds of version operation.
+const NOWHERE: Location = Location { addr: 0, len: 0 };
+
+// The kinds of version operation, by the definitions' numbers: the gate's table compares a kind in each of its twenty rows, where a pattern
+// for each kind would take a function of its own.
 pub(crate) const INTERNAL: u64 = 1;
 
 pub(crate) const JOURNAL_INTERNAL: u64 = 2;
@@ -67,18 +70,9 @@ pub(crate) fn vop_kind(v: VersionOp) -> u64
 pub fn vop_loc(v: VersionOp) -> Location
     ensures { result ≡ vop_loc v }
 {
-    let none = Location { addr: 0, len: 0 };
     match v {
-        VersionOp::StatesInternalOp => none,
-        VersionOp::JournalInternalOp => none,
-        VersionOp::SendPersistentLocOp(l) => l,
-        VersionOp::SendFrozenLocOp(l) => l,
-        VersionOp::AdvanceOp(_) => none,
-        VersionOp::FreezeOp => none,
-        VersionOp::CleanUpOp => none,
-        VersionOp::PushSyncOp => none,
-        VersionOp::PopSyncOp => none,
-        VersionOp::CrashOp => none,
+        VersionOp::SendPersistentLocOp(loc) | VersionOp::SendFrozenLocOp(loc) => loc,
+        _ => NOWHERE,
     }
 }
 
@@ -86,18 +80,7 @@ pub fn vop_loc(v: VersionOp) -> Location
 pub(crate) fn vop_no_op(v: VersionOp) -> bool
     ensures { result ≡ vop_no_op v }
 {
-    match v {
-        VersionOp::StatesInternalOp => false,
-        VersionOp::JournalInternalOp => false,
-        VersionOp::SendPersistentLocOp(_) => false,
-        VersionOp::SendFrozenLocOp(_) => false,
-        VersionOp::AdvanceOp(b) => b,
-        VersionOp::FreezeOp => false,
-        VersionOp::CleanUpOp => false,
-        VersionOp::PushSyncOp => false,
-        VersionOp::PopSyncOp => false,
-        VersionOp::CrashOp => false,
-    }
+    matches!(v, VersionOp::AdvanceOp(true))
 }
 
 pub(crate) fn dop_kind(op: DiskOp) -> u64
@@ -120,14 +103,14 @@ pub(crate) fn dop_id(op: DiskOp) -> u64
     ensures { result ≡ dop_id op }
 {
     match op {
-        DiskOp::ReqReadIndirectionTableOp(id, _) => id,
-        DiskOp::ReqReadNodeOp(id, _) => id,
-        DiskOp::ReqWriteIndirectionTableOp(id, _) => id,
-        DiskOp::ReqWriteNodeOp(id, _) => id,
-        DiskOp::RespReadIndirectionTableOp(id, _) => id,
-        DiskOp::RespReadNodeOp(id, _) => id,
-        DiskOp::RespWriteIndirectionTableOp(id) => id,
-        DiskOp::RespWriteNodeOp(id) => id,
+        DiskOp::ReqReadIndirectionTableOp(id, _)
+        | DiskOp::ReqReadNodeOp(id, _)
+        | DiskOp::ReqWriteIndirectionTableOp(id, _)
+        | DiskOp::ReqWriteNodeOp(id, _)
+        | DiskOp::RespReadIndirectionTableOp(id, _)
+        | DiskOp::RespReadNodeOp(id, _)
+        | DiskOp::RespWriteIndirectionTableOp(id)
+        | DiskOp::RespWriteNodeOp(id) => id,
         DiskOp::NoDiskOp => 0,
     }
 }
@@ -136,17 +119,12 @@ pub(crate) fn dop_id(op: DiskOp) -> u64
 pub(crate) fn dop_loc(op: DiskOp) -> Location
     ensures { result ≡ dop_loc op }
 {
-    let none = Location { addr: 0, len: 0 };
     match op {
-        DiskOp::ReqReadIndirectionTableOp(_, l) => l,
-        DiskOp::ReqReadNodeOp(_, l) => l,
-        DiskOp::ReqWriteIndirectionTableOp(_, l) => l,
-        DiskOp::ReqWriteNodeOp(_, l) => l,
-        DiskOp::RespReadIndirectionTableOp(_, _) => none,
-        DiskOp::RespReadNodeOp(_, _) => none,
-        DiskOp::RespWriteIndirectionTableOp(_) => none,
-        DiskOp::RespWriteNodeOp(_) => none,
-        DiskOp::NoDiskOp => none,
+        DiskOp::ReqReadIndirectionTableOp(_, loc)
+        | DiskOp::ReqReadNodeOp(_, loc)
+        | DiskOp::ReqWriteIndirectionTableOp(_, loc)
+        | DiskOp::ReqWriteNodeOp(_, loc) => loc,
+        _ => NOWHERE,
     }
 }
 
@@ -155,15 +133,10 @@ pub(crate) fn dop_brought(op: DiskOp) -> Brought
     ensures { result ≡ dop_brought op }
 {
     match op {
-        DiskOp::ReqReadIndirectionTableOp(_, _) => Brought::Nothing,
-        DiskOp::ReqReadNodeOp(_, _) => Brought::Nothing,
-        DiskOp::ReqWriteIndirectionTableOp(_, _) => Brought::Nothing,
-        DiskOp::ReqWriteNodeOp(_, _) => Brought::Nothing,
-        DiskOp::RespReadIndirectionTableOp(_, b) => b,
-        DiskOp::RespReadNodeOp(_, b) => b,
-        DiskOp::RespWriteIndirectionTableOp(_) => Brought::Nothing,
-        DiskOp::RespWriteNodeOp(_) => Brought::Nothing,
-        DiskOp::NoDiskOp => Brought::Nothing,
+        DiskOp::RespReadIndirectionTableOp(_, brought) | DiskOp::RespReadNodeOp(_, brought) => {
+            brought
+        }
+        _ => Brought::Nothing,
     }
 }
 
@@ -171,10 +144,12 @@ pub(crate) fn dop_brought(op: DiskOp) -> Brought
 pub(crate) fn idle_disk(op: DiskOp) -> bool
     ensures { result ≡ is_idle_d op }
 {
-    let d = dop_kind(op);
-    (d == NO_DOP)
-        | (d == TABLE_READ_RESP)
-        | (d == NODE_READ_RESP)
-        | (d == TABLE_WRITE_RESP)
-        | (d == NODE_WRITE_RESP)
+    matches!(
+        op,
+        DiskOp::NoDiskOp
+            | DiskOp::RespReadIndirectionTableOp(_, _)
+            | DiskOp::RespReadNodeOp(_, _)
+            | DiskOp::RespWriteIndirectionTableOp(_)
+            | DiskOp::RespWriteNodeOp(_)
+    )
 }

@@ -38,9 +38,8 @@ pub(crate) fn has_predecessor(t: Table, r: u64) -> bool
 {
     let mut hit = false;
     'search: for e in t.entries.iter() {
-        let s = e.succs;
-        for (j, named) in s.at.iter().enumerate() {
-            let here = e.allocated & names_at(s.count, j, *named, r);
+        for (j, named) in e.succs.at.iter().enumerate() {
+            let here = e.allocated & names_at(e.succs.count, j, *named, r);
             if here {
                 hit = true;
                 break 'search;
@@ -51,17 +50,14 @@ pub(crate) fn has_predecessor(t: Table, r: u64) -> bool
 }
 
 // Whether the persistent, ephemeral or frozen table or an outstanding write holds this address.
+#[tactic(auto, unfolding(blockcache::specs::Scan::held_in))]
 pub(crate) fn held(ts: Tables, q: Requests, addr: u64) -> bool
     ensures { result ≡ held_in ts q addr }
 {
-    let p = ts.persistent;
-    let e = ts.ephemeral;
-    let f = ts.frozen;
-    let a = sector::holds_addr(p, addr);
-    let b = sector::holds_addr(e, addr);
-    let c = sector::holds_addr(f, addr);
-    let d = queue::has_addr(q, addr);
-    a | b | (ts.isfrozen & c) | d
+    let persistent = sector::holds_addr(ts.persistent, addr);
+    let ephemeral = sector::holds_addr(ts.ephemeral, addr);
+    let frozen = ts.isfrozen & sector::holds_addr(ts.frozen, addr);
+    persistent | ephemeral | frozen | queue::has_addr(q, addr)
 }
 
 // FZ: the frozen table has the reference in its graph without a location.
@@ -69,7 +65,6 @@ pub(crate) fn needs_cached(ts: Tables, r: usize) -> bool
     requires { r < 64 }
     ensures { result ≡ needs_cached ts r }
 {
-    let f = ts.frozen;
-    let e = f.entries[r];
+    let e = ts.frozen.entries[r];
     ts.isfrozen & e.allocated & !e.located
 }

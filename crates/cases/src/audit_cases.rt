@@ -6,10 +6,7 @@ use blockdisk::Records;
 use blocksystem::Named;
 use fixtures::ranges::{block_addr, picture_of, table_of, with_nodes};
 use fixtures::show::counts;
-use fixtures::{
-    AREA1, AREA2, at, entry_nowhere, high_leaf, leaf, node_record, put_node, put_table, storing,
-    table_record,
-};
+use fixtures::{AREA1, AREA2, at, entry_nowhere, high_leaf, leaf, put_node, put_table, storing};
 use output::Output;
 use sectortype::{Node, Nodes, Table};
 use system::Store;
@@ -41,7 +38,7 @@ fn nodes(from: usize, until: usize, first: u8) -> Records {
 // The records with this table at the place.
 fn with_table(r: Records, table: Table) -> Records {
     let place = at(AREA1, 4096);
-    let x = table_record(place, table);
+    let x = disk::present(place, table);
     put_table(r, 0, x)
 }
 
@@ -61,7 +58,7 @@ fn whole() -> Records {
 fn with_last(r: Records, len: u64, node: Node) -> Records {
     let addr = block_addr(63);
     let loc = at(addr, len);
-    let x = node_record(loc, node);
+    let x = disk::present(loc, node);
     put_node(r, 63, x)
 }
 
@@ -87,8 +84,8 @@ fn all_lost(out: &mut Output) {
     let table = table_of(0, 64);
     let long = at(AREA1, 8192);
     let other = at(AREA2, 4096);
-    let x = table_record(long, table);
-    let y = table_record(other, table);
+    let x = disk::present(long, table);
+    let y = disk::present(other, table);
     let longer = put_table(stored, 0, x);
     let elsewhere = put_table(stored, 1, y);
     audited(out, b"no_table_at_the_place", all, stored);

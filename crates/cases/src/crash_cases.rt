@@ -2,8 +2,8 @@
 use blockdisk::{Queues, Records};
 use fixtures::show::{crash_answer, line, pair};
 use fixtures::{
-    AREA1, AREA2, BLOCK0, BLOCK1, DiskQueue, absent_node_record, at, high_leaf, leaf, node_record,
-    one, put_node, put_table, queues_with, stored, table_record, two_entries,
+    AREA1, AREA2, BLOCK0, BLOCK1, DiskQueue, absent_record, at, high_leaf, leaf, one, put_node,
+    put_table, queues_with, stored, two_entries,
 };
 use output::Output;
 
@@ -11,7 +11,7 @@ use output::Output;
 fn with_node(r: Records, k: usize, addr: u64, len: u64, contents: u64) -> Records {
     let loc = at(addr, len);
     let node = leaf(contents);
-    let x = node_record(loc, node);
+    let x = disk::present(loc, node);
     put_node(r, k, x)
 }
 
@@ -19,20 +19,19 @@ fn with_node(r: Records, k: usize, addr: u64, len: u64, contents: u64) -> Record
 fn with_table(r: Records, k: usize, addr: u64, len: u64) -> Records {
     let loc = at(addr, len);
     let table = two_entries();
-    let x = table_record(loc, table);
+    let x = disk::present(loc, table);
     put_table(r, k, x)
 }
 
 fn without_node(r: Records) -> Records {
-    let x = disk::zero_node_record();
+    let x = disk::absent(sector::zero_node());
     put_node(r, 0, x)
 }
 
 fn without_table(r: Records) -> Records {
     let loc = sector::zero_loc();
     let table = sector::empty_table();
-    let mut x = table_record(loc, table);
-    x.present = false;
+    let x = absent_record(loc, table);
     put_table(r, 0, x)
 }
 
@@ -40,7 +39,7 @@ fn without_table(r: Records) -> Records {
 fn table_changed(r: Records) -> Records {
     let loc = at(AREA1, 4096);
     let table = sector::empty_table();
-    let x = table_record(loc, table);
+    let x = disk::present(loc, table);
     put_table(r, 0, x)
 }
 
@@ -51,7 +50,7 @@ fn nodes(out: &mut Output, name: &[u8], queues: Queues) {
     let changed = with_node(r, 0, BLOCK0, 4096, 8);
     let place = at(BLOCK0, 4096);
     let above = high_leaf(1, 7);
-    let x = node_record(place, above);
+    let x = disk::present(place, above);
     let higher = put_node(r, 0, x);
     let longer = with_node(r, 0, BLOCK0, 8192, 7);
     let moved = with_node(lost, 1, BLOCK0, 4096, 7);
@@ -139,12 +138,11 @@ fn absent(out: &mut Output) {
     let none = disk::empty_queues();
     let node = leaf(9);
     let nowhere = sector::zero_loc();
-    let x = absent_node_record(nowhere, node);
+    let x = absent_record(nowhere, node);
     let table = two_entries();
-    let mut y = table_record(nowhere, table);
-    y.present = false;
+    let y = absent_record(nowhere, table);
     let high = high_leaf(1, 0);
-    let z = absent_node_record(nowhere, high);
+    let z = absent_record(nowhere, high);
     let offered = put_node(r, 1, x);
     let higher = put_node(r, 1, z);
     let lost = put_node(r, 0, x);

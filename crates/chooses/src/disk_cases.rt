@@ -2,14 +2,14 @@
 // form (document 01). The cache is `ready`, of which blocks 0 and 1 are marked and block 127 was given last; so on a disk in its form
 // block 2 is given, of 126, at 393216.
 use crate::choose_cases::{asked_with, full};
-use blockdisk::{DiskState, NodeRecord, TableRecord};
+use blockdisk::{DiskState, Record};
 use fixtures::{
-    AREA2, BLOCK0, BLOCK1, DiskQueue, absent_node_record, at, leaf, loading, node_record, one,
-    put_node, put_table, queue_of, queued, ready, stored, storing, table_record, two_entries,
-    with_last,
+    AREA2, BLOCK0, BLOCK1, DiskQueue, absent_record, at, leaf, loading, one, put_node, put_table,
+    queue_of, queued, ready, stored, storing, two_entries, with_last,
 };
 use output::Output;
 use queue::{Request, Requests};
+use sectortype::{Node, Table};
 
 fn on(out: &mut Output, name: &[u8], disk: DiskState) {
     let c = ready();
@@ -49,14 +49,14 @@ fn in_form(out: &mut Output) {
 }
 
 // The disk that has this record of block 0.
-fn with_node(x: NodeRecord) -> DiskState {
+fn with_node(x: Record<Node>) -> DiskState {
     let none = disk::empty_records();
     let r = put_node(none, 0, x);
     storing(r)
 }
 
 // The disk that has this record of area 1.
-fn with_table(x: TableRecord) -> DiskState {
+fn with_table(x: Record<Table>) -> DiskState {
     let none = disk::empty_records();
     let r = put_table(none, 0, x);
     storing(r)
@@ -71,10 +71,10 @@ fn records(out: &mut Output) {
     let here = at(BLOCK0, 4096);
     let area = at(AREA2, 4096);
     let table = two_entries();
-    let a = node_record(other, node);
-    let b = node_record(odd, node);
-    let c = absent_node_record(here, node);
-    let d = table_record(area, table);
+    let a = disk::present(other, node);
+    let b = disk::present(odd, node);
+    let c = absent_record(here, node);
+    let d = disk::present(area, table);
     let e = with_node(a);
     let f = with_node(b);
     let g = with_node(c);

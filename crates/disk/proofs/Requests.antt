@@ -1,15 +1,14 @@
 -- What a request and an answer do to their queue, as the rows of the operation. Assumes nothing.
-use mathlib.Core.Bool.{Bool, cond, false, not, true}
+use mathlib.Core.Bool.{Bool}
 use mathlib.Core.Path.{◌≡◌, refl, ap, sym, ◌∙◌}
 use Prim.Native.Nat.{ℕ}
-use lib.Dec.{eqb, leb}
+use lib.Dec.{leb}
 use Rattle.std.specs.Prelude.{Result, Ok, Err}
 use Rattle.base.specs.Refusals.{answer}
 use Rattle.base.proofs.Tests.{split}
 use Rattle.blockdisk.specs.Ops.{answer_outcome, answer_rows, outcome, refusal_number, request_of, request_outcome, request_rows, settled_outcome}
 use Rattle.blockdisk.specs.declared.DiskOutcome.{DiskOutcome}
 use Rattle.blockdisk.specs.declared.DiskRefusal.{DiskRefusal}
-use Rattle.blockdisk.specs.declared.DiskRefusal.TheVariants as refusal
 use Rattle.blockdisk.specs.declared.DiskState.{DiskState}
 use Rattle.disklayout.specs.declared.Location.{Location}
 use Rattle.queue.specs.Queue.{has_of, insert_of, remove_of}

@@ -1,96 +1,63 @@
 // A crash: the records offered afterwards must be possible ones; nothing is outstanding then.
 ghost use Rattle.std.specs.Prelude.{◌≡◌};
-ghost use Rattle.blockdisk.specs.Crash.{same_table_record, same_node_record, kept_table, kept_node, tables_kept, nodes_kept, records_kept};
+ghost use Rattle.blockdisk.specs.Crash.{kept, kept_table, kept_node, tables_kept, nodes_kept, records_kept};
 ghost use Rattle.blockdisk.specs.Crash.{empty_queues, disk_crash};
 
 use crate::Disk;
 use crate::form::records_ok;
-use blockdisk::{DiskOutcome, NodeRecord, Queues, Records, TableRecord};
+use blockdisk::{DiskOutcome, Queues, Record, Records};
 use queue::Requests;
+use sectortype::{Node, Table};
 
-fn same_table_record(a: TableRecord, b: TableRecord) -> bool
-    ensures { result ≡ same_table_record a b }
+// A stored record is offered unchanged, of which it is told whether what it holds is the same, unless a write to its area or block is
+// outstanding. A stored record is at the address of that.
+fn kept<T>(q: Requests, a: &Record<T>, b: &Record<T>, same: bool) -> bool
+    ensures { result ≡ kept q a.now b.now same }
 {
-    let s = a.table;
-    let t = b.table;
-    let same = sector::same_table(s, t);
-    b.present & (a.loc == b.loc) & same
+    !a.present | queue::has_addr(q, a.loc.addr) | (b.present & (a.loc == b.loc) & same)
 }
 
-fn same_node_record(a: NodeRecord, b: NodeRecord) -> bool
-    ensures { result ≡ same_node_record a b }
+fn kept_table(q: Requests, a: &Record<Table>, b: &Record<Table>) -> bool
+    ensures { result ≡ kept_table q a.now b.now }
 {
-    let s = a.node;
-    let t = b.node;
-    let same = sector::same_node(s, t);
-    b.present & (a.loc == b.loc) & same
+    kept(q, a, b, sector::same_table(a.held, b.held))
 }
 
-// A stored record is offered unchanged, unless a write to its area is outstanding. A stored record is at its area's address.
-fn kept_table(q: Requests, a: TableRecord, b: TableRecord) -> bool
-    ensures { result ≡ kept_table q a b }
+fn kept_node(q: Requests, a: &Record<Node>, b: &Record<Node>) -> bool
+    ensures { result ≡ kept_node q a.now b.now }
 {
-    let loc = a.loc;
-    let written = queue::has_addr(q, loc.addr);
-    let same = same_table_record(a, b);
-    !a.present | written | same
+    kept(q, a, b, sector::same_node(a.held, b.held))
 }
 
-fn kept_node(q: Requests, a: NodeRecord, b: NodeRecord) -> bool
-    ensures { result ≡ kept_node q a b }
-{
-    let loc = a.loc;
-    let written = queue::has_addr(q, loc.addr);
-    let same = same_node_record(a, b);
-    !a.present | written | same
-}
-
-fn tables_kept(q: Requests, old: [TableRecord; 2], new: [TableRecord; 2]) -> bool
+#[tactic(auto, unfolding(blockdisk::specs::Crash::tables_kept))]
+fn tables_kept(q: Requests, old: [Record<Table>; 2], new: [Record<Table>; 2]) -> bool
     ensures { result ≡ tables_kept q old new }
 {
-    let a = old[0];
-    let b = new[0];
-    let c = old[1];
-    let d = new[1];
-    let first = kept_table(q, a, b);
-    let second = kept_table(q, c, d);
-    first & second
+    kept_table(q, &old[0], &new[0]) & kept_table(q, &old[1], &new[1])
 }
 
-fn nodes_kept(q: Requests, old: [NodeRecord; 128], new: [NodeRecord; 128]) -> bool
+fn nodes_kept(q: Requests, old: [Record<Node>; 128], new: [Record<Node>; 128]) -> bool
     ensures { result ≡ nodes_kept q old new }
 {
-    old.iter()
-        .zip(new.iter())
-        .all(|(a, b)| kept_node(q, *a, *b))
+    old.iter().zip(new.iter()).all(|(a, b)| kept_node(q, a, b))
 }
 
+#[tactic(auto, unfolding(blockdisk::specs::Crash::records_kept))]
 fn records_kept(qs: Queues, old: Records, new: Records) -> bool
     ensures { result ≡ records_kept qs old new }
 {
-    let p = qs.tablewrites;
-    let q = qs.nodewrites;
-    let a = old.tables;
-    let b = new.tables;
-    let c = old.nodes;
-    let d = new.nodes;
-    let tables = tables_kept(p, a, b);
-    let nodes = nodes_kept(q, c, d);
-    tables & nodes
+    tables_kept(qs.tablewrites, old.tables, new.tables)
+        & nodes_kept(qs.nodewrites, old.nodes, new.nodes)
 }
 
 pub fn empty_queues() -> Queues
     ensures { result ≡ empty_queues }
 {
-    let a = queue::empty();
-    let b = queue::empty();
-    let c = queue::empty();
-    let d = queue::empty();
     Queues {
-        tablereads: a,
-        nodereads: b,
-        tablewrites: c,
-        nodewrites: d,
+        tablereads: queue::empty(),
+        nodereads: queue::empty(),
+        tablewrites: queue::empty(),
+        nodewrites: queue::empty(),
     }
 }
 

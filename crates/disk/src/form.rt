@@ -4,80 +4,59 @@ ghost use Rattle.disklayout.specs.Blocks.{table_place_in};
 ghost use Rattle.disklayout.specs.Calls.{holds_on, running_on};
 ghost use Rattle.disklayout.specs.Device.{device_of, made};
 ghost use Rattle.sectortype.specs.Form.{loc_zero};
-ghost use Rattle.blockdisk.specs.Form.{disk_form, node_record_checked, tables_checked, nodes_checked, records_checked, is_rule};
+ghost use Rattle.blockdisk.specs.Form.{disk_form, node_record_checked, table_record_checked, tables_checked, nodes_checked, records_checked, is_rule};
 ghost use Rattle.blockdisk.specs.Form.{node_allowed, table_allowed, table_request_ok, node_request_ok, table_queue_form, node_queue_form, queues_form};
 
 use crate::Disk;
-use blockdisk::{Checked, NodeRecord, Queues, Records, TableRecord};
+use blockdisk::{Checked, Queues, Record, Records};
 use disklayout::{Kind, Location};
 use queue::{Request, Requests};
+use sectortype::{Node, Table};
 
-// The form of a table record, from that of its table and the table's count: an absent record is zeros. The record is not handed on whole, as
-// the compiler would copy it, table and all.
-fn table_record_form(there: bool, loc: Location, form: bool, count: u8) -> bool
-    ensures { result ≡ (form && (there || (loc_zero loc && eqb count 0))) }
+// One record of area k: an absent one is zeros, one that is there lies in the area.
+#[tactic(auto, using(disklayout::proofs::Results::answered_yes), unfolding(blockdisk::specs::Form::table_record_checked))]
+fn table_record_ok(device: u64, k: u64, r: &Record<Table>) -> Checked
+    ensures { result ≡ table_record_checked device k r.now }
 {
-    let nowhere = sector::loc_zero(loc);
-    form & (there | (nowhere & (count == 0)))
-}
-
-// A table record that is there lies in area k.
-#[tactic(auto, using(disklayout::proofs::Results::answered_yes))]
-fn table_record_placed(device: u64, k: u64, there: bool, loc: Location) -> bool
-    ensures { result ≡ (not there || holds_on device (table_place_in (device_of device) k loc)) }
-{
-    if !there {
-        return true;
+    let empty = sector::loc_zero(r.loc) & (r.held.count == 0);
+    Checked {
+        form: sector::table_form(r.held) & (r.present | empty),
+        placed: !r.present | layout::table_place_in(device, k, r.loc).unwrap_or(false),
     }
-    layout::table_place_in(device, k, loc).unwrap_or(false)
 }
 
-// One record, of whichever of the 128 blocks begins at `at`.
-fn node_record_ok(device: u64, at: u64, r: NodeRecord) -> Checked
-    ensures { (k : ℕ) → k < 128 → at ≡ running_on device k → result ≡ node_record_checked device k r }
+// One record, of whichever of the 128 blocks begins at `at`, likewise.
+fn node_record_ok(device: u64, at: u64, r: &Record<Node>) -> Checked
+    ensures { (k : ℕ) → k < 128 → at ≡ running_on device k → result ≡ node_record_checked device k r.now }
 {
-    let there = r.present;
-    let loc = r.loc;
-    let node = r.node;
-    let form = sector::node_form(node);
-    if there {
-        let may = layout::node_place_length(device, loc.len).unwrap_or(false);
+    let form = sector::node_form(r.held);
+    if r.present {
+        let may = layout::node_place_length(device, r.loc.len).unwrap_or(false);
         return Checked {
             form,
-            placed: (loc.addr == at) & may,
+            placed: (r.loc.addr == at) & may,
         };
     }
-    let zero = sector::node_zero(node);
-    let nowhere = sector::loc_zero(loc);
     Checked {
-        form: form & (nowhere & zero),
+        form: form & (sector::loc_zero(r.loc) & sector::node_zero(r.held)),
         placed: true,
     }
 }
 
-fn tables_ok(device: u64, tables: [TableRecord; 2]) -> Checked
+#[tactic(auto, unfolding(blockdisk::specs::Form::tables_checked))]
+fn tables_ok(device: u64, tables: [Record<Table>; 2]) -> Checked
     ensures { result ≡ tables_checked device tables }
 {
-    let first = tables[0];
-    let second = tables[1];
-    let table1 = first.table;
-    let table2 = second.table;
-    let loc1 = first.loc;
-    let loc2 = second.loc;
-    let whole1 = sector::table_form(table1);
-    let whole2 = sector::table_form(table2);
-    let form1 = table_record_form(first.present, loc1, whole1, table1.count);
-    let form2 = table_record_form(second.present, loc2, whole2, table2.count);
-    let placed1 = table_record_placed(device, 0, first.present, loc1);
-    let placed2 = table_record_placed(device, 1, second.present, loc2);
+    let first = table_record_ok(device, 0, &tables[0]);
+    let second = table_record_ok(device, 1, &tables[1]);
     Checked {
-        form: form1 & form2,
-        placed: placed1 & placed2,
+        form: first.form & second.form,
+        placed: first.placed & second.placed,
     }
 }
 
 // The walk keeps a running address: the first node address, and a block's size more at each record, both as `layout` gives them.
-fn nodes_ok(device: u64, nodes: [NodeRecord; 128]) -> Checked
+fn nodes_ok(device: u64, nodes: [Record<Node>; 128]) -> Checked
     ensures { result ≡ nodes_checked device nodes }
 {
     let size = layout::node_block_size(device).unwrap_or(0);
@@ -85,7 +64,7 @@ fn nodes_ok(device: u64, nodes: [NodeRecord; 128]) -> Checked
     let mut form = true;
     let mut placed = true;
     for r in nodes.iter() {
-        let c = node_record_ok(device, at, *r);
+        let c = node_record_ok(device, at, r);
         form = form & c.form;
         placed = placed & c.placed;
         at += size;
@@ -94,13 +73,12 @@ fn nodes_ok(device: u64, nodes: [NodeRecord; 128]) -> Checked
 }
 
 // Stored records, and those offered to a crash, are walked once.
+#[tactic(auto, unfolding(blockdisk::specs::Form::records_checked))]
 pub(crate) fn records_ok(device: u64, r: Records) -> Checked
     ensures { result ≡ records_checked device r }
 {
-    let tables = r.tables;
-    let nodes = r.nodes;
-    let a = tables_ok(device, tables);
-    let b = nodes_ok(device, nodes);
+    let a = tables_ok(device, r.tables);
+    let b = nodes_ok(device, r.nodes);
     Checked {
         form: a.form & b.form,
         placed: a.placed & b.placed,
@@ -165,26 +143,21 @@ pub fn is_rule(rule: u64) -> bool
     (rule == 1) | (rule == 2)
 }
 
+#[tactic(auto, unfolding(blockdisk::specs::Form::queues_form))]
 pub(crate) fn queues_ok(device: u64, qs: Queues) -> bool
     ensures { result ≡ queues_form device qs }
 {
-    let a = qs.tablereads;
-    let b = qs.nodereads;
-    let c = qs.tablewrites;
-    let d = qs.nodewrites;
-    let p = table_queue_ok(device, a);
-    let q = node_queue_ok(device, b);
-    let r = table_queue_ok(device, c);
-    let s = node_queue_ok(device, d);
-    p & q & r & s
+    table_queue_ok(device, qs.tablereads)
+        & node_queue_ok(device, qs.nodereads)
+        & table_queue_ok(device, qs.tablewrites)
+        & node_queue_ok(device, qs.nodewrites)
 }
 
 // Number 1's question of a disk, told by its device and rule and by what its records and queues were found to be.
 pub(crate) fn disk_ok(device: u64, rule: u64, stored: Checked, waiting: bool) -> bool
     ensures { result ≡ (made device && is_rule rule && stored.form && stored.placed && waiting) }
 {
-    let ruled = is_rule(rule);
-    (device <= 2) & ruled & stored.form & stored.placed & waiting
+    (device <= 2) & is_rule(rule) & stored.form & stored.placed & waiting
 }
 
 impl Disk {
@@ -193,11 +166,8 @@ impl Disk {
     pub fn well_formed(self) -> bool
         ensures { result ≡ disk_form self.device self.state }
     {
-        let s = self.state;
-        let records = s.records;
-        let queues = s.queues;
-        let stored = records_ok(self.device, records);
-        let waiting = queues_ok(self.device, queues);
-        disk_ok(self.device, s.rule, stored, waiting)
+        let stored = records_ok(self.device, self.state.records);
+        let waiting = queues_ok(self.device, self.state.queues);
+        disk_ok(self.device, self.state.rule, stored, waiting)
     }
 }

@@ -2,16 +2,13 @@
 // A transition takes the disk by value and returns the answer's number and the state.
 ghost use Rattle.std.specs.Prelude.{◌&&◌, not, ◌≡◌};
 ghost use Rattle.sectortype.specs.Form.{zero_node, empty_table};
-ghost use Rattle.sectortype.specs.Same.{same_node, same_table};
 ghost use Rattle.blockdisk.specs.Ops.{request_of, request_outcome, answer_outcome, refusal_number, settled_outcome, something_in, op_outcome};
 ghost use Rattle.blockdisk.specs.Ops.{disk_step};
 
 use crate::Disk;
 use crate::form::{disk_ok, node_allowed, queues_ok, records_ok, table_allowed};
 use crate::read::{node_at, table_at, with_node, with_table};
-use blockdisk::{
-    Brought, DiskCall, DiskOp, DiskOutcome, DiskRefusal, DiskState, NodeRecord, TableRecord,
-};
+use blockdisk::{Brought, DiskCall, DiskOp, DiskOutcome, DiskRefusal, DiskState, Record};
 use disklayout::Location;
 use queue::{Request, Requests};
 use sectortype::{Node, Table};
@@ -89,24 +86,12 @@ fn brings(b: Brought) -> bool
     true
 }
 
-// Whether a table read answer brings something else than x, the record at exactly the place asked for.
-fn table_not_stored(x: TableRecord, b: Brought, table: Table) -> bool
-    ensures { result ≡ (something_in b && not (x.present && same_table x.table table)) }
+// Whether a read answer brings something else than x, the record at exactly the place asked for; it is told whether what the two hold is
+// the same.
+fn not_stored<T>(x: &Record<T>, b: Brought, same: bool) -> bool
+    ensures { result ≡ (something_in b && not (x.now.present && same)) }
 {
-    let stored = x.table;
-    let same = sector::same_table(stored, table);
-    let some = brings(b);
-    some & !(x.present & same)
-}
-
-// Whether a node read answer brings something else than x, the record at exactly the place asked for.
-fn node_not_stored(x: NodeRecord, b: Brought, node: Node) -> bool
-    ensures { result ≡ (something_in b && not (x.present && same_node x.node node)) }
-{
-    let stored = x.node;
-    let same = sector::same_node(stored, node);
-    let some = brings(b);
-    some & !(x.present & same)
+    brings(b) & !(x.present & same)
 }
 
 impl Disk {
@@ -166,7 +151,7 @@ impl Disk {
         let mut s = self.state;
         let asked = queue::entry(s.queues.tablereads, id);
         let stored = table_at(self.device, s.records, asked.loc);
-        let wrong = table_not_stored(stored, b, table);
+        let wrong = not_stored(&stored, b, sector::same_table(stored.held, table));
         s.queues.tablereads = take(s.queues.tablereads, id, wrong)?;
         Ok(s)
     }
@@ -177,7 +162,7 @@ impl Disk {
         let mut s = self.state;
         let asked = queue::entry(s.queues.nodereads, id);
         let stored = node_at(self.device, s.records, asked.loc);
-        let wrong = node_not_stored(stored, b, node);
+        let wrong = not_stored(&stored, b, sector::same_node(stored.held, node));
         s.queues.nodereads = take(s.queues.nodereads, id, wrong)?;
         Ok(s)
     }

@@ -1,32 +1,31 @@
 // What is stored at exactly a place, address and length; and the records with another at its place.
 ghost use Rattle.std.specs.Prelude.{◌≡◌};
-ghost use Rattle.blockdisk.specs.Records.{area_of, block_of, read_table, read_node, with_table, with_node, empty_records, zero_table_record, zero_node_record};
+ghost use Rattle.blockdisk.specs.Records.{absent_record, present_record, area_of, block_of, record_in, read_table, read_node, with_table, with_node};
+ghost use Rattle.blockdisk.specs.Records.{empty_records};
 
-use blockdisk::{NodeRecord, Records, TableRecord};
+use blockdisk::{Record, Records};
 use disklayout::Location;
 use sectortype::{Node, Table};
 
-fn zero_table_record() -> TableRecord
-    ensures { result ≡ zero_table_record }
+// No record, around a table or a node of zeros.
+pub fn absent<T>(zero: T) -> Record<T>
+    ensures { result ≡ absent_record zero }
 {
-    let loc = sector::zero_loc();
-    let table = sector::empty_table();
-    TableRecord {
+    Record {
         present: false,
-        loc,
-        table,
+        loc: sector::zero_loc(),
+        held: zero,
     }
 }
 
-pub fn zero_node_record() -> NodeRecord
-    ensures { result ≡ zero_node_record }
+// This table or node at this place.
+pub fn present<T>(loc: Location, held: T) -> Record<T>
+    ensures { result ≡ present_record loc held }
 {
-    let loc = sector::zero_loc();
-    let node = sector::zero_node();
-    NodeRecord {
-        present: false,
+    Record {
+        present: true,
         loc,
-        node,
+        held,
     }
 }
 
@@ -34,11 +33,9 @@ pub fn zero_node_record() -> NodeRecord
 pub fn empty_records() -> Records
     ensures { result ≡ empty_records }
 {
-    let t = zero_table_record();
-    let n = zero_node_record();
     Records {
-        tables: [t; 2],
-        nodes: [n; 128],
+        tables: [absent(sector::empty_table()); 2],
+        nodes: [absent(sector::zero_node()); 128],
     }
 }
 
@@ -55,62 +52,46 @@ fn block_of(device: u64, loc: Location) -> Option<u64>
     layout::node_block_by_walk(device, loc.addr).unwrap_or(None)
 }
 
-// The record at exactly this place, or an empty one.
-#[tactic(auto, using(blockdisk::proofs::Numbers::area_small, blockdisk::proofs::Numbers::table_found, blockdisk::proofs::Numbers::table_missing, blockdisk::proofs::Numbers::table_nowhere))]
-pub fn table_at(device: u64, r: Records, loc: Location) -> TableRecord
-    ensures { result ≡ read_table device r loc }
+// The record that number `at` has at exactly this place, or an empty one.
+fn record_at<T: Copy>(records: &[Record<T>], at: Option<u64>, loc: Location, zero: T) -> Record<T>
+    ensures { result ≡ record_in at records.now loc zero }
 {
-    if let Some(area) = area_of(device, loc) {
-        let in_area = r.tables[area as usize];
-        if in_area.present & (in_area.loc == loc) {
-            return in_area;
-        }
-    }
-    zero_table_record()
+    at.and_then(|k| records.get(k as usize))
+        .filter(|x| x.present & (x.loc == loc))
+        .copied()
+        .unwrap_or(absent(zero))
 }
 
-// The record at exactly this place, or an empty one.
-#[tactic(auto, using(blockdisk::proofs::Numbers::block_small, blockdisk::proofs::Numbers::node_found, blockdisk::proofs::Numbers::node_missing, blockdisk::proofs::Numbers::node_nowhere))]
-pub fn node_at(device: u64, r: Records, loc: Location) -> NodeRecord
+#[tactic(auto, using(blockdisk::proofs::Numbers::table_in_area))]
+pub fn table_at(device: u64, r: Records, loc: Location) -> Record<Table>
+    ensures { result ≡ read_table device r loc }
+{
+    record_at(&r.tables, area_of(device, loc), loc, sector::empty_table())
+}
+
+#[tactic(auto, using(blockdisk::proofs::Numbers::node_in_block))]
+pub fn node_at(device: u64, r: Records, loc: Location) -> Record<Node>
     ensures { result ≡ read_node device r loc }
 {
-    if let Some(block) = block_of(device, loc) {
-        let in_block = r.nodes[block as usize];
-        if in_block.present & (in_block.loc == loc) {
-            return in_block;
-        }
-    }
-    zero_node_record()
+    record_at(&r.nodes, block_of(device, loc), loc, sector::zero_node())
 }
 
 // The records with this one in its area, and every other as it was.
 #[tactic(auto, using(blockdisk::proofs::Numbers::area_below), unfolding(blockdisk::specs::Records::with_table))]
-pub(crate) fn with_table(device: u64, r: Records, loc: Location, table: Table) -> Records
+pub(crate) fn with_table(device: u64, mut r: Records, loc: Location, table: Table) -> Records
     ensures { result ≡ with_table device r loc table }
 {
     let area = area_of(device, loc).unwrap_or(0);
-    let mut tables = r.tables;
-    tables[area as usize] = TableRecord {
-        present: true,
-        loc,
-        table,
-    };
-    let nodes = r.nodes;
-    Records { tables, nodes }
+    r.tables[area as usize] = present(loc, table);
+    r
 }
 
 // The records with this one in its block, and every other as it was.
 #[tactic(auto, using(blockdisk::proofs::Numbers::block_below), unfolding(blockdisk::specs::Records::with_node))]
-pub(crate) fn with_node(device: u64, r: Records, loc: Location, node: Node) -> Records
+pub(crate) fn with_node(device: u64, mut r: Records, loc: Location, node: Node) -> Records
     ensures { result ≡ with_node device r loc node }
 {
     let block = block_of(device, loc).unwrap_or(0);
-    let mut nodes = r.nodes;
-    nodes[block as usize] = NodeRecord {
-        present: true,
-        loc,
-        node,
-    };
-    let tables = r.tables;
-    Records { tables, nodes }
+    r.nodes[block as usize] = present(loc, node);
+    r
 }

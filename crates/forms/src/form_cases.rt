@@ -6,9 +6,9 @@ use fixtures::show::{
     cache_answer, cache_form, crash_answer, disk_brings, disk_form, internal, no_op_call, pair,
 };
 use fixtures::{
-    AREA1, BLOCK0, BLOCK1, DiskQueue, at, entry_at, entry_nowhere, node_record, put_node,
-    put_table, queue_of, queued, ready, storing, table_record, two_entries, with_cached,
-    with_ephemeral, with_frozen, with_persistent, with_reads, with_writes,
+    AREA1, BLOCK0, BLOCK1, DiskQueue, at, entry_at, entry_nowhere, put_node, put_table, queue_of,
+    queued, ready, storing, two_entries, with_cached, with_ephemeral, with_frozen, with_persistent,
+    with_reads, with_writes,
 };
 use output::Output;
 use queue::Requests;
@@ -31,7 +31,7 @@ fn node_on_disk(out: &mut Output, kind: &[u8], n: Node) {
     let s = storing(none);
     let op = DiskOp::NoDiskOp;
     let loc = at(BLOCK0, 4096);
-    let x = node_record(loc, n);
+    let x = disk::present(loc, n);
     let r = put_node(none, 0, x);
     let t = storing(r);
     let a = disk_brings(s, op, n);
@@ -121,7 +121,7 @@ fn disk_with_table(s: DiskState, table: Table) -> u64 {
 fn storing_table(t: Table) -> Records {
     let none = disk::empty_records();
     let loc = at(AREA1, 4096);
-    let x = table_record(loc, t);
+    let x = disk::present(loc, t);
     put_table(none, 0, x)
 }
 

@@ -1,18 +1,17 @@
 // Number 1: what a phase doesn't have, flags that are off, records and queued places, and numbers outside their range.
 use blockcache::{Awaited, CacheState, Phase, Settings};
-use blockdisk::{DiskCall, DiskOp, NodeRecord, TableRecord};
+use blockdisk::{DiskCall, DiskOp, Record};
 use cache::Cache;
 use disk::Disk;
 use disklayout::Location;
 use fixtures::show::{cache_answer, cache_form, disk_form, internal, line, no_op_call, pair};
 use fixtures::{
-    AREA1, AREA2, BLOCK0, BLOCK1, DiskQueue, RULE_1, absent_node_record, at, high_leaf, in_phase,
-    leaf, marked_on, node_record, one, put_node, put_table, queued, ready, storing, table_record,
-    two_entries, with_cached, with_ephemeral, with_frozen, with_frozen_place, with_persistent,
-    with_reads, with_writes,
+    AREA1, AREA2, BLOCK0, BLOCK1, DiskQueue, RULE_1, absent_record, at, high_leaf, in_phase, leaf,
+    marked_on, one, put_node, put_table, queued, ready, storing, two_entries, with_cached,
+    with_ephemeral, with_frozen, with_frozen_place, with_persistent, with_reads, with_writes,
 };
 use output::Output;
-use sectortype::Node;
+use sectortype::{Node, Table};
 
 fn with_awaited(c: CacheState, waiting: bool, id: u64) -> CacheState {
     let mut next = c;
@@ -161,7 +160,7 @@ fn phases(out: &mut Output) {
     before_ready(out, b"loading_cache", loading);
 }
 
-fn stored_node(out: &mut Output, name: &[u8], x: NodeRecord) {
+fn stored_node(out: &mut Output, name: &[u8], x: Record<Node>) {
     let none = disk::empty_records();
     let r = put_node(none, 1, x);
     let s = storing(r);
@@ -169,7 +168,7 @@ fn stored_node(out: &mut Output, name: &[u8], x: NodeRecord) {
     line(out, name, a);
 }
 
-fn stored_table(out: &mut Output, name: &[u8], x: TableRecord) {
+fn stored_table(out: &mut Output, name: &[u8], x: Record<Table>) {
     let none = disk::empty_records();
     let r = put_table(none, 1, x);
     let s = storing(r);
@@ -185,13 +184,13 @@ fn node_records(out: &mut Output) {
     let other = at(BLOCK0, 1);
     let short = at(BLOCK1, 0);
     let nowhere = sector::zero_loc();
-    let good = node_record(own, node);
-    let absent = absent_node_record(nowhere, node);
+    let good = disk::present(own, node);
+    let absent = absent_record(nowhere, node);
     let high = high_leaf(1, 0);
-    let higher = absent_node_record(nowhere, high);
-    let placed = absent_node_record(own, none);
-    let moved = node_record(other, node);
-    let empty = node_record(short, node);
+    let higher = absent_record(nowhere, high);
+    let placed = absent_record(own, none);
+    let moved = disk::present(other, node);
+    let empty = disk::present(short, node);
     stored_node(out, b"stored_node_in_its_own_block", good);
     stored_node(out, b"stored_node_in_another_block", moved);
     stored_node(out, b"stored_node_of_length_0", empty);
@@ -208,13 +207,11 @@ fn table_records(out: &mut Output) {
     let other = at(AREA1, 1);
     let short = at(AREA2, 0);
     let nowhere = sector::zero_loc();
-    let good = table_record(own, table);
-    let mut absent = table_record(nowhere, table);
-    absent.present = false;
-    let mut placed = table_record(own, none);
-    placed.present = false;
-    let moved = table_record(other, table);
-    let empty = table_record(short, table);
+    let good = disk::present(own, table);
+    let absent = absent_record(nowhere, table);
+    let placed = absent_record(own, none);
+    let moved = disk::present(other, table);
+    let empty = disk::present(short, table);
     stored_table(out, b"stored_table_in_its_own_area", good);
     stored_table(out, b"stored_table_in_the_other_area", moved);
     stored_table(out, b"stored_table_of_length_0", empty);

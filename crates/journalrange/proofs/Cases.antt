@@ -3,27 +3,37 @@
 use mathlib.Core.Path.{◌≡◌, refl}
 use mathlib.Core.List.{List, [], ◌∷◌, map}
 use Prim.Native.Nat.{ℕ}
-use Rattle.base.specs.Refusals.{answer}
+use Rattle.std.specs.Prelude.{Result}
 use Rattle.disklayout.specs.Device.{device_of, devices}
 use Rattle.journalrange.specs.declared.Part.{Part}
-use Rattle.journalrange.specs.Parts.{part_rows, front_part, back_part}
+use Rattle.journalrange.specs.declared.PartRefused.{PartRefused}
+use Rattle.journalrange.specs.Parts.{back_part, front_part, part_number, part_of, place_of}
 
 -- a range: the device, the count of the lent bytes, the first block, how many blocks
 pub data Range : Type 0 where
   range : ℕ → ℕ → ℕ → ℕ → Range
 
+-- what is told of a part: the number, and where it lies
+pub record Told : Type 0 where
+  pub answer : ℕ
+  pub start : ℕ
+  pub len : ℕ
+
+abbrev pub told : Result Part PartRefused → Told
+told r = record { answer = part_number r; start = (place_of r).start; len = (place_of r).len }
+
 -- its front and its back part
 pub data Parts : Type 0 where
-  parts : Part → Part → Parts
+  parts : Told → Told → Parts
 
 pub ask : Range → Parts
-ask (range d bytes s n) = parts (front_part d bytes s n) (back_part d bytes s n)
+ask (range d bytes s n) = parts (told (front_part d bytes s n)) (told (back_part d bytes s n))
 
-abbrev pub part : ℕ → ℕ → Part
+abbrev pub part : ℕ → ℕ → Told
 part start len = record { answer = 0; start = start; len = len }
 
 -- refused, or accepted and not there: an empty part
-abbrev pub empty : ℕ → Part
+abbrev pub empty : ℕ → Told
 empty n = record { answer = n; start = 0; len = 0 }
 
 infix 40 ◌gives◌
@@ -68,5 +78,5 @@ edges =
     []
 
 pub edges_shown : map asked edges ≡ map expected edges
-unfolding edges asked expected ask front_part back_part part_rows answer device_of devices
+unfolding edges asked expected ask part_of device_of devices
 edges_shown = refl

@@ -1,26 +1,30 @@
 -- Which number a part's call gives, and where the part lies: within the lent area, for any good row. Assumes nothing.
 use mathlib.Core.Path.{◌≡◌, refl}
-use mathlib.Core.Bool.{Bool, true, cond}
+use mathlib.Core.Bool.{Bool, ◌&&◌, false, true, cond}
 use mathlib.Core.List.{List, []}
 use mathlib.Core.Logic.{◌↔◌, ◌⊎◌, inl, inr}
 use mathlib.Core.Option.{Option, some, none}
 use Prim.Native.Nat.{ℕ, ◌+◌, ◌-◌, ◌*◌, ◌<◌, ◌≤◌}
 use native.Mathlib.Omega.{arith}
 use lib.Dec.{eqb, leb}
-use borrow.Author.Tests.{ne_eqb, eqb-true, leb-true, leb-false, le-leb}
+use borrow.Author.Tests.{eq-eqb, ne_eqb, eqb-true, leb-true, leb-false, le-leb}
+use Rattle.std.specs.Prelude.{Result, Ok, Err}
+use Rattle.std.specs.Result.{ResultUnwrapsOrElse}
 use Rattle.base.specs.Refusals.{answer, ascending}
 use Rattle.base.proofs.Refusals.{accepted_iff}
-use Rattle.base.proofs.Tests.{split, tests}
+use Rattle.base.proofs.Tests.{and_left, and_right, split, tests}
 use Rattle.disklayout.specs.declared.Device.{Device}
 use Rattle.disklayout.specs.declared.Location.{Location}
-use Rattle.disklayout.specs.Device.{Good, device_of}
+use Rattle.disklayout.specs.Device.{Good, device_of, made}
 use Rattle.disklayout.specs.Journal.{journal_front_requires, journal_front_location, journal_back_requires, journal_back_location}
 use Rattle.disklayout.specs.Layout.{num_journal_blocks, journal_start_addr, valid_journal_location}
 use Rattle.disklayout.proofs.Devices.{device_good}
 use Rattle.disklayout.proofs.Facts.{journal_iff}
 use Rattle.disklayout.proofs.Ranges.{front_valid, back_valid}
 use Rattle.journalrange.specs.declared.Part.{Part}
-use Rattle.journalrange.specs.Parts.{journal_length, part_rows, start_of, len_of, part_of, front_part, back_part, cut}
+use Rattle.journalrange.specs.declared.PartRefused.{PartRefused}
+use Rattle.journalrange.specs.declared.PartRefused.TheVariants.{Undefined, OtherLength}
+use Rattle.journalrange.specs.Parts.{journal_length, part_rows, start_of, len_of, part_at, part_number, part_of, part_refused_number, place_of, front_part, back_part, cut}
 
 -- THE NUMBERS
 
@@ -41,6 +45,46 @@ accepted d pre bytes =
       (λ e. let h = simp tests at (a.0 e) in record { is_made = h.0.0; required = h.0.1; lent = h.1.0 }),
       (λ h. a.1 (simp tests ((h.is_made, h.required), (h.lent, tt)))),
     )
+
+-- what a call tells, by the number: the part is told where that is 0, and else the refusal that has the number
+module _ (d : ℕ) (pre : Bool) (bytes : ℕ) (o : Option Location) where
+  pub part_undefined : (made d && pre) ≡ false → part_of d pre bytes o ≡ Err Undefined
+  unfolding part_of
+  part_undefined e = rw e refl
+
+  pub part_other : (made d && pre) ≡ true → eqb bytes (journal_length (device_of d)) ≡ false → part_of d pre bytes o ≡ Err OtherLength
+  unfolding part_of
+  part_other e f = rw (e, f) refl
+
+  pub part_told : Accepted d pre bytes → part_of d pre bytes o ≡ Ok (part_at o)
+  unfolding part_of
+  part_told a = rw (le-leb d 2 a.is_made, a.required, eq-eqb bytes (journal_length (device_of d)) a.lent) refl
+
+  told_by : (P : Result Part PartRefused → Type 0) → P (Err Undefined) → P (Err OtherLength) → (Accepted d pre bytes → P (Ok (part_at o))) →
+      P (part_of d pre bytes o)
+  told_by P undefined other told =
+      split (made d && pre)
+      (λ t. split (eqb bytes (journal_length (device_of d)))
+      (λ u. let a : Accepted d pre bytes = record {
+        is_made = leb-true d 2 (and_left (made d) pre t);
+        required = and_right (made d) pre t;
+        lent = eqb-true bytes (journal_length (device_of d)) u;
+      } in rw (part_told a) (told a))
+      (λ u. rw (part_other t u) other))
+      (λ t. rw (part_undefined t) undefined)
+
+  pub number_told : part_number (part_of d pre bytes o) ≡ answer (part_rows d pre bytes)
+  unfolding part_of part_rows answer
+  number_told =
+      split (made d && pre)
+      (λ t. split (eqb bytes (journal_length (device_of d))) (λ u. rw (t, u) refl) (λ u. rw (t, u) refl))
+      (λ t. rw t refl)
+
+-- a number that is 0 of a part, and that of a refusal
+pub number_of : (r : Result Part PartRefused) {n : ℕ} → ((p : Part) → r ≡ Ok p → n ≡ 0) →
+    ((e : PartRefused) → r ≡ Err e → n ≡ part_refused_number e) → n ≡ part_number r
+number_of (Ok p) f g = f p refl
+number_of (Err e) f g = g e refl
 
 -- WITHIN THE AREA
 
@@ -71,25 +115,22 @@ module _ (d s n : ℕ) where
 
 -- so what a call hands back lies within what was lent, however much that is
 part_fits : (d : ℕ) (pre : Bool) (o : Option Location) (bytes : ℕ) → (pre ≡ true → (l : Location) → o ≡ some l → InArea (device_of d) l) →
-    (part_of (answer (part_rows d pre bytes)) o).start + (part_of (answer (part_rows d pre bytes)) o).len ≤ bytes
+    (place_of (part_of d pre bytes o)).start + (place_of (part_of d pre bytes o)).len ≤ bytes
 part_fits d pre o bytes h =
-    split (eqb (answer (part_rows d pre bytes)) 0)
-    (λ t. let a = (accepted d pre bytes).0 (eqb-true (answer (part_rows d pre bytes)) 0 t) in rw (t, a.lent) (located o (h a.required)))
-    (λ f. rw f (omega arith))
+    told_by d pre bytes o (λ r. (place_of r).start + (place_of r).len ≤ bytes) (omega arith) (omega arith)
+    (λ a. rw a.lent (inside o (h a.required)))
   where
-    located : (o : Option Location) → ((l : Location) → o ≡ some l → InArea (device_of d) l) →
+    inside : (o : Option Location) → ((l : Location) → o ≡ some l → InArea (device_of d) l) →
         start_of o + len_of o ≤ journal_length (device_of d)
-    located none h = omega arith
-    located (some l) h = (h l refl).ends
+    inside none h = omega arith
+    inside (some l) h = (h l refl).ends
 
 module _ (d bytes s n : ℕ) where
-  pub front_fits : (front_part d bytes s n).start + (front_part d bytes s n).len ≤ bytes
-  unfolding front_part
+  pub front_fits : (place_of (front_part d bytes s n)).start + (place_of (front_part d bytes s n)).len ≤ bytes
   front_fits =
       part_fits d (journal_front_requires (device_of d) s) (journal_front_location (device_of d) s n) bytes (device_front_in_area d s n)
 
-  pub back_fits : (back_part d bytes s n).start + (back_part d bytes s n).len ≤ bytes
-  unfolding back_part
+  pub back_fits : (place_of (back_part d bytes s n)).start + (place_of (back_part d bytes s n)).len ≤ bytes
   back_fits =
       part_fits d (journal_back_requires (device_of d) s n) (journal_back_location (device_of d) s n) bytes (device_back_in_area d s n)
 
@@ -97,21 +138,30 @@ module _ (d bytes s n : ℕ) where
 abbrev pub Zeros : Part → Type 0
 Zeros p = (p.start ≡ 0) × (p.len ≡ 0)
 
-pub refused_zeros : (number : ℕ) (o : Option Location) → (number ≡ 0 → ⊥) → Zeros (part_of number o)
-refused_zeros number o ne = (rw (ne_eqb number 0 ne), rw (ne_eqb number 0 ne))
+module _ (d : ℕ) (pre : Bool) (bytes : ℕ) where
+  pub refused_zeros : (o : Option Location) → (answer (part_rows d pre bytes) ≡ 0 → ⊥) → Zeros (place_of (part_of d pre bytes o))
+  refused_zeros o ne =
+      told_by d pre bytes o (λ r. Zeros (place_of r)) (refl, refl) (refl, refl) (λ a. absurd (ne ((accepted d pre bytes).1 a)))
 
-pub absent_zeros : (number : ℕ) → Zeros (part_of number none)
-absent_zeros number = split (eqb number 0) (λ t. (rw t, rw t)) (λ f. (rw f, rw f))
+  pub absent_zeros : Zeros (place_of (part_of d pre bytes none))
+  absent_zeros = told_by d pre bytes none (λ r. Zeros (place_of r)) (refl, refl) (refl, refl) (λ a. (refl, refl))
+
+-- what the code takes for a place
+pub place_told : (r : Result Part PartRefused) {p : Part} → ResultUnwrapsOrElse r Zeros p → p ≡ place_of r
+place_told (Ok q) e = e
+place_told (Err e) {p} z =
+    let zeros : ◌≡◌ {A = Part} (record { start = p.start; len = p.len }) (record { start = 0; len = 0 }) = rw (z.0, z.1) in zeros
 
 -- so what is handed back is empty
 zeros_empty : (area : List ℕ) (p : Part) → Zeros p → cut area p ≡ []
 zeros_empty area p z = rw z.1
 
-pub refused_empty : (area : List ℕ) (number : ℕ) (o : Option Location) → (number ≡ 0 → ⊥) → cut area (part_of number o) ≡ []
-refused_empty area number o ne = zeros_empty area (part_of number o) (refused_zeros number o ne)
+module _ (area : List ℕ) (d : ℕ) (pre : Bool) (bytes : ℕ) where
+  pub refused_empty : (o : Option Location) → (answer (part_rows d pre bytes) ≡ 0 → ⊥) → cut area (place_of (part_of d pre bytes o)) ≡ []
+  refused_empty o ne = zeros_empty area (place_of (part_of d pre bytes o)) (refused_zeros d pre bytes o ne)
 
-pub absent_empty : (area : List ℕ) (number : ℕ) → cut area (part_of number none) ≡ []
-absent_empty area number = zeros_empty area (part_of number none) (absent_zeros number)
+  pub absent_empty : cut area (place_of (part_of d pre bytes none)) ≡ []
+  absent_empty = zeros_empty area (place_of (part_of d pre bytes none)) (absent_zeros d pre bytes)
 
 -- WHERE IT BEGINS, AND HOW LONG IT IS
 

@@ -14,12 +14,12 @@ use Rattle.base.specs.Refusals.{answer}
 use Rattle.base.proofs.Tests.{split, tests}
 use Rattle.disklayout.specs.declared.Device.{Device}
 use Rattle.disklayout.specs.Device.{device_of}
-use Rattle.disklayout.specs.Journal.{journal_pos_add, journal_front_location, journal_back_requires, journal_back_location}
+use Rattle.disklayout.specs.Journal.{journal_pos_add, journal_front_requires, journal_front_location, journal_back_requires, journal_back_location}
 use Rattle.disklayout.specs.Layout.{num_journal_blocks}
-use Rattle.journalrange.specs.Parts.{journal_length, front_rows, back_rows, part_of, front_part, back_part, front_bytes, back_bytes, cut}
+use Rattle.journalrange.specs.Parts.{journal_length, front_rows, back_rows, part_at, front_bytes, back_bytes, cut}
 use Rattle.journalrange.specs.Walk.{block, range_block, range_bytes, InOrder}
 use Rattle.journalrange.proofs.Blocks.{block_first, block_second, block_part}
-use Rattle.journalrange.proofs.Parts.{accepted, front_blocks, back_blocks, front_blocks_lem, front_start, front_len, back_start, back_len}
+use Rattle.journalrange.proofs.Parts.{accepted, part_told, front_blocks, back_blocks, front_blocks_lem, front_start, front_len, back_start, back_len}
 
 -- POSITIONS
 
@@ -60,7 +60,7 @@ module _ (w : Device) (area : List ℕ) (s n : ℕ) (r : Ranged w area s n) wher
   back : List ℕ
   back = take (back_blocks w s n * 4096) area
 
-  front_is : cut area (part_of 0 (journal_front_location w s n)) ≡ front
+  front_is : cut area (part_at (journal_front_location w s n)) ≡ front
   unfolding front
   front_is =
       split (eqb n 0)
@@ -68,7 +68,7 @@ module _ (w : Device) (area : List ℕ) (s n : ℕ) (r : Ranged w area s n) wher
       let none_ahead : front_blocks w s n * 4096 ≡ 0 = rw (le-leb n (w.journal - s) (omega arith)) (omega arith) in rw (t, none_ahead))
       (λ f. rw (front_start w s n (eqb-false n 0 f), front_len w s n))
 
-  back_is : cut area (part_of 0 (journal_back_location w s n)) ≡ back
+  back_is : cut area (part_at (journal_back_location w s n)) ≡ back
   unfolding back
   back_is = rw (back_start w s n, back_len w s n)
 
@@ -136,16 +136,16 @@ module _ (w : Device) (area : List ℕ) (s n : ℕ) (r : Ranged w area s n) wher
       }
 
   -- the parts at upstream's locations, on any row
-  pub row_in_order : InOrder w area s n (cut area (part_of 0 (journal_front_location w s n)))
-      (cut area (part_of 0 (journal_back_location w s n)))
+  pub row_in_order : InOrder w area s n (cut area (part_at (journal_front_location w s n)))
+      (cut area (part_at (journal_back_location w s n)))
   row_in_order = rw (front_is, back_is) in_row
 
 -- THE THEOREM: what the calls hand back, where both give 0. That the range is no longer than the journal is said by the back part's 0
 
 pub in_order : (d : ℕ) (area : List ℕ) (s n : ℕ) → answer (front_rows d (length area) s) ≡ 0 → answer (back_rows d (length area) s n) ≡ 0 →
     InOrder (device_of d) area s n (front_bytes d area s n) (back_bytes d area s n)
-unfolding front_part back_part
 in_order d area s n zero_front zero_back =
     let b = (accepted d (journal_back_requires (device_of d) s n) (length area)).0 zero_back in
     let h = simp tests at b.required in
-    rw (zero_front, zero_back) (row_in_order (device_of d) area s n (record { lent = b.lent; in_journal = h.0; short = h.1 }))
+    let f = (accepted d (journal_front_requires (device_of d) s) (length area)).0 zero_front in
+    rw (part_told _ _ _ (journal_front_location (device_of d) s n) f, part_told _ _ _ (journal_back_location (device_of d) s n) b) (row_in_order (device_of d) area s n (record { lent = b.lent; in_journal = h.0; short = h.1 }))

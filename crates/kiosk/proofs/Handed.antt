@@ -6,7 +6,7 @@ use native.Mathlib.Omega.{arith}
 use lib.ListN.{length, drop, length-drop}
 use lib.Seq.{length-take-le}
 use Rattle.journalrange.specs.declared.Part.{Part}
-use Rattle.journalrange.specs.Parts.{front_part, back_part, cut, front_bytes, back_bytes, part_ptr}
+use Rattle.journalrange.specs.Parts.{front_part, back_part, place_of, cut, front_bytes, back_bytes, part_ptr}
 use Rattle.journalrange.proofs.Parts.{front_fits, back_fits}
 use Rattle.kiosk.specs.Handed.{Tells}
 
@@ -17,14 +17,14 @@ part_told p area area_at fits =
 
 module _ (d s n : ℕ) (area : List ℕ) (area_at : ℕ × ℕ) where
   -- of `layout_front_start` and `layout_front_len`, and what `front` hands back of the area
-  pub front_told : Tells (front_part d (length area) s n).start (front_part d (length area) s n).len area area_at
-      (front_bytes d area s n) (part_ptr area_at (front_part d (length area) s n))
-  front_told = part_told (front_part d (length area) s n) area area_at (front_fits d (length area) s n)
+  pub front_told : Tells (place_of (front_part d (length area) s n)).start (place_of (front_part d (length area) s n)).len area area_at
+      (front_bytes d area s n) (part_ptr area_at (place_of (front_part d (length area) s n)))
+  front_told = part_told (place_of (front_part d (length area) s n)) area area_at (front_fits d (length area) s n)
 
   -- of `layout_back_start` and `layout_back_len`, and what `back` hands back
-  pub back_told : Tells (back_part d (length area) s n).start (back_part d (length area) s n).len area area_at
-      (back_bytes d area s n) (part_ptr area_at (back_part d (length area) s n))
-  back_told = part_told (back_part d (length area) s n) area area_at (back_fits d (length area) s n)
+  pub back_told : Tells (place_of (back_part d (length area) s n)).start (place_of (back_part d (length area) s n)).len area area_at
+      (back_bytes d area s n) (part_ptr area_at (place_of (back_part d (length area) s n)))
+  back_told = part_told (place_of (back_part d (length area) s n)) area area_at (back_fits d (length area) s n)
 
 -- no other numbers are: what is handed back decides both
 pub told_once : (start len start2 len2 : ℕ) (area : List ℕ) (area_at : ℕ × ℕ) (part : List ℕ) (part_at : ℕ × ℕ) →

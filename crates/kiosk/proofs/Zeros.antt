@@ -11,9 +11,9 @@ use Rattle.base.proofs.Tests.{split}
 use Rattle.disklayout.specs.declared.Kind.{Kind}
 use Rattle.disklayout.specs.Calls.{answer_number, answered, holds_on, number_on}
 use Rattle.disklayout.specs.Device.{device_of, made}
-use Rattle.disklayout.specs.Journal.{journal_front_location, journal_back_location}
+use Rattle.disklayout.specs.Journal.{journal_front_location, journal_front_requires, journal_back_location, journal_back_requires}
 use Rattle.disklayout.specs.Kinds.{kind_number}
-use Rattle.journalrange.specs.Parts.{front_rows, back_rows, front_part, back_part}
+use Rattle.journalrange.specs.Parts.{front_rows, back_rows, front_part, back_part, place_of}
 use Rattle.journalrange.proofs.Parts.{Zeros, refused_zeros, absent_zeros}
 
 -- OF A REFUSED QUESTION
@@ -33,18 +33,14 @@ module _ (d : ℕ) where
 -- OF A PART: start and length are 0
 
 module _ (d bytes s n : ℕ) where
-  pub front_refused : (answer (front_rows d bytes s) ≡ 0 → ⊥) → Zeros (front_part d bytes s n)
-  unfolding front_part
-  front_refused = refused_zeros (answer (front_rows d bytes s)) (journal_front_location (device_of d) s n)
+  pub front_refused : (answer (front_rows d bytes s) ≡ 0 → ⊥) → Zeros (place_of (front_part d bytes s n))
+  front_refused = refused_zeros d (journal_front_requires (device_of d) s) bytes (journal_front_location (device_of d) s n)
 
-  pub back_refused : (answer (back_rows d bytes s n) ≡ 0 → ⊥) → Zeros (back_part d bytes s n)
-  unfolding back_part
-  back_refused = refused_zeros (answer (back_rows d bytes s n)) (journal_back_location (device_of d) s n)
+  pub back_refused : (answer (back_rows d bytes s n) ≡ 0 → ⊥) → Zeros (place_of (back_part d bytes s n))
+  back_refused = refused_zeros d (journal_back_requires (device_of d) s n) bytes (journal_back_location (device_of d) s n)
 
-  pub front_absent : journal_front_location (device_of d) s n ≡ none → Zeros (front_part d bytes s n)
-  unfolding front_part
-  front_absent e = rw e (absent_zeros (answer (front_rows d bytes s)))
+  pub front_absent : journal_front_location (device_of d) s n ≡ none → Zeros (place_of (front_part d bytes s n))
+  front_absent e = rw e (absent_zeros d (journal_front_requires (device_of d) s) bytes)
 
-  pub back_absent : journal_back_location (device_of d) s n ≡ none → Zeros (back_part d bytes s n)
-  unfolding back_part
-  back_absent e = rw e (absent_zeros (answer (back_rows d bytes s n)))
+  pub back_absent : journal_back_location (device_of d) s n ≡ none → Zeros (place_of (back_part d bytes s n))
+  back_absent e = rw e (absent_zeros d (journal_back_requires (device_of d) s n) bytes)

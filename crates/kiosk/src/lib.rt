@@ -12,10 +12,11 @@ ghost use Rattle.disklayout.specs.Calls.{answer_number, answered, holds_on, numb
 ghost use Rattle.disklayout.specs.Device.{device_of};
 ghost use Rattle.disklayout.specs.Kinds.{kind_number, kind_of};
 ghost use Rattle.disklayout.specs.Layout.{other_indirection_table_addr, overlap};
-ghost use Rattle.journalrange.specs.Parts.{front_rows, back_rows, front_part, back_part};
+ghost use Rattle.journalrange.specs.Parts.{front_rows, back_rows, front_part, back_part, place_of};
 ghost use Rattle.kiosk.specs.Places.{at};
 
 use disklayout::{Location, Refused};
+use journalrange::Part;
 
 fn place(addr: u64, len: u64) -> Location
     ensures { result ≡ at addr len }
@@ -73,7 +74,7 @@ pub extern "C" fn layout_overlap_result(
 pub extern "C" fn layout_overlap(device: u64, addr1: u64, len1: u64, addr2: u64, len2: u64) -> u64
     ensures { result ≡ bit (holds_on device (overlap (at addr1 len1) (at addr2 len2))) }
 {
-    layout::overlap(device, place(addr1, len1), place(addr2, len2)).unwrap_or(false) as u64
+    u64::from(layout::overlap(device, place(addr1, len1), place(addr2, len2)).unwrap_or(false))
 }
 
 // THE OTHER TABLE'S ADDRESS
@@ -101,23 +102,30 @@ pub extern "C" fn layout_other_table_addr(device: u64, addr: u64) -> u64
 pub extern "C" fn layout_front_result(device: u64, bytes: u64, start: u64, blocks: u64) -> u64
     ensures { result ≡ answer (front_rows device bytes start) }
 {
-    journalarea::front_part(device, bytes, start, blocks).answer
+    journalarea::front_part(device, bytes, start, blocks).map_or_else(u64::from, |_| 0)
+}
+
+// Where it lies: 0 and 0 where the call is refused.
+fn front_place(device: u64, bytes: u64, start: u64, blocks: u64) -> Part
+    ensures { result ≡ place_of (front_part device bytes start blocks) }
+{
+    journalarea::front_part(device, bytes, start, blocks).unwrap_or_default()
 }
 
 // Its first byte, counted from the area's first.
 #[unsafe(no_mangle)]
 pub extern "C" fn layout_front_start(device: u64, bytes: u64, start: u64, blocks: u64) -> u64
-    ensures { result ≡ (front_part device bytes start blocks).start }
+    ensures { result ≡ (place_of (front_part device bytes start blocks)).start }
 {
-    journalarea::front_part(device, bytes, start, blocks).start
+    front_place(device, bytes, start, blocks).start
 }
 
 // How many bytes it has.
 #[unsafe(no_mangle)]
 pub extern "C" fn layout_front_len(device: u64, bytes: u64, start: u64, blocks: u64) -> u64
-    ensures { result ≡ (front_part device bytes start blocks).len }
+    ensures { result ≡ (place_of (front_part device bytes start blocks)).len }
 {
-    journalarea::front_part(device, bytes, start, blocks).len
+    front_place(device, bytes, start, blocks).len
 }
 
 // THE BACK PART OF A RANGE: what it has past the journal's end, from the journal's first block on
@@ -128,21 +136,27 @@ pub extern "C" fn layout_front_len(device: u64, bytes: u64, start: u64, blocks: 
 pub extern "C" fn layout_back_result(device: u64, bytes: u64, start: u64, blocks: u64) -> u64
     ensures { result ≡ answer (back_rows device bytes start blocks) }
 {
-    journalarea::back_part(device, bytes, start, blocks).answer
+    journalarea::back_part(device, bytes, start, blocks).map_or_else(u64::from, |_| 0)
+}
+
+fn back_place(device: u64, bytes: u64, start: u64, blocks: u64) -> Part
+    ensures { result ≡ place_of (back_part device bytes start blocks) }
+{
+    journalarea::back_part(device, bytes, start, blocks).unwrap_or_default()
 }
 
 // Its first byte, counted from the area's first.
 #[unsafe(no_mangle)]
 pub extern "C" fn layout_back_start(device: u64, bytes: u64, start: u64, blocks: u64) -> u64
-    ensures { result ≡ (back_part device bytes start blocks).start }
+    ensures { result ≡ (place_of (back_part device bytes start blocks)).start }
 {
-    journalarea::back_part(device, bytes, start, blocks).start
+    back_place(device, bytes, start, blocks).start
 }
 
 // How many bytes it has.
 #[unsafe(no_mangle)]
 pub extern "C" fn layout_back_len(device: u64, bytes: u64, start: u64, blocks: u64) -> u64
-    ensures { result ≡ (back_part device bytes start blocks).len }
+    ensures { result ≡ (place_of (back_part device bytes start blocks)).len }
 {
-    journalarea::back_part(device, bytes, start, blocks).len
+    back_place(device, bytes, start, blocks).len
 }

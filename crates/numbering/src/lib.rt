@@ -5,9 +5,9 @@ ghost use Rattle.std.specs.Prelude.{◌≡◌, ◌<◌, ◌≤◌, ◌/◌, ◌%
 ghost use Rattle.smalltable.specs.Numbers.{small_sets, small_tables, zero_two};
 ghost use Rattle.smalltable.specs.Tables.{list_of, listed_if, small_entry, small_table, table_of};
 
-use disklayout::Location;
+use disklayout::{Location, Refused};
 use sectortype::{Entry, Succs, Table};
-use smalltable::{Numbered, Sets};
+use smalltable::Sets;
 
 const TABLES: u64 = 546;
 
@@ -140,17 +140,12 @@ fn table_of(device: u64, s: Sets) -> Table
     sector::with_entry(u, 2, c)
 }
 
-// The table of a number, from 0; 1 and zeros past the last, or on a device above 2.
-pub fn small_table(device: u64, number: u64) -> Numbered
+// The table of a number, from 0; there is none past the last, or on a device above 2.
+pub fn small_table(device: u64, number: u64) -> Result<Table, Refused>
     ensures { result ≡ small_table device number }
 {
     if (device <= 2) & (number < TABLES) {
-        let s = small_sets(number);
-        let table = table_of(device, s);
-        return Numbered { answer: 0, table };
+        return Ok(table_of(device, small_sets(number)));
     }
-    Numbered {
-        answer: 1,
-        table: sector::empty_table(),
-    }
+    Err(Refused::Undefined)
 }

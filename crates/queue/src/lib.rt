@@ -18,6 +18,7 @@ pub struct Request {
     pub loc: Location,
 }
 
+// The requests, a count beside an array: document 01's form for a map, and no heap.
 #[derive(Clone, Copy, PartialEq, Eq)]
 pub struct Requests {
     pub count: u8,

@@ -3,6 +3,7 @@
 #![tactic(auto)]
 
 ghost use Rattle.std.specs.Prelude.{◌≡◌, ℕ, ◌/◌, ◌%◌, ◌<◌, length, get_or};
+ghost use Rattle.std.specs.Option.{IfSome};
 
 use output::{Output, finish, number as print_number, text, word};
 use std::io;
@@ -16,44 +17,36 @@ const JOURNAL1: usize = 262_144;
 
 const JOURNAL2: usize = 1_048_576;
 
-// Not a block's number, which is 0 to 255: for bytes that don't all tell the same block.
-const MIXED: u64 = 256;
-
 const U64_MAX: u64 = 0xffff_ffff_ffff_ffff;
 
 // Each byte tells the number of its block.
 fn fill(memory: &mut [u8])
     ensures { (k : ℕ) → k < length memory.new → get_or memory.new k 0 ≡ k / 4096 % 256 }
 {
-    for i in 0..memory.len() {
-        memory[i] = (i / BLOCK % 256) as u8;
+    for (i, byte) in memory.iter_mut().enumerate() {
+        *byte = (i / BLOCK % 256) as u8;
     }
 }
 
-// The number that each byte of a block tells, or MIXED.
-fn block_number(block: &[u8]) -> u64
-    ensures { (result ≡ 256 → ⊥) → (k : ℕ) → k < length block.now → get_or block.now k 0 ≡ result }
+// The number that each byte of a block tells, where all tell one.
+fn block_number(block: &[u8]) -> Option<u8>
+    ensures { IfSome result (λ n. (k : ℕ) → k < length block.now → get_or block.now k 0 ≡ n) }
 {
-    if block.len() == 0 {
-        return MIXED;
+    let number = *block.first()?;
+    if block.iter().all(|told| *told == number) {
+        Some(number)
+    } else {
+        None
     }
-    let number = block[0];
-    for i in 0..block.len() {
-        if block[i] != number {
-            return MIXED;
-        }
-    }
-    u64::from(number)
 }
 
-fn print_block(out: &mut Output, first: bool, number: u64) {
+fn print_block(out: &mut Output, first: bool, number: Option<u8>) {
     if !first {
         text(out, b",");
     }
-    if number == MIXED {
-        text(out, b"?");
-    } else {
-        print_number(out, number);
+    match number {
+        Some(number) => print_number(out, u64::from(number)),
+        None => text(out, b"?"),
     }
 }
 

@@ -16,7 +16,7 @@ use Rattle.blockdisk.specs.declared.DiskOp.TheVariants.{RespWriteIndirectionTabl
 use Rattle.blockcache.specs.Form.{is_ready}
 use Rattle.blockcache.specs.declared.CacheState.{CacheState}
 use Rattle.blockcache.specs.declared.Call.{Call}
-use Rattle.smalltable.specs.Tables.{small_table}
+use Rattle.smalltable.specs.Tables.{numbered_table}
 use Rattle.script.specs.declared.request.NodeSource.{NodeSource}
 use Rattle.script.specs.declared.request.TableSource.{TableSource}
 use Rattle.script.specs.declared.request.Request.{Request}
@@ -29,7 +29,7 @@ use Rattle.script.specs.declared.request.TableSource.TheVariants as table
 unfoldable pub stored_node : ℕ → DiskState → ℕ → Option Node
 stored_node d s id =
     cond (has_of s.queues.nodereads id && (read_node d s.records (entry_of s.queues.nodereads id).loc).present)
-    (Some (read_node d s.records (entry_of s.queues.nodereads id).loc).node)
+    (Some (read_node d s.records (entry_of s.queues.nodereads id).loc).held)
     None
 
 -- cached: the cached node of the reference, zeros if none
@@ -49,7 +49,7 @@ node_value node.Cached r id d c s = Some (cached_node c.nodes r)
 unfoldable pub stored_table : ℕ → DiskState → ℕ → Option Table
 stored_table d s id =
     cond (has_of s.queues.tablereads id && (read_table d s.records (entry_of s.queues.tablereads id).loc).present)
-    (Some (read_table d s.records (entry_of s.queues.tablereads id).loc).table)
+    (Some (read_table d s.records (entry_of s.queues.tablereads id).loc).held)
     None
 
 -- one of the cache's, the empty table if absent
@@ -65,7 +65,7 @@ table_value table.Stored id d c s = stored_table d s id
 table_value table.Frozen id d c s = Some (cache_table (is_ready c && c.tables.isfrozen) c.tables.frozen)
 table_value table.Ephemeral id d c s = Some (cache_table (is_ready c) c.tables.ephemeral)
 table_value table.Persistent id d c s = Some (cache_table (is_ready c) c.tables.persistent)
-table_value (table.Small k) id d c s = Some (small_table d k).table
+table_value (table.Small k) id d c s = Some (numbered_table d k)
 
 -- THE CALL
 

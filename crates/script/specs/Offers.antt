@@ -2,10 +2,10 @@
 use Rattle.std.specs.Prelude.{ℕ, true, false, cond, List, [], ◌∷◌, eqb, length, get_or, set, drop, replicate, Option, Some, None}
 use Rattle.sectortype.specs.Form.{empty_table}
 use Rattle.sectortype.specs.declared.Table.{Table}
-use Rattle.blockdisk.specs.Records.{zero_node_record, zero_table_record}
-use Rattle.blockdisk.specs.declared.NodeRecord.{NodeRecord}
+use Rattle.blockdisk.specs.Records.{present_record, zero_node_record, zero_table_record}
+use Rattle.blockdisk.specs.declared.Record.{Record}
+use Rattle.sectortype.specs.declared.Node.{Node}
 use Rattle.blockdisk.specs.declared.Records.{Records}
-use Rattle.blockdisk.specs.declared.TableRecord.{TableRecord}
 use Rattle.words.specs.Bytes.{cut_of, starts_of, same_of}
 use Rattle.words.specs.Numbers.{small_of, location_of}
 use Rattle.words.specs.Cut.{words_of, word_of}
@@ -25,35 +25,35 @@ unfoldable pub offered_table : List ℕ → Option Table
 offered_table w = cond (same_of w (101 ∷ 109 ∷ 112 ∷ 116 ∷ 121 ∷ [])) (Some empty_table) (table_written_of w)
 
 -- ADDR+LEN/TABLE: the two sides of the first / (byte 47)
-abbrev pub area_written : List ℕ → Option TableRecord
+abbrev pub area_written : List ℕ → Option (Record Table)
 area_written w = do
   p ← cut_of w 47
   l ← location_of p.0
   t ← offered_table p.1
-  Some (record { present = true; loc = l; table = t })
+  Some (present_record l t)
 
 -- `none`, an area without a record, or one that is written out
-unfoldable pub area_of : List ℕ → Option TableRecord
+unfoldable pub area_of : List ℕ → Option (Record Table)
 area_of w = cond (same_of w (110 ∷ 111 ∷ 110 ∷ 101 ∷ [])) (Some zero_table_record) (area_written w)
 
 -- A NODE BLOCK
 
 -- ADDR+LEN/NODE
-abbrev pub block_written : List ℕ → Option NodeRecord
+abbrev pub block_written : List ℕ → Option (Record Node)
 block_written w = do
   p ← cut_of w 47
   l ← location_of p.0
   n ← node_of p.1
-  Some (record { present = true; loc = l; node = n })
+  Some (present_record l n)
 
 -- `none`, a block without a record, or one that is written out
-unfoldable pub block_of : List ℕ → Option NodeRecord
+unfoldable pub block_of : List ℕ → Option (Record Node)
 block_of w = cond (same_of w (110 ∷ 111 ∷ 110 ∷ 101 ∷ [])) (Some zero_node_record) (block_written w)
 
 -- THE OFFER
 
 -- what was read takes the place of what area k had
-abbrev pub area_offered : Offer → ℕ → TableRecord → Offer
+abbrev pub area_offered : Offer → ℕ → Record Table → Offer
 area_offered o k a = record { named = o.named; records = record { tables = set o.records.tables k a; nodes = o.records.nodes } }
 
 abbrev pub area_read : Offer → ℕ → List ℕ → Option Offer
@@ -66,7 +66,7 @@ unfoldable pub with_area : Offer → List ℕ → List ℕ → ℕ → Option Of
 with_area o r key k = cond (eqb (length (word_of r key)) 0) (Some o) (area_read o k (drop (length key) (word_of r key)))
 
 -- what was read takes the place of what block k had; a block that a word has named before is refused
-abbrev pub block_offered : Offer → ℕ → NodeRecord → Option Offer
+abbrev pub block_offered : Offer → ℕ → Record Node → Option Offer
 block_offered o k b =
     cond (get_or o.named k false) None
     (Some (record { named = set o.named k true; records = record { tables = o.records.tables; nodes = set o.records.nodes k b } }))

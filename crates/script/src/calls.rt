@@ -19,7 +19,7 @@ fn answered_node(device: u64, disk: DiskState, id: u64) -> Option<Node>
     let w = queue::entry(q, id);
     let r = disk::node_at(device, records, w.loc);
     if queue::has(q, id) & r.present {
-        return Some(r.node);
+        return Some(r.held);
     }
     None
 }
@@ -33,7 +33,7 @@ fn answered_table(device: u64, disk: DiskState, id: u64) -> Option<Table>
     let w = queue::entry(q, id);
     let r = disk::table_at(device, records, w.loc);
     if queue::has(q, id) & r.present {
-        return Some(r.table);
+        return Some(r.held);
     }
     None
 }
@@ -100,7 +100,7 @@ fn table_value(
         TableSource::Persistent => Some(cache_table(ready, tables.persistent)),
         TableSource::Small(k) => {
             let small = numbering::small_table(device, k);
-            Some(small.table)
+            Some(small.unwrap_or(sector::empty_table()))
         }
     }
 }

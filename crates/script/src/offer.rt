@@ -1,11 +1,9 @@
 // The records that a crash line offers: what is stored, but where a word of the line says otherwise.
 ghost use Rattle.std.specs.Prelude.{◌≡◌, ◌<◌};
-ghost use Rattle.blockdisk.specs.Records.{zero_table_record};
 ghost use Rattle.script.specs.Offers.{offered_table, area_of, block_of, with_area, with_block, with_word, with_blocks, offered_of};
 
-use blockdisk::{NodeRecord, Records, TableRecord};
-use disklayout::Location;
-use sectortype::Table;
+use blockdisk::{Record, Records};
+use sectortype::{Node, Table};
 use words::digits::{location, small};
 use words::lists::node;
 use words::tables::table;
@@ -16,17 +14,6 @@ use words::text::{after, cut, same, word, words};
 pub struct Offer {
     pub named: [bool; 128],
     pub records: Records,
-}
-
-fn no_table_record() -> TableRecord
-    ensures { result ≡ zero_table_record }
-{
-    let table = sector::empty_table();
-    TableRecord {
-        present: false,
-        loc: Location { addr: 0, len: 0 },
-        table,
-    }
 }
 
 // A table behind a `/`: written out, or `empty`.
@@ -43,38 +30,30 @@ fn offered_table(w: &[u8]) -> Option<Table>
 
 // `none` or `ADDR+LEN/TABLE`.
 #[tactic(auto, unfolding(crate::specs::Offers::area_of))]
-fn area(w: &[u8]) -> Option<TableRecord>
+fn area(w: &[u8]) -> Option<Record<Table>>
     ensures { result ≡ area_of w.now }
 {
     if same(w, b"none") {
-        return Some(no_table_record());
+        return Some(disk::absent(sector::empty_table()));
     }
     let (first, second) = cut(w, b'/')?;
     let loc = location(first)?;
     let table = offered_table(second)?;
-    Some(TableRecord {
-        present: true,
-        loc,
-        table,
-    })
+    Some(disk::present(loc, table))
 }
 
 // `none` or `ADDR+LEN/NODE`.
 #[tactic(auto, unfolding(crate::specs::Offers::block_of))]
-fn block(w: &[u8]) -> Option<NodeRecord>
+fn block(w: &[u8]) -> Option<Record<Node>>
     ensures { result ≡ block_of w.now }
 {
     if same(w, b"none") {
-        return Some(disk::zero_node_record());
+        return Some(disk::absent(sector::zero_node()));
     }
     let (first, second) = cut(w, b'/')?;
     let loc = location(first)?;
     let node = node(second)?;
-    Some(NodeRecord {
-        present: true,
-        loc,
-        node,
-    })
+    Some(disk::present(loc, node))
 }
 
 // With what a line has for one of the table areas, 0 or 1; what is stored there where it has nothing.

@@ -1,4 +1,4 @@
-// Equality: contents and list equal, order and repeats counted. It is the `==` that the records derive.
+// Equality: contents and list equal, order and repeats counted. It is the `==` that the records derive, with the definition that it is.
 ghost use Rattle.std.specs.Prelude.{◌≡◌};
 ghost use Rattle.sectortype.specs.Same.{same_entry, same_node, same_succs, same_table};
 

@@ -4,7 +4,8 @@
 
 use disklayout::Location;
 
-// A list of up to 8 references, repeats allowed; places from count on hold 0.
+// A list of up to 8 references, repeats allowed; places from count on hold 0. (A count beside an array, here and below: document 01's form
+// for a map, and no heap.)
 #[derive(Clone, Copy, PartialEq, Eq)]
 pub struct Succs {
     pub count: u8,
@@ -33,7 +34,8 @@ pub struct OlderNode {
     pub succs: Succs,
 }
 
-// A reference's entry in a table: its list (the graph) and perhaps its location; all zeros where it is not allocated.
+// A reference's entry in a table: its list (the graph) and perhaps its location; all zeros where it is not allocated. (Flags and not Options, here
+// and in a slot: number 1 is given for an entry whose flag is down and whose rest is not zeros, `entry_form`, `slot_form`.)
 #[derive(Clone, Copy, PartialEq, Eq)]
 pub struct Entry {
     pub allocated: bool,

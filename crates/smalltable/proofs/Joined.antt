@@ -31,7 +31,7 @@ use Rattle.smalltable.proofs.Numbering.{number_small}
 use Rattle.smalltable.specs.Loading.{Awaits, StoredUnder, answered_under, brings, ready_with}
 use Rattle.smalltable.specs.Numbers.{small_tables}
 use Rattle.smalltable.specs.SmallTable.{SmallTable}
-use Rattle.smalltable.specs.Tables.{small_table}
+use Rattle.smalltable.specs.Tables.{numbered_table}
 
 module _ (d : ℕ) (s : DiskState) (i r : ℕ) (n : Node) (t : Table) (m : SmallTable d t) where
   abbrev reading : Requests
@@ -88,14 +88,14 @@ module _ (d : ℕ) (c : CacheState) (s : DiskState) (i r : ℕ) (n : Node) (o : 
           λ j. record { answer = accepted j; node = node j; cache = cache j; disk = disk j }
 
   -- so it accepts the table of every number, on every device and under either rule
-  pub every_small_loads_joined : (k : ℕ) → k < small_tables → Awaits (settings_of d s) c i r n → StoredUnder d s i (small_table d k).table →
-      joined d 9 (brings i r n (small_table d k).table) o c s
+  pub every_small_loads_joined : (k : ℕ) → k < small_tables → Awaits (settings_of d s) c i r n → StoredUnder d s i (numbered_table d k) →
+      joined d 9 (brings i r n (numbered_table d k)) o c s
       ≡ record {
         answer = 0;
         node = zero_node;
-        cache = ready_with d c.places.persistent (small_table d k).table;
+        cache = ready_with d c.places.persistent (numbered_table d k);
         disk = answered_under s i;
       }
   every_small_loads_joined k h w u =
       let on = ((and_iff (made d) (is_rule s.rule)).0 w.settings).0 in
-      small_loads_joined (small_table d k).table (number_small d on k h) w u
+      small_loads_joined (numbered_table d k) (number_small d on k h) w u

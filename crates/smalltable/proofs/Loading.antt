@@ -31,7 +31,7 @@ use Rattle.smalltable.proofs.Numbering.{number_small}
 use Rattle.smalltable.specs.Loading.{Awaits, brings, ready_with}
 use Rattle.smalltable.specs.Numbers.{small_tables}
 use Rattle.smalltable.specs.SmallTable.{SmallTable}
-use Rattle.smalltable.specs.Tables.{small_table}
+use Rattle.smalltable.specs.Tables.{numbered_table}
 
 -- the test passes for Loading alone
 pub is_loading : (p : Phase) → loading_phase p ≡ true → p ≡ Loading
@@ -121,8 +121,8 @@ module _ (g : Settings) (c : CacheState) (i r : ℕ) (n : Node) (w : Awaits g c 
 
   -- so it accepts the table of every number, on every device and under either rule
   pub every_small_loads : (k : ℕ) → k < small_tables →
-      cache_step g c 9 (brings i r n (small_table g.device k).table)
-      ≡ record { answer = 0; node = zero_node; cache = ready_with g.device at (small_table g.device k).table }
+      cache_step g c 9 (brings i r n (numbered_table g.device k))
+      ≡ record { answer = 0; node = zero_node; cache = ready_with g.device at (numbered_table g.device k) }
   every_small_loads k h =
       let on = ((and_iff (made g.device) (is_rule g.rule)).0 w.settings).0 in
-      small_loads (small_table g.device k).table (number_small g.device on k h)
+      small_loads (numbered_table g.device k) (number_small g.device on k h)

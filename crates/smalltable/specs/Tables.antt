@@ -1,15 +1,17 @@
 -- Document 02, Q-13: the table of four sets, and so of a number.
-use Rattle.std.specs.Prelude.{ℕ, ◌+◌, Bool, ◌&&◌, cond, true, ltb, set}
+use Rattle.std.specs.Prelude.{ℕ, ◌+◌, Bool, ◌&&◌, cond, true, ltb, set, Result}
+use Rattle.std.specs.Result.{result_unwrap_or}
 use Rattle.base.specs.Bits.{digit_at}
 use Rattle.disklayout.specs.Blocks.{node_block_addr}
 use Rattle.disklayout.specs.Device.{device_of, made}
+use Rattle.disklayout.specs.Calls.{answered_when}
 use Rattle.disklayout.specs.declared.Location.{Location}
+use Rattle.disklayout.specs.declared.Refused.{Refused}
 use Rattle.sectortype.specs.Form.{empty_table, with_entry, zero_entry, zero_succs}
 use Rattle.sectortype.specs.declared.Entry.{Entry}
 use Rattle.sectortype.specs.declared.Succs.{Succs}
 use Rattle.sectortype.specs.declared.Table.{Table}
 use Rattle.smalltable.specs.Numbers.{list_at, small_sets, small_tables}
-use Rattle.smalltable.specs.declared.Numbered.{Numbered}
 use Rattle.smalltable.specs.declared.Sets.{Sets}
 
 -- the list with r behind it, if b says so
@@ -38,13 +40,13 @@ table_of d s = with_entry (with_entry (with_entry empty_table 0 (entry_in d s 0)
 
 -- THE CALL
 
--- past 545, and on a device above 2: 1 and zeros
+-- past 545, and on a device above 2, there is none
 abbrev pub is_numbered : ℕ → ℕ → Bool
 is_numbered d n = made d && ltb n small_tables
 
-unfoldable pub small_table : ℕ → ℕ → Numbered
-small_table d n =
-    record {
-      answer = cond (is_numbered d n) 0 1;
-      table = cond (is_numbered d n) (table_of d (small_sets n)) empty_table;
-    }
+unfoldable pub small_table : ℕ → ℕ → Result Table Refused
+small_table d n = answered_when (is_numbered d n) (table_of d (small_sets n))
+
+-- for whoever takes zeros for a table that there is not
+abbrev pub numbered_table : ℕ → ℕ → Table
+numbered_table d n = result_unwrap_or (small_table d n) empty_table

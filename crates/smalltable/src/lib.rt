@@ -2,8 +2,6 @@
 // types. What the calls answer is in specs/; that each of these tables has one number, and is accepted by the loader, is proved in proofs/.
 #![tactic(auto)]
 
-use sectortype::Table;
-
 // The four sets that determine a small table: its allocated references, and the lists of references 0, 1 and 2. Each is a set of references
 // 0 to 2, as a number with bit r for reference r.
 #[derive(Clone, Copy)]
@@ -12,11 +10,4 @@ pub struct Sets {
     pub list0: u64,
     pub list1: u64,
     pub list2: u64,
-}
-
-// 0 and the table of a number, or 1 and zeros.
-#[derive(Clone, Copy)]
-pub struct Numbered {
-    pub answer: u64,
-    pub table: Table,
 }

@@ -16,14 +16,13 @@ use std::io;
 const ID: u64 = 1;
 
 // `REF@ADDR+LEN:LIST`, behind the entries before it.
-fn print_entry(out: &mut Output, first: bool, r: usize, e: Entry) {
-    let loc = e.loc;
+fn print_entry(out: &mut Output, first: bool, r: u64, e: Entry) {
     if !first {
         text(out, b";");
     }
-    number(out, r as u64);
-    word(out, b"@", loc.addr);
-    word(out, b"+", loc.len);
+    number(out, r);
+    word(out, b"@", e.loc.addr);
+    word(out, b"+", e.loc.len);
     text(out, b":");
     list(out, e.succs);
 }
@@ -31,8 +30,7 @@ fn print_entry(out: &mut Output, first: bool, r: usize, e: Entry) {
 // A table in a script's form. Each of its references has a location.
 fn print_table(out: &mut Output, t: Table) {
     let mut first = true;
-    for r in 0..64 {
-        let e = t.entries[r];
+    for (r, e) in (0..).zip(t.entries) {
         if e.allocated {
             print_entry(out, first, r, e);
             first = false;
@@ -41,11 +39,12 @@ fn print_table(out: &mut Output, t: Table) {
 }
 
 fn print_number(out: &mut Output, k: u64) {
-    let small = numbering::small_table(0, k);
-    word(out, b"number=", k);
-    text(out, b" table=");
-    print_table(out, small.table);
-    text(out, b"\n");
+    if let Ok(table) = numbering::small_table(0, k) {
+        word(out, b"number=", k);
+        text(out, b" table=");
+        print_table(out, table);
+        text(out, b"\n");
+    }
 }
 
 fn print_numbers(out: &mut Output) {
@@ -71,25 +70,12 @@ fn loading(settings: Settings) -> CacheState {
         len: 4096,
     };
     let none = sector::empty_table();
-    let unready = cache::empty_cache();
-    let received = Cache {
-        settings,
-        state: unready,
-    }
-    .step(
-        10,
-        call(VersionOp::SendPersistentLocOp(loc), DiskOp::NoDiskOp, none),
-    );
-    let state = received.cache;
-    let asked = Cache { settings, state }.step(
-        8,
-        call(
-            VersionOp::StatesInternalOp,
-            DiskOp::ReqReadIndirectionTableOp(ID, loc),
-            none,
-        ),
-    );
-    asked.cache
+    let place = call(VersionOp::SendPersistentLocOp(loc), DiskOp::NoDiskOp, none);
+    let state = cache::empty_cache();
+    let state = Cache { settings, state }.step(10, place).cache;
+    let read = DiskOp::ReqReadIndirectionTableOp(ID, loc);
+    let ask = call(VersionOp::StatesInternalOp, read, none);
+    Cache { settings, state }.step(8, ask).cache
 }
 
 // Whether it accepts the table that the read brings.
@@ -100,28 +86,24 @@ fn loads(settings: Settings, table: Table) -> bool {
     o.answer == 0
 }
 
-// 1 if number k's table is accepted under both rules, else 0.
-fn taken(device: u64, k: u64) -> u64
-    ensures { result ≤ 1 }
-{
-    let small = numbering::small_table(device, k);
-    let one = loads(Settings { device, rule: 1 }, small.table);
-    let two = loads(Settings { device, rule: 2 }, small.table);
-    if one & two { 1 } else { 0 }
+// Whether number k's table is accepted under both rules.
+fn is_taken(device: u64, k: u64) -> bool {
+    let Ok(table) = numbering::small_table(device, k) else {
+        return false;
+    };
+    loads(Settings { device, rule: 1 }, table) & loads(Settings { device, rule: 2 }, table)
 }
 
-fn accepted(device: u64) -> u64 {
-    let mut n: u64 = 0;
-    for k in 0..numbering::small_tables() {
-        n += taken(device, k);
-    }
-    n
+fn accepted(device: u64) -> usize {
+    (0..numbering::small_tables())
+        .filter(|k| is_taken(device, *k))
+        .count()
 }
 
 fn print_device(out: &mut Output, device: u64) {
     word(out, b"device=", device);
     word(out, b" tables=", numbering::small_tables());
-    word(out, b" accepted=", accepted(device));
+    word(out, b" accepted=", accepted(device) as u64);
     text(out, b"\n");
 }
 

@@ -5,10 +5,9 @@ ghost use Rattle.blocksystem.specs.Joined.{disk_call, joined, start_rows};
 
 use crate::Store;
 use crate::start::wf_succs;
-use blockcache::{Call, Settings};
+use blockcache::Call;
 use blockdisk::{DiskCall, DiskOp, Records};
 use blocksystem::Outcome;
-use cache::Cache;
 use disk::Disk;
 
 // The three steps that a joined call asks for by themselves: a start, a read, a crash.
@@ -25,45 +24,34 @@ pub const TRANSACTION: u64 = 20;
 fn lower(a: u64, b: u64) -> u64
     ensures { result ≡ lowest a b }
 {
-    if a == 0 {
-        return b;
+    match (a, b) {
+        (0, _) => b,
+        (_, 0) => a,
+        _ => a.min(b),
     }
-    if b == 0 {
-        return a;
-    }
-    if a <= b {
-        return a;
-    }
-    b
 }
 
 // What the disk is asked: a read takes no disk operation.
 fn disk_call(number: u64, q: Call) -> DiskCall
     ensures { result ≡ disk_call number q }
 {
-    let node = q.node;
-    let table = q.table;
-    let op = q.dop;
-    if number == READ {
-        return DiskCall {
-            op: DiskOp::NoDiskOp,
-            node,
-            table,
-        };
+    DiskCall {
+        op: if number == READ {
+            DiskOp::NoDiskOp
+        } else {
+            q.dop
+        },
+        node: q.node,
+        table: q.table,
     }
-    DiskCall { op, node, table }
 }
 
 // A start asks for a whole graph at the place given.
+#[tactic(auto, unfolding(base::specs::Refusals::answer))]
 fn ask_start(q: Call, d: Disk) -> u64
     ensures { result ≡ answer (start_rows d.device 10 q d.state) }
 {
-    let v = q.vop;
-    let loc = cache::vop_loc(v);
-    let s = d.state;
-    let r = s.records;
-    let whole = wf_succs(d.device, r, loc);
-    if whole {
+    if wf_succs(d.device, d.state.records, cache::vop_loc(q.vop)) {
         return 0;
     }
     20
@@ -77,13 +65,8 @@ impl Store {
     pub fn step(self, number: u64, q: Call, offered: Records) -> Outcome
         ensures { result ≡ joined self.device number q offered self.cache self.disk }
     {
-        let device = self.device;
-        let state = self.disk;
-        let d = Disk { device, state };
-        let rule = d.state.rule;
-        let settings = Settings { device, rule };
-        let state = self.cache;
-        let c = Cache { settings, state };
+        let d = self.on_disk();
+        let c = self.in_cache();
         let a = c.step(number, q);
         let b = if number == CRASH {
             d.crash(offered)
@@ -93,23 +76,18 @@ impl Store {
         let n20 = if number == START { ask_start(q, d) } else { 0 };
         let answer = lower(lower(a.answer, b.answer), n20);
         if answer != 0 {
-            let cache = c.state;
-            let disk = d.state;
             return Outcome {
                 answer,
                 node: sector::zero_node(),
-                cache,
-                disk,
+                cache: c.state,
+                disk: d.state,
             };
         }
-        let node = a.node;
-        let cache = a.cache;
-        let disk = b.disk;
         Outcome {
             answer: 0,
-            node,
-            cache,
-            disk,
+            node: a.node,
+            cache: a.cache,
+            disk: b.disk,
         }
     }
 }

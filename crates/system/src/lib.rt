@@ -11,8 +11,13 @@ mod screen;
 mod start;
 mod transaction;
 
-use blockcache::CacheState;
+ghost use Rattle.std.specs.Prelude.{◌≡◌};
+ghost use Rattle.blocksystem.specs.Joined.{settings_of};
+
+use blockcache::{CacheState, Settings};
 use blockdisk::DiskState;
+use cache::Cache;
+use disk::Disk;
 
 // The store: cache and disk on one device; its freeze rule is the one that the disk carries. Its methods are the calls on both; each call
 // gets the cache and the disk that the last one handed back.
@@ -21,6 +26,30 @@ pub struct Store {
     pub device: u64,
     pub cache: CacheState,
     pub disk: DiskState,
+}
+
+impl Store {
+    // The cache, with the device and the rule that the disk carries.
+    fn in_cache(&self) -> Cache
+        ensures { result ≡ record { settings = settings_of self.now.device self.now.disk; state = self.now.cache } }
+    {
+        Cache {
+            settings: Settings {
+                device: self.device,
+                rule: self.disk.rule,
+            },
+            state: self.cache,
+        }
+    }
+
+    fn on_disk(&self) -> Disk
+        ensures { result ≡ record { device = self.now.device; state = self.now.disk } }
+    {
+        Disk {
+            device: self.device,
+            state: self.disk,
+        }
+    }
 }
 
 pub use formatting::format_pictures;

@@ -31,32 +31,19 @@ fn naming_place(place: Location, picture: Nodes) -> Named
 fn picture_of(t: Pictures, l: Location) -> Nodes
     ensures { result ≡ picture_of t l }
 {
-    let a = t.first;
-    let b = t.second;
-    let one = names_place(a, l);
-    let two = names_place(b, l);
-    if one {
-        return a.picture;
+    if names_place(t.first, l) {
+        return t.first.picture;
     }
-    if two {
-        return b.picture;
+    if names_place(t.second, l) {
+        return t.second.picture;
     }
     sector::empty_nodes()
-}
-
-fn with_working(mut t: Pictures, w: Nodes) -> Pictures
-    ensures { result ≡ with_working t w }
-{
-    t.working = w;
-    t
 }
 
 fn frozen_named(mut t: Pictures, l: Location) -> Pictures
     ensures { result ≡ frozen_named t l }
 {
-    let p = t.frozen;
-    let m = naming_place(l, p);
-    t.second = m;
+    t.second = naming_place(l, t.frozen);
     t
 }
 
@@ -64,10 +51,8 @@ fn started_at(mut t: Pictures, l: Location) -> Pictures
     ensures { result ≡ started_at t l }
 {
     let p = picture_of(t, l);
-    let m = naming_place(l, p);
-    let none = zero_named();
-    t.first = m;
-    t.second = none;
+    t.first = naming_place(l, p);
+    t.second = zero_named();
     t.working = p;
     t
 }
@@ -75,60 +60,51 @@ fn started_at(mut t: Pictures, l: Location) -> Pictures
 fn freeze(mut t: Pictures) -> Pictures
     ensures { result ≡ froze t }
 {
-    let none = zero_named();
-    let w = t.working;
-    t.second = none;
-    t.frozen = w;
+    t.second = zero_named();
+    t.frozen = t.working;
     t
 }
 
 fn clean_up(mut t: Pictures) -> Pictures
     ensures { result ≡ cleaned t }
 {
-    let none = zero_named();
-    let m = t.second;
-    t.first = m;
-    t.second = none;
+    t.first = t.second;
+    t.second = zero_named();
     t
 }
 
-fn removed(t: Pictures, r: usize) -> Pictures
+fn removed(mut t: Pictures, r: usize) -> Pictures
     ensures { result ≡ with_working t (with_slot t.working r zero_slot) }
 {
-    let w = t.working;
-    let s = sector::zero_slot();
-    let w2 = sector::with_slot(w, r, s);
-    with_working(t, w2)
+    t.working = sector::with_slot(t.working, r, sector::zero_slot());
+    t
 }
 
-pub(crate) fn set_node(t: Pictures, r: usize, node: Node) -> Pictures
+pub(crate) fn set_node(mut t: Pictures, r: usize, node: Node) -> Pictures
     ensures { result ≡ with_working t (with_slot t.working r (cached_slot node)) }
 {
-    let w = t.working;
-    let s = Slot {
+    let slot = Slot {
         present: true,
         node,
     };
-    let w2 = sector::with_slot(w, r, s);
-    with_working(t, w2)
+    t.working = sector::with_slot(t.working, r, slot);
+    t
 }
 
 // Names and pictures after an accepted call. Most steps change none.
 pub fn pictures_after(t: Pictures, number: u64, q: Call) -> Pictures
     ensures { result ≡ pictures_after number q t }
 {
-    let v = q.vop;
-    let l = cache::vop_loc(v);
+    let l = cache::vop_loc(q.vop);
     let r = q.reference as usize;
-    let node = q.node;
     match number {
         4 => frozen_named(t, l),
         5 => removed(t, r),
         10 => started_at(t, l),
         12 => freeze(t),
         13 => clean_up(t),
-        15 => set_node(t, r, node),
-        16 => set_node(t, r, node),
+        15 => set_node(t, r, q.node),
+        16 => set_node(t, r, q.node),
         _ => t,
     }
 }

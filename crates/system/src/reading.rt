@@ -3,39 +3,39 @@ ghost use Rattle.std.specs.Prelude.{◌≡◌};
 ghost use Rattle.blocksystem.specs.Audit.{through_table, is_lost, is_added, is_altered, tally, counted};
 
 use crate::Store;
-use blockdisk::{NodeRecord, Records, TableRecord};
+use blockdisk::{Record, Records};
 use blocksystem::{Counts, Named};
-use sectortype::{Entry, Slot};
+use sectortype::{Entry, Node, Slot, Table};
 
 // A reference's node on the disk, through the table that was read; nothing where there is none.
-fn through_table(device: u64, r: Records, x: TableRecord, e: Entry) -> NodeRecord
+fn through_table(device: u64, r: Records, x: Record<Table>, e: Entry) -> Record<Node>
     ensures { result ≡ through_table device r x e }
 {
     if x.present & e.located {
         return disk::node_at(device, r, e.loc);
     }
-    disk::zero_node_record()
+    disk::absent(sector::zero_node())
 }
 
-fn lost(x: NodeRecord, s: Slot) -> u64
+#[tactic(auto, unfolding(blocksystem::specs::Audit::tally))]
+fn lost(x: Record<Node>, s: Slot) -> u64
     ensures { result ≡ tally (is_lost x s) }
 {
     u64::from(s.present & !x.present)
 }
 
-fn added(x: NodeRecord, s: Slot) -> u64
+#[tactic(auto, unfolding(blocksystem::specs::Audit::tally))]
+fn added(x: Record<Node>, s: Slot) -> u64
     ensures { result ≡ tally (is_added x s) }
 {
     u64::from(x.present & !s.present)
 }
 
-fn altered(x: NodeRecord, s: Slot) -> u64
+#[tactic(auto, unfolding(blocksystem::specs::Audit::tally))]
+fn altered(x: Record<Node>, s: Slot) -> u64
     ensures { result ≡ tally (is_altered x s) }
 {
-    let a = x.node;
-    let b = s.node;
-    let same = sector::same_node(a, b);
-    u64::from(x.present & s.present & !same)
+    u64::from(x.present & s.present & !sector::same_node(x.held, s.node))
 }
 
 impl Store {
@@ -48,7 +48,7 @@ impl Store {
         let mut a: u64 = 0;
         let mut b: u64 = 0;
         let mut c: u64 = 0;
-        for (i, e) in through.table.entries.iter().enumerate() {
+        for (i, e) in through.held.entries.iter().enumerate() {
             let slot = m.picture.slots[i];
             let y = through_table(self.device, records, through, *e);
             a += lost(y, slot);

@@ -10,13 +10,10 @@ use sectortype::{Node, Nodes};
 fn has_node(picture: Nodes, reference: u64, node: Node) -> bool
     ensures { result ≡ is_pictured picture reference node }
 {
-    if reference > 63 {
-        return false;
-    }
-    let slot = picture.slots[reference as usize];
-    let there = slot.node;
-    let same = sector::same_node(node, there);
-    slot.present & same
+    picture
+        .slots
+        .get(reference as usize)
+        .is_some_and(|slot| slot.present & sector::same_node(node, slot.node))
 }
 
 // Whether the node is the one that the working picture has of this reference, high, low and list. It says no where the picture has none, and
@@ -24,6 +21,5 @@ fn has_node(picture: Nodes, reference: u64, node: Node) -> bool
 pub fn is_pictured(t: Pictures, reference: u64, node: Node) -> bool
     ensures { result ≡ is_pictured t.working reference node }
 {
-    let working = t.working;
-    has_node(working, reference, node)
+    has_node(t.working, reference, node)
 }

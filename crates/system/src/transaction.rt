@@ -2,40 +2,21 @@
 // `operations_of` is for programs, which make the list as an array and say how many of it are meant.
 ghost use Rattle.std.specs.Prelude.{◌≡◌, take};
 ghost use Rattle.blockcache.specs.Operations.{operation_call, operation_number};
-ghost use Rattle.blocksystem.specs.Joined.{settings_of};
 ghost use Rattle.blocksystem.specs.Names.{pictures_after};
 ghost use Rattle.blocksystem.specs.Operations.{joined_operations, joined_with, operations_pictures};
 
 use crate::Store;
 use crate::pictures::set_node;
-use blockcache::{Call, Operation, OperationsOutcome, Settings};
+use blockcache::{Call, Operation, OperationsOutcome};
 use blockdisk::{DiskCall, DiskOp};
 use blocksystem::{JoinedOperationsOutcome, Pictures};
-use cache::Cache;
-use disk::Disk;
-
-// The store's cache, with its device and the rule that the disk carries.
-fn cache_of(s: Store) -> Cache
-    ensures { result ≡ record { settings = settings_of s.device s.disk; state = s.cache } }
-{
-    Cache {
-        settings: Settings {
-            device: s.device,
-            rule: s.disk.rule,
-        },
-        state: s.cache,
-    }
-}
 
 // What the cache gives, joined with the disk, which is asked with no operation.
+#[tactic(auto, unfolding(blocksystem::specs::Operations::joined_with))]
 fn join_operations(s: Store, q: Call, o: OperationsOutcome) -> JoinedOperationsOutcome
     ensures { result ≡ joined_with s.device q o s.cache s.disk }
 {
-    let d = Disk {
-        device: s.device,
-        state: s.disk,
-    };
-    let x = d.next(DiskCall {
+    let x = s.on_disk().next(DiskCall {
         op: DiskOp::NoDiskOp,
         node: q.node,
         table: q.table,
@@ -57,12 +38,11 @@ fn join_operations(s: Store, q: Call, o: OperationsOutcome) -> JoinedOperationsO
 }
 
 impl Store {
+    #[tactic(auto, unfolding(blocksystem::specs::Operations::joined_operations))]
     pub fn operations(self, q: Call, list: &[Operation]) -> JoinedOperationsOutcome
         ensures { result ≡ joined_operations self.device q list.now self.cache self.disk }
     {
-        let c = cache_of(self);
-        let o = c.operations(q, list);
-        join_operations(self, q, o)
+        join_operations(self, q, self.in_cache().operations(q, list))
     }
 
     // The first n operations of an array, or all 40 where n is more. A list has at most 32, so one that is too long can be lent too. (An array
@@ -78,9 +58,7 @@ impl Store {
 fn pictured(t: Pictures, o: Operation) -> Pictures
     ensures { result ≡ pictures_after (operation_number o) (operation_call o) t }
 {
-    let r = o.reference as usize;
-    let node = o.node;
-    set_node(t, r, node)
+    set_node(t, o.reference as usize, o.node)
 }
 
 // Names and pictures after an accepted list: in list order.

@@ -1,6 +1,5 @@
 -- A scan that marks each location's block. Assumes nothing.
 use mathlib.Core.Path.{◌∙◌}
-use borrow.Author.Rules.{rules}
 use Rattle.bitmap.proofs.MarksMade.{scan_end, scan_none, scan_skip, scan_turn, table_scanned}
 use Rattle.bitmap.proofs.marking.table_marks.Goals as goal
 use Rattle.bitmap.proofs.marking.table_marks.Goals.{then-e, else-e}

@@ -1,6 +1,5 @@
 -- A scan that marks each write's block. Assumes nothing.
 use mathlib.Core.Path.{◌∙◌}
-use borrow.Author.Rules.{rules}
 use borrow.Author.Tests.{le-ltb, lt-ltb}
 use Rattle.bitmap.proofs.MarksMade.{scan_end, scan_none, scan_skip, scan_turn, writes_scanned}
 use Rattle.bitmap.proofs.marking.writes_marks.Goals as goal

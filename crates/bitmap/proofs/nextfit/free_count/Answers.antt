@@ -1,14 +1,7 @@
 -- The ones of the two words are the marked blocks. Assumes nothing.
 use native.Mathlib.Omega.{arith}
-use lib.Count.{ones-le}
 use Rattle.bitmap.proofs.MarksRead.{free_ones}
 use Rattle.bitmap.proofs.nextfit.free_count.Goals as goal
-
-pub overflow_cast-low : goal.overflow_cast-low
-overflow_cast-low c = record { fits = omega (arith, ones-le 64 c.args.m.low (omega arith)) }
-
-pub overflow_cast-high : goal.overflow_cast-high
-overflow_cast-high c = record { fits = omega (arith, ones-le 64 c.args.m.high (omega arith)) }
 
 pub overflow_add-result : goal.overflow_add-result
 overflow_add-result c = record { fits = omega (arith, free_ones c.args.m (omega arith) (omega arith)) }

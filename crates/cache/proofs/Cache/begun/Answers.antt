@@ -48,9 +48,9 @@ module _ (g : Settings) (c : CacheState) (q : Call) (n : ℕ) where
 pub returns-then-long : goal.returns-then-long
 returns-then-long c =
     let a = c.args in
-    begun_long a.self.settings a.self.state a.q a.length _ c.step-x.ensures c.if-long.true
+    rw c.number-answer.ensures (begun_long a.self.settings a.self.state a.q a.length _ c.step-refused.ensures c.if-long.true)
 
 pub returns-else-long : goal.returns-else-long
 returns-else-long c =
     let a = c.args in
-    begun_within a.self.settings a.self.state a.q a.length _ c.step-x.ensures c.if-long.false
+    begun_within a.self.settings a.self.state a.q a.length _ c.step-refused.ensures c.if-long.false

@@ -1,10 +1,7 @@
 -- Outside the limits: 1. Else by what Alloc's and Dirty's methods ensure of the operation's call. Assumes nothing.
 use mathlib.Core.Bool.{Bool, ◌&&◌, false, true}
 use mathlib.Core.Path.{◌∙◌, ◌≡◌, ap, subst}
-use native.Mathlib.Omega.{arith}
-use borrow.Author.Tests.{leb-true}
 use lib.Dec.{leb}
-use Rattle.base.proofs.Tests.{and_left}
 use Rattle.base.specs.Refusals.{answer}
 use Rattle.blockcache.specs.Operations.{operation_answer, operation_call, operation_form, operation_next}
 use Rattle.blockcache.specs.Step.{answered, outcome, past_gate}
@@ -32,34 +29,22 @@ module _ (g : Settings) (c : CacheState) (o : Operation) where
   unfolding operation_answer operation_next answer past_gate
   dirtied f a = rw (f, a)
 
-pub returns-then-not-good : goal.returns-then-not-good
-returns-then-not-good c =
+pub returns-then-not-o-formed : goal.returns-then-not-o-formed
+returns-then-not-o-formed c =
     let a = c.args in
-    let bad = subst (λ (b : Bool). (leb a.o.reference 63 && b) ≡ false) c.node_form-formed.ensures c.if-not-good.true in
-    c.answered.ensures ∙ outside a.self.settings a.self.state a.o (bad)
+    let bad = subst (λ (b : Bool). (leb a.o.reference 63 && b) ≡ false) c.node_form-formed.ensures c.if-not-o-formed.true in
+    outside a.self.settings a.self.state a.o (bad)
 
-pub alloc-requires : goal.alloc-requires
-alloc-requires c =
+pub returns-then-o : goal.returns-then-o
+returns-then-o c =
     let a = c.args in
-    let small = leb-true a.o.reference 63 (and_left (leb a.o.reference 63) _ (c.if-not-good.false)) in
-    rw c.operation_call-q.ensures (omega (arith, small))
-
-pub returns-then-alloc : goal.returns-then-alloc
-returns-then-alloc c =
-    let a = c.args in
-    let good = subst (λ (b : Bool). (leb a.o.reference 63 && b) ≡ true) c.node_form-formed.ensures c.if-not-good.false in
-    c.alloc.ensures ∙ ap (λ q. past_gate a.self.settings a.self.state q alloc_step) c.operation_call-q.ensures
-    ∙ allocated a.self.settings a.self.state a.o (good) c.if-alloc.true
-
-pub dirty-requires : goal.dirty-requires
-dirty-requires c =
-    let a = c.args in
-    let small = leb-true a.o.reference 63 (and_left (leb a.o.reference 63) _ (c.if-not-good.false)) in
-    rw c.operation_call-q.ensures (omega (arith, small))
+    let good = subst (λ (b : Bool). (leb a.o.reference 63 && b) ≡ true) c.node_form-formed.ensures c.if-not-o-formed.false in
+    c.alloc.ensures ∙ ap (λ q. past_gate a.self.settings a.self.state q alloc_step) c.operation_call.ensures
+    ∙ allocated a.self.settings a.self.state a.o (good) c.if-o.true
 
 pub returns : goal.returns
 returns c =
     let a = c.args in
-    let good = subst (λ (b : Bool). (leb a.o.reference 63 && b) ≡ true) c.node_form-formed.ensures c.if-not-good.false in
-    c.dirty.ensures ∙ ap (λ q. past_gate a.self.settings a.self.state q dirty_step) c.operation_call-q.ensures
-    ∙ dirtied a.self.settings a.self.state a.o (good) c.if-alloc.false
+    let good = subst (λ (b : Bool). (leb a.o.reference 63 && b) ≡ true) c.node_form-formed.ensures c.if-not-o-formed.false in
+    c.dirty.ensures ∙ ap (λ q. past_gate a.self.settings a.self.state q dirty_step) c.operation_call.ensures
+    ∙ dirtied a.self.settings a.self.state a.o (good) c.if-o.false

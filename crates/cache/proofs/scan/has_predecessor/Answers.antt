@@ -1,6 +1,5 @@
 -- Nested scans, left by the label at the first predecessor found. Assumes nothing.
 use mathlib.Core.Path.{◌∙◌, refl, sym}
-use borrow.Author.Rules.{rules}
 use Rattle.base.proofs.Scan.{some_at, some_end, some_none, some_turn}
 use Rattle.blockcache.specs.Scan.{has_predecessor}
 use Rattle.cache.proofs.scan.has_predecessor.Goals as goal

@@ -1,5 +1,5 @@
 -- Refused or accepted as the queue says. Assumes nothing.
-use mathlib.Core.Path.{◌∙◌, ◌≡◌, ap, refl, sym}
+use mathlib.Core.Path.{◌∙◌, ◌≡◌, refl, sym}
 use borrow.Author.Rules.{rules}
 use Rattle.std.specs.Prelude.{Err}
 use Rattle.blockdisk.specs.Ops.{node_not_stored, with_node_reads, with_queues}
@@ -10,10 +10,10 @@ pub returns-in_err-s : goal.returns-in_err-s
 unfolding node_not_stored
 returns-in_err-s c =
     let r : c.from_residual.result ≡ Err c.in_err-s.field-0.0 = search rules in
-    answered_no _ _ _ _ _ (rw (c.node_not_stored-wrong.ensures, c.node_at-stored.ensures, c.entry-asked.ensures) refl) (sym c.take.ensures ∙ c.in_err-s.was) r
+    answered_no _ _ _ _ _ (rw (c.not_stored-wrong.ensures, c.same_node.ensures, c.node_at-stored.ensures, c.entry-asked.ensures) refl) (sym c.take.ensures ∙ c.in_err-s.was) r
 
 pub returns : goal.returns
 unfolding node_not_stored
 returns c =
     let s = c.args.self.state in
-    answered_yes _ _ _ (λ q. with_queues s (with_node_reads s.queues q)) s (rw (c.node_not_stored-wrong.ensures, c.node_at-stored.ensures, c.entry-asked.ensures) refl) (sym c.take.ensures ∙ c.in_ok-s.was) refl
+    answered_yes _ _ _ (λ q. with_queues s (with_node_reads s.queues q)) s (rw (c.not_stored-wrong.ensures, c.same_node.ensures, c.node_at-stored.ensures, c.entry-asked.ensures) refl) (sym c.take.ensures ∙ c.in_ok-s.was) refl

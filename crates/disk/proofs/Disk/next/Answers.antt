@@ -2,7 +2,7 @@
 -- callees ensure of the two parts of the disk, the node and the table. Assumes nothing.
 use Prim.Native.Nat.{ℕ}
 use mathlib.Core.Bool.{◌&&◌, true}
-use mathlib.Core.Path.{◌≡◌, ◌∙◌, refl}
+use mathlib.Core.Path.{◌≡◌, refl}
 use Rattle.base.specs.Refusals.{answer}
 use Rattle.blockdisk.specs.Form.{disk_form}
 use Rattle.blockdisk.specs.Ops.{disk_step, op_outcome, settled_outcome}

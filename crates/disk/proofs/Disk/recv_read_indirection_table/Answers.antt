@@ -1,5 +1,5 @@
 -- Refused or accepted as the queue says. Assumes nothing.
-use mathlib.Core.Path.{◌∙◌, ◌≡◌, ap, refl, sym}
+use mathlib.Core.Path.{◌∙◌, ◌≡◌, refl, sym}
 use borrow.Author.Rules.{rules}
 use Rattle.std.specs.Prelude.{Err}
 use Rattle.blockdisk.specs.Ops.{with_queues, with_table_reads}

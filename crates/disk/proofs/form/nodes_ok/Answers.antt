@@ -1,6 +1,5 @@
 -- One scan keeps both flags and the running address (`running_addr`, on the device). Assumes nothing.
 use mathlib.Core.Path.{ap}
-use borrow.Author.Rules.{rules}
 use Rattle.base.proofs.Scan.{all_end, all_none, all_turn}
 use Rattle.blockdisk.specs.Form.{nodes_checked}
 use Rattle.disklayout.proofs.RunningAddr.{walk_first, walk_next, walk_fits}

@@ -1,8 +1,10 @@
 -- The part lies within the lent area, and is what was cut out of it. Assumes nothing.
 use lib.ListN.{length}
-use Rattle.journalrange.proofs.Parts.{front_fits}
+use Rattle.journalrange.proofs.Parts.{front_fits, place_told}
 use Rattle.journalarea.proofs.parts.front.Goals as goal
 
 pub cut_out-requires : goal.cut_out-requires
 cut_out-requires c =
-    let args = c.args in rw c.front_part-part.ensures (front_fits args.device (length args.area.now) args.start args.blocks)
+    let args = c.args in
+    rw (place_told c.front_part-part.result c.unwrap_or_default.ensures, c.front_part-part.ensures)
+    (front_fits args.device (length args.area.now) args.start args.blocks)

@@ -1,7 +1,20 @@
 -- By what the callee ensures of the part. Assumes nothing.
-use Rattle.journalrange.specs.Parts.{front_part}
+use mathlib.Core.Path.{◌∙◌, ap}
+use lib.ListN.{length}
+use Rattle.std.proofs.Common.{rules, of_calls}
+use Rattle.disklayout.specs.Device.{device_of}
+use Rattle.disklayout.specs.Journal.{journal_front_location, journal_front_requires}
+use Rattle.journalrange.specs.Parts.{part_number}
+use Rattle.journalrange.proofs.Parts.{number_of, number_told}
 use Rattle.journalarea.proofs.parts.front_result.Goals as goal
 
 pub returns : goal.returns
-unfolding front_part
-returns c = rw c.front_part-part.ensures
+returns c =
+    let args = c.args in
+    let device = device_of args.device in
+    number_of c.front_part.result
+    (λ p e. let h = rw e at c.map_or_else.ensures in search (rules, of_calls, h))
+    (λ r e. let h = rw e at c.map_or_else.ensures in search (rules, of_calls, h))
+    ∙ ap part_number c.front_part.ensures
+    ∙ number_told args.device (journal_front_requires device args.start) (length args.area.now)
+    (journal_front_location device args.start args.blocks)

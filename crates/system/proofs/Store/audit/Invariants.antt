@@ -8,6 +8,6 @@ use Rattle.system.proofs.Store.audit.Given as goal
 abbrev pub invariant-loop-i : goal.invariant-loop-i
 invariant-loop-i l =
     let x = read_table l.self.device l.records l.m.place in
-    (l.a ≡ count_below (λ k. is_lost (through_table l.self.device l.records x (entry_at x.table k)) (slot_at l.m.picture k)) l.i)
-    × (l.b ≡ count_below (λ k. is_added (through_table l.self.device l.records x (entry_at x.table k)) (slot_at l.m.picture k)) l.i)
-    × (l.c ≡ count_below (λ k. is_altered (through_table l.self.device l.records x (entry_at x.table k)) (slot_at l.m.picture k)) l.i)
+    (l.a ≡ count_below (λ k. is_lost (through_table l.self.device l.records x (entry_at x.held k)) (slot_at l.m.picture k)) l.i)
+    × (l.b ≡ count_below (λ k. is_added (through_table l.self.device l.records x (entry_at x.held k)) (slot_at l.m.picture k)) l.i)
+    × (l.c ≡ count_below (λ k. is_altered (through_table l.self.device l.records x (entry_at x.held k)) (slot_at l.m.picture k)) l.i)

@@ -13,16 +13,17 @@ returns-then-answer-ne0 c =
     let a = c.args in
     let b : c.if-number-eq-CRASH.b ≡ disk_asked a.self.device a.number a.q a.offered a.self.disk =
     elim c.if-number-eq-CRASH.branch [
-      | then-number-eq-CRASH w ↦ w.b-is ∙ simp (eq-eqb _ _ w.if-number-eq-CRASH.true) w.crash-b.ensures
-      | else-number-eq-CRASH w ↦ w.b-is ∙ simp (ne_eqb _ _ w.if-number-eq-CRASH.false) (rw w.disk_call.ensures at w.next-b.ensures)
+      | then-number-eq-CRASH w ↦ w.b-is ∙ simp (eq-eqb _ _ w.if-number-eq-CRASH.true) (rw c.on_disk-d.ensures at w.crash-b.ensures)
+      | else-number-eq-CRASH w ↦ w.b-is ∙ simp (ne_eqb _ _ w.if-number-eq-CRASH.false) (rw (c.on_disk-d.ensures, w.disk_call.ensures) at w.next-b.ensures)
     ] in
     let n : c.if-number-eq-START.n20 ≡ answer (start_rows a.self.device a.number a.q a.self.disk) =
     elim c.if-number-eq-START.branch [
-      | then-number-eq-START w ↦ w.n20-is ∙ simp w.if-number-eq-START.true w.ask_start-n20.ensures
+      | then-number-eq-START w ↦ w.n20-is ∙ simp w.if-number-eq-START.true (rw c.on_disk-d.ensures at w.ask_start-n20.ensures)
       | else-number-eq-START w ↦ w.n20-is ∙ simp (ne_eqb _ _ w.if-number-eq-START.false)
     ] in
-    let e = simp (c.lower-answer.ensures, c.lower.ensures, n, b, c.step-a.ensures) at c.if-answer-ne0.true in
-    simp (c.zero_node.ensures, c.lower-answer.ensures, c.lower.ensures, n, b, c.step-a.ensures, ne_eqb _ _ e)
+    let s = rw c.in_cache-c.ensures at c.step-a.ensures in
+    let e = simp (c.lower-answer.ensures, c.lower.ensures, n, b, s) at c.if-answer-ne0.true in
+    simp (c.zero_node.ensures, c.on_disk-d.ensures, c.in_cache-c.ensures, c.lower-answer.ensures, c.lower.ensures, n, b, s, ne_eqb _ _ e)
 
 pub returns : goal.returns
 unfolding answer disk_asked joined joined_answer
@@ -30,13 +31,14 @@ returns c =
     let a = c.args in
     let b : c.if-number-eq-CRASH.b ≡ disk_asked a.self.device a.number a.q a.offered a.self.disk =
     elim c.if-number-eq-CRASH.branch [
-      | then-number-eq-CRASH w ↦ w.b-is ∙ simp (eq-eqb _ _ w.if-number-eq-CRASH.true) w.crash-b.ensures
-      | else-number-eq-CRASH w ↦ w.b-is ∙ simp (ne_eqb _ _ w.if-number-eq-CRASH.false) (rw w.disk_call.ensures at w.next-b.ensures)
+      | then-number-eq-CRASH w ↦ w.b-is ∙ simp (eq-eqb _ _ w.if-number-eq-CRASH.true) (rw c.on_disk-d.ensures at w.crash-b.ensures)
+      | else-number-eq-CRASH w ↦ w.b-is ∙ simp (ne_eqb _ _ w.if-number-eq-CRASH.false) (rw (c.on_disk-d.ensures, w.disk_call.ensures) at w.next-b.ensures)
     ] in
     let n : c.if-number-eq-START.n20 ≡ answer (start_rows a.self.device a.number a.q a.self.disk) =
     elim c.if-number-eq-START.branch [
-      | then-number-eq-START w ↦ w.n20-is ∙ simp w.if-number-eq-START.true w.ask_start-n20.ensures
+      | then-number-eq-START w ↦ w.n20-is ∙ simp w.if-number-eq-START.true (rw c.on_disk-d.ensures at w.ask_start-n20.ensures)
       | else-number-eq-START w ↦ w.n20-is ∙ simp (ne_eqb _ _ w.if-number-eq-START.false)
     ] in
-    let e = simp (c.lower-answer.ensures, c.lower.ensures, n, b, c.step-a.ensures) at c.if-answer-ne0.false in
-    simp (e, b, c.step-a.ensures)
+    let s = rw c.in_cache-c.ensures at c.step-a.ensures in
+    let e = simp (c.lower-answer.ensures, c.lower.ensures, n, b, s) at c.if-answer-ne0.false in
+    simp (e, b, s)

@@ -1,14 +1,19 @@
--- A scan with a flag. Assumes nothing.
-use Rattle.base.proofs.Scan.{all_end, all_none, all_turn}
-use Rattle.blocksystem.specs.Start.{graph_stored}
+-- A chain over the entries. Assumes nothing.
+use mathlib.Core.Path.{◌∙◌, ◌≡◌}
+use borrow.Author.Rules.{rules}
+use lib.ListN.{length}
+use Rattle.std.proofs.lemmas.Iterator.{YieldsList-from_slice}
+use Rattle.std.proofs.lemmas.Iterator.Search.{all_from_yields_List}
+use Rattle.base.proofs.Chains.{all_is_all_of}
+use Rattle.base.proofs.Lists.{unmapped}
+use Rattle.sectortype.specs.Form.{default_entry}
+use Rattle.blocksystem.specs.Start.{graph_stored, ref_agrees}
 use Rattle.system.proofs.start.graph_stored.Goals as goal
-
-pub loop-e-init : goal.loop-e-init
-loop-e-init c = all_none _
-
-pub loop-e-preserved : goal.loop-e-preserved
-loop-e-preserved c = all_turn _ _ c.loop-e.invariant c.ref_agrees-good.ensures
 
 pub returns : goal.returns
 unfolding graph_stored
-returns c = all_end _ c.loop-e.invariant c.loop-e.auto.e-index-end c.loop-e-test.false
+returns c =
+    let a = c.args in
+    let l : length a.t.entries ≡ 64 = search (rules, unmapped) in
+    all_from_yields_List (ref_agrees a.device a.r a.t) _ _ _ c.all.ensures.ran (YieldsList-from_slice a.t.entries cc) (λ x b q k. search rules)
+    ∙ all_is_all_of (ref_agrees a.device a.r a.t) default_entry 64 a.t.entries l
