@@ -12,25 +12,24 @@ HERE = pathlib.Path(__file__).parent
 data = json.loads(subprocess.run(["python3", "/opt/rattle/port/contracts.py", OLD, NEW, "--json"], capture_output=True, text=True).stdout)
 
 
-def heads(root):
-    """Each public function's signature and clauses, as one line."""
-    found = {}
+def found(root, pattern, name, text):
+    """What matches in the sources, comments left out: by crate and name, each as one line."""
+    places = {}
     for file in sorted(pathlib.Path(root, "crates").glob("*/src/*.rt")):
-        crate = file.parts[-3]
-        text = re.sub(r"^\s*//.*\n", "", file.read_text(), flags=re.M)
-        for m in re.finditer(r"^( *)pub (?:extern \"C\" )?fn (\w+).*?(?=\n\1\{| \{\n)", text, re.S | re.M):
-            found.setdefault((crate, m.group(2)), []).append(" ".join(m.group(0).split()))
-    return found
+        code = re.sub(r"^\s*//.*\n", "", file.read_text(), flags=re.M)
+        for m in re.finditer(pattern, code, re.S | re.M):
+            places.setdefault((file.parts[-3], m.group(name)), []).append(" ".join(m.group(text).split()))
+    return places
+
+
+def heads(root):
+    """Each public function's signature and clauses."""
+    return found(root, r"^( *)pub (?:extern \"C\" )?fn (\w+).*?(?=\n\1\{| \{\n)", 2, 0)
 
 
 def types(root):
-    found = {}
-    for file in sorted(pathlib.Path(root, "crates").glob("*/src/*.rt")):
-        crate = file.parts[-3]
-        text = re.sub(r"^\s*//.*\n", "", file.read_text(), flags=re.M)
-        for m in re.finditer(r"((?:#\[derive[^\n]*\]\n)*)(pub (?:struct|enum) (\w+)[^{;]*\{.*?^\})", text, re.S | re.M):
-            found[(crate, m.group(3))] = " ".join((m.group(1) + m.group(2)).split())
-    return found
+    """Each public type with its derives."""
+    return found(root, r"(?:#\[derive[^\n]*\]\n)*pub (?:struct|enum) (\w+)[^{;]*\{.*?^\}", 1, 0)
 
 
 old, new = heads(OLD), heads(NEW)
@@ -55,8 +54,8 @@ old, new = types(OLD), types(NEW)
 for key in sorted(set(old) | set(new)):
     if old.get(key) != new.get(key):
         print("- %s %s" % key)
-        print("  - old `%s`" % old.get(key, "none"))
-        print("  - new `%s`" % new.get(key, "none"))
+        print("  - old `%s`" % "; ".join(old.get(key, ["none"])))
+        print("  - new `%s`" % "; ".join(new.get(key, ["none"])))
 print("\n### Definitions that went\n")
 print(", ".join("%s `%s`" % tuple(x) for x in data["definitions"]["gone"]))
 print("\n### Definitions\n")

@@ -40,8 +40,8 @@ part_number (code.Err e) = part_refused_number e
 -- `bytes` bytes are lent
 unfoldable pub part_rows : ℕ → Bool → ℕ → List Row
 part_rows d pre bytes =
-    (part_refused_number Undefined when not (made d && pre)) ∷
-    (part_refused_number OtherLength when not (eqb bytes (journal_length (device_of d)))) ∷
+    (1 when not (made d && pre)) ∷
+    (23 when not (eqb bytes (journal_length (device_of d)))) ∷
     []
 
 -- of the range of n blocks from block s on; the front takes any n
