@@ -21,7 +21,7 @@ fn table_record_ok(device: u64, k: u64, r: &Record<Table>) -> Checked
     let empty = sector::loc_zero(r.loc) & (r.held.count == 0);
     Checked {
         form: sector::table_form(r.held) & (r.present | empty),
-        placed: !r.present | layout::table_place_in(device, k, r.loc).unwrap_or(false),
+        placed: !r.present || layout::table_place_in(device, k, r.loc).unwrap_or(false),
     }
 }
 

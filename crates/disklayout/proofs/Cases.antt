@@ -9,9 +9,8 @@ use Prim.Native.Nat.{ℕ, ◌^◌}
 use lib.Dec.{ltb}
 use Rattle.disklayout.specs.declared.Device.{Device}
 use Rattle.disklayout.specs.declared.Location.{Location}
-use Rattle.std.specs.Prelude.{None}
 use Rattle.std.specs.Result.{result_unwrap_or}
-use Rattle.disklayout.specs.Calls.{answered, answered_if, answer_number}
+use Rattle.disklayout.specs.Calls.{answered, answered_if, answer_number, kind_or_none}
 use Rattle.disklayout.specs.Device.{device_of, devices}
 use Rattle.disklayout.specs.Blocks.{first_node_addr, node_blocks_end, node_block_of}
 use Rattle.disklayout.specs.Layout.{indirection_table1_addr, indirection_table2_addr, journal_end_addr, journal_start_addr}
@@ -52,7 +51,7 @@ ask (pos_add s n) =
     let r = answered_if 0 (ltb (journal_pos_add (device_of 0) s n) (2 ^ 64)) (journal_pos_add (device_of 0) s n) in
     returns (answer_number r) (result_unwrap_or r 0)
 ask (kind_on d l) =
-    let r = answered d (kind_of (device_of d) l) in returns (answer_number r) (kind_number (result_unwrap_or r None))
+    let k = kind_of (device_of d) l in returns (answer_number (answered d k)) (kind_number (kind_or_none d k))
 ask (block_on d a) = block (node_block_of (device_of d) a)
 
 infix 40 ◌gives◌

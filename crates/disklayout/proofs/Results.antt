@@ -4,12 +4,13 @@ use mathlib.Core.Bool.{Bool, true, false}
 use mathlib.Core.Logic.{◌↔◌}
 use Prim.Native.Nat.{ℕ, ◌≤◌}
 use borrow.Author.Tests.{leb-true, le-leb}
-use Rattle.std.specs.Prelude.{Ok, Err}
+use Rattle.std.specs.Prelude.{Option, None, Ok, Err}
 use Rattle.std.specs.Result.{result_unwrap_or}
 use Rattle.base.proofs.Tests.{and_iff, split}
+use Rattle.disklayout.specs.declared.Kind.{Kind}
 use Rattle.disklayout.specs.declared.Refused.{Refused}
 use Rattle.disklayout.specs.declared.Refused.TheVariants.{Undefined}
-use Rattle.disklayout.specs.Calls.{answered, answered_if, holds_on, number_on}
+use Rattle.disklayout.specs.Calls.{answered, answered_if, holds_on, kind_or_none, number_on}
 use Rattle.disklayout.specs.Device.{made}
 
 pub made_iff : (d : ℕ) → (made d ≡ true) ↔ (d ≤ 2)
@@ -25,6 +26,9 @@ module _ (d : ℕ) where
 
   pub answered_number : (v : ℕ) → result_unwrap_or (answered d v) 0 ≡ number_on d v
   answered_number v = split (made d) (λ t. rw t) (λ f. rw f)
+
+  pub answered_kind : (k : Option Kind) → result_unwrap_or (answered d k) None ≡ kind_or_none d k
+  answered_kind k = split (made d) (λ t. rw t) (λ f. rw f)
 
   module _ {A : Type 0} (v : A) where
     pub answered_made : made d ≡ true → answered d v ≡ Ok v

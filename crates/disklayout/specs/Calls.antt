@@ -1,6 +1,7 @@
 -- What a layout call returns: its result, or the refusal where the device is not made or the test of what upstream requires, `pre`, fails.
 use Rattle.std.specs.Prelude.{Bool, ◌&&◌, cond, ℕ, Option, Some, None, Result, Ok, Err}
 use Rattle.std.proofs.Math.Option as maybe
+use Rattle.disklayout.specs.declared.Kind.{Kind}
 use Rattle.disklayout.specs.declared.Location.{Location}
 use Rattle.disklayout.specs.declared.Refused.{Refused}
 use Rattle.disklayout.specs.declared.Refused.TheVariants.{Undefined}
@@ -28,7 +29,7 @@ answered d v = answered_when (made d) v
 abbrev pub answered_if : {A : Type 0} → ℕ → Bool → A → Result A Refused
 answered_if d pre v = answered_when (made d && pre) v
 
--- FOR WHOEVER TAKES A REFUSAL FOR NO, OR FOR 0 (`answered_yes` and `answered_number`, proofs/Results.antt)
+-- FOR WHOEVER TAKES A REFUSAL FOR NO, FOR 0, OR FOR NO KIND (`answered_yes`, `answered_number` and `answered_kind`, proofs/Results.antt)
 
 -- the question is answered by yes
 abbrev pub holds_on : ℕ → Bool → Bool
@@ -36,6 +37,9 @@ holds_on d b = made d && b
 
 abbrev pub number_on : ℕ → ℕ → ℕ
 number_on d v = cond (made d) v 0
+
+abbrev pub kind_or_none : ℕ → Option Kind → Option Kind
+kind_or_none d k = cond (made d) k None
 
 -- THE NUMBER OF AN ANSWER: 0, or 01's number of the refusal
 

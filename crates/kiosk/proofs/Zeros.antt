@@ -4,12 +4,11 @@ use mathlib.Core.Bool.{Bool}
 use mathlib.Core.Option.{none}
 use Prim.Native.Nat.{ℕ}
 use Rattle.std.specs.Prelude as result
-use Rattle.std.specs.Result.{result_unwrap_or}
 use Rattle.base.specs.Refusals.{answer}
 use Rattle.base.specs.Scan.{bit}
 use Rattle.base.proofs.Tests.{split}
 use Rattle.disklayout.specs.declared.Kind.{Kind}
-use Rattle.disklayout.specs.Calls.{answer_number, answered, holds_on, number_on}
+use Rattle.disklayout.specs.Calls.{answer_number, answered, holds_on, kind_or_none, number_on}
 use Rattle.disklayout.specs.Device.{device_of, made}
 use Rattle.disklayout.specs.Journal.{journal_front_location, journal_front_requires, journal_back_location, journal_back_requires}
 use Rattle.disklayout.specs.Kinds.{kind_number}
@@ -19,8 +18,7 @@ use Rattle.journalrange.proofs.Parts.{Zeros, refused_zeros, absent_zeros}
 -- OF A REFUSED QUESTION
 
 module _ (d : ℕ) where
-  pub place_refused : (k : result.Option Kind) → (answer_number (answered d k) ≡ 0 → ⊥) →
-      kind_number (result_unwrap_or (answered d k) result.None) ≡ 0
+  pub place_refused : (k : result.Option Kind) → (answer_number (answered d k) ≡ 0 → ⊥) → kind_number (kind_or_none d k) ≡ 0
   unfolding kind_number
   place_refused k ne = split (made d) (λ t. absurd (ne (rw t))) (λ f. rw f)
 

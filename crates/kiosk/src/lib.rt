@@ -4,11 +4,10 @@
 // compares it with this file: C looks at the order of the arguments alone, and no contract says what it is. No function has a `requires`.
 #![tactic(auto)]
 
-ghost use Rattle.std.specs.Prelude.{◌≡◌, None};
-ghost use Rattle.std.specs.Result.{result_unwrap_or};
+ghost use Rattle.std.specs.Prelude.{◌≡◌};
 ghost use Rattle.base.specs.Refusals.{answer};
 ghost use Rattle.base.specs.Scan.{bit};
-ghost use Rattle.disklayout.specs.Calls.{answer_number, answered, holds_on, number_on};
+ghost use Rattle.disklayout.specs.Calls.{answer_number, answered, holds_on, kind_or_none, number_on};
 ghost use Rattle.disklayout.specs.Device.{device_of};
 ghost use Rattle.disklayout.specs.Kinds.{kind_number, kind_of};
 ghost use Rattle.disklayout.specs.Layout.{other_indirection_table_addr, overlap};
@@ -45,9 +44,10 @@ pub extern "C" fn layout_place_result(device: u64, addr: u64, len: u64) -> u64
 }
 
 // The number of its kind: 1 and 2 the superblocks, 3 journal, 4 table, 5 node; 0 where it is of none.
+#[tactic(auto, using(disklayout::proofs::Results::answered_kind))]
 #[unsafe(no_mangle)]
 pub extern "C" fn layout_place_kind(device: u64, addr: u64, len: u64) -> u64
-    ensures { result ≡ kind_number (result_unwrap_or (answered device (kind_of (device_of device) (at addr len))) None) }
+    ensures { result ≡ kind_number (kind_or_none device (kind_of (device_of device) (at addr len))) }
 {
     let kind = layout::kind_of(device, place(addr, len)).unwrap_or(None);
     layout::kind_number(kind)

@@ -1,16 +1,21 @@
 // What a place is (document 02, Q-5): the one question that stands for upstream's five, on a row and as a call. The tests of single
 // kinds are private: whoever wants to know what a place is asks for its kind, a walk over the blocks for the kind at a node address.
-ghost use Rattle.std.specs.Prelude.{◌≡◌};
+ghost use Rattle.std.specs.Prelude.{None, ◌≡◌, eqb};
+ghost use Rattle.std.specs.Result.{result_unwrap_or};
 ghost use Rattle.disklayout.specs.Calls.{answered, holds_on};
 ghost use Rattle.disklayout.specs.Device.{device_of};
 ghost use Rattle.disklayout.specs.Kinds.{kind_of, kind_at_node, kind_holds, kind_number};
 ghost use Rattle.disklayout.specs.Layout.{valid_journal_location, valid_indirection_table_location};
-ghost use Rattle.disklayout.specs.Layout.{valid_superblock_location, valid_location};
+ghost use Rattle.disklayout.specs.Layout.{same_loc, valid_superblock_location, valid_location};
 
 use crate::areas::{JOURNAL_START, PAGE, SUPERBLOCK1, SUPERBLOCK2};
 use crate::rows::{GoodRow, row};
 use crate::sums::sum_within;
 use disklayout::{Kind, Location, Refused};
+
+pub const TABLE_KIND: u64 = 4;
+
+pub const NODE_KIND: u64 = 5;
 
 // Document 02's number of a kind: 1 to 5, and 0 for none.
 #[tactic(auto, unfolding(disklayout::specs::Kinds::kind_number))]
@@ -21,8 +26,8 @@ pub fn kind_number(kind: Option<Kind>) -> u64
         Some(Kind::Superblock1) => 1,
         Some(Kind::Superblock2) => 2,
         Some(Kind::Journal) => 3,
-        Some(Kind::Table) => 4,
-        Some(Kind::Node) => 5,
+        Some(Kind::Table) => TABLE_KIND,
+        Some(Kind::Node) => NODE_KIND,
         None => 0,
     }
 }
@@ -103,6 +108,20 @@ pub fn is_kind(device: u64, loc: Location, kind: Kind) -> bool
     ensures { result ≡ holds_on device (kind_holds kind (device_of device) loc) }
 {
     kind_of(device, loc) == Ok(Some(kind))
+}
+
+// Whether an answer of `kind_of` is the kind that has this number; a refused one is kind 0, none, and no kind has a number above 5.
+pub fn is_kind_number(asked: Result<Option<Kind>, Refused>, number: u64) -> bool
+    ensures { result ≡ eqb (kind_number (result_unwrap_or asked None)) number }
+{
+    kind_number(asked.unwrap_or(None)) == number
+}
+
+// Equality of places, address and length: the `==` that they derive.
+pub fn same_loc(a: Location, b: Location) -> bool
+    ensures { result ≡ same_loc a b }
+{
+    a == b
 }
 
 // Of one superblock or the other.

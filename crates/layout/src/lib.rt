@@ -1,7 +1,8 @@
 // Upstream's DiskLayout: where on a device the superblocks, the journal, the two table areas and the node blocks lie, and which
 // places are valid. Each function and predicate of the module is a call that names its device, but for the five predicates of a place's
 // kind, which are one call, `kind_of`. A call returns its result, or refuses: a device above 2, a failed upstream `requires`, a result past
-// 64 bits. `is_kind` takes a refusal for no; the number of a kind asks about nothing on a device and names none. No call has a `requires`.
+// 64 bits. `is_kind` takes a refusal for no. Tests on values, a kind's number and the equality of places, name no device. No call has a
+// `requires`.
 #![tactic(auto)]
 
 mod areas;
@@ -27,4 +28,7 @@ pub use journal::{
     journal_pos_add, journal_range_location, loc_contained_in_circular_journal_range,
     loc_disjoint_from_circular_journal_range,
 };
-pub use kinds::{is_kind, kind_number, kind_of, valid_location, valid_superblock_location};
+pub use kinds::{
+    NODE_KIND, TABLE_KIND, is_kind, is_kind_number, kind_number, kind_of, same_loc, valid_location,
+    valid_superblock_location,
+};

@@ -56,4 +56,4 @@ pub use formatting::format_pictures;
 pub use joined::{CRASH, READ, TRANSACTION};
 pub use pictures::pictures_after;
 pub use screen::is_pictured;
-pub use transaction::pictures_after_operations;
+pub use transaction::{pictures_after_operations, pictures_after_operations_of};

@@ -71,3 +71,10 @@ pub fn pictures_after_operations(t: Pictures, list: &[Operation]) -> Pictures
     }
     after
 }
+
+// The same of the first n operations of an array, or of all 40 where n is more, as `operations_of` takes them.
+pub fn pictures_after_operations_of(t: Pictures, list: [Operation; 40], n: usize) -> Pictures
+    ensures { result ≡ operations_pictures (take n list) t }
+{
+    pictures_after_operations(t, &list[..n.min(40)])
+}
