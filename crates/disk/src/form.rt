@@ -15,6 +15,7 @@ use sectortype::{Node, Table};
 
 // One record of area k: an absent one is zeros, one that is there lies in the area.
 #[tactic(auto, using(disklayout::proofs::Results::answered_yes), unfolding(blockdisk::specs::Form::table_record_checked))]
+#[inline(always)]
 fn table_record_ok(device: u64, k: u64, r: &Record<Table>) -> Checked
     ensures { result ≡ table_record_checked device k r.now }
 {
@@ -26,6 +27,7 @@ fn table_record_ok(device: u64, k: u64, r: &Record<Table>) -> Checked
 }
 
 // One record, of whichever of the 128 blocks begins at `at`, likewise.
+#[inline(always)]
 fn node_record_ok(device: u64, at: u64, r: &Record<Node>) -> Checked
     ensures { (k : ℕ) → k < 128 → at ≡ running_on device k → result ≡ node_record_checked device k r.now }
 {

@@ -64,6 +64,7 @@ fn number(refusal: DiskRefusal) -> u64
 }
 
 // What an operation gives, as the outcome of its call.
+#[inline(always)]
 fn settled(next: Result<DiskState, DiskRefusal>, old: DiskState) -> DiskOutcome
     ensures { result ≡ settled_outcome next old }
 {

@@ -30,6 +30,7 @@ pub struct Store {
 
 impl Store {
     // The cache, with the device and the rule that the disk carries.
+    #[inline(always)]
     fn in_cache(&self) -> Cache
         ensures { result ≡ record { settings = settings_of self.now.device self.now.disk; state = self.now.cache } }
     {
@@ -42,6 +43,7 @@ impl Store {
         }
     }
 
+    #[inline(always)]
     fn on_disk(&self) -> Disk
         ensures { result ≡ record { device = self.now.device; state = self.now.disk } }
     {
