@@ -13,7 +13,7 @@ use Rattle.journalrange.specs.declared.PartRefused.TheVariants.{OtherLength}
 use Rattle.base.proofs.Tests.{and_both, split}
 use Rattle.disklayout.specs.declared.Refused.{Refused}
 use Rattle.disklayout.specs.declared.Refused.TheVariants as layout
-use Rattle.disklayout.specs.Calls.{answered, answered_when, told}
+use Rattle.disklayout.specs.Calls.{answered, answered_when, number_on, told}
 use Rattle.disklayout.specs.Device.{device_of, made}
 use Rattle.disklayout.specs.Layout.{journal_start_addr, journal_end_addr}
 use Rattle.journalrange.specs.Parts.{journal_length, located, part_at, part_of, untold}
@@ -26,6 +26,11 @@ length_ends d = omega arith
 
 pub length_told : (d : ℕ) → journal_end_addr (device_of d) - journal_start_addr ≡ journal_length (device_of d)
 length_told d = omega arith
+
+-- the same of what the layout tells of a device by its number: 0 of each where the device is not made
+pub length_on : (d : ℕ) →
+    number_on d (journal_end_addr (device_of d)) - number_on d journal_start_addr ≡ number_on d (journal_length (device_of d))
+length_on d = split (made d) (λ t. rw t (omega arith)) (λ f. rw f)
 
 -- THE PART, by what the layout's call tells of its location
 
