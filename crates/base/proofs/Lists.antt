@@ -1,11 +1,15 @@
--- Laws of a list with one element more or one less. Assumes nothing.
+-- Laws of a list with one element more or one less, and of a loop that fills an array. Assumes nothing.
 use mathlib.Core.Path.{◌≡◌, refl, ap, sym, ◌∙◌}
 use mathlib.Core.List.{List, [], ◌∷◌, ◌++◌, map}
-use Prim.Native.Nat.{ℕ, zero, suc, ◌-◌, ◌<◌, ◌≤◌}
+use Prim.Native.Nat.{ℕ, zero, suc, ◌+◌, ◌-◌, ◌<◌, ◌≤◌}
 use native.Mathlib.Nat.{le_of_suc-le-suc, not-suc-le-zero}
 use native.Mathlib.Omega.{arith}
-use lib.ListN.{length, get_or, length-map}
+use lib.Dec.{ltb}
+use borrow.Author.Tests.{ltb-true, ltb-false}
+use lib.ListN.{length, get_or, set, length-map}
+use lib.Seq.{get_or-set_same, get_or-set_other, ext_get_or}
 use Rattle.base.specs.Lists.{opened, closed}
+use Rattle.base.proofs.Tests.{split}
 
 module _ {A : Type 0} where
   pub length_opened : (l : List A) (p : ℕ) (w : A) → p ≤ length l → length (opened l p w) ≡ suc (length l)
@@ -66,6 +70,19 @@ module _ {A : Type 0} where
   get_d_pad [] d (suc k) = refl
   get_d_pad (x ∷ xs) d zero = refl
   get_d_pad (x ∷ xs) d (suc k) = get_d_pad xs d k
+
+  -- A loop that fills an array toward the list t: after a turn, and at its end.
+  pub fill_turn : (t : List A) (d : A) (l : List A) (i : ℕ) (v : A) → i < length l → ((k : ℕ) → k < i → get_or l k d ≡ get_or t k d) →
+      v ≡ get_or t i d →
+      (k : ℕ) → k < i + 1 → get_or (set l i v) k d ≡ get_or t k d
+  fill_turn t d l i v b h e k a =
+      split (ltb k i)
+      (λ y. let m : k < i = ltb-true k i y in get_or-set_other l i k v d (λ q. omega arith) ∙ h k m)
+      (λ y. let m : i ≤ k = ltb-false k i y in let q : k ≡ i = omega arith in rw q (get_or-set_same l i v d b ∙ e))
+
+  pub fill_end : (t : List A) (d : A) (l : List A) {i n : ℕ} → length l ≡ n → length t ≡ n →
+      ((k : ℕ) → k < i → get_or l k d ≡ get_or t k d) → n ≤ i → l ≡ t
+  fill_end t d l {i} {n} u v h b = ext_get_or d l t (u ∙ sym v) (λ k a. h k (omega arith))
 
 -- the length of an array of structs that is a field of a parameter: `search (needs, unmapped)`
 pub unmapped : (X Y : Type 0) (f : X → Y) (l : List X) (n : ℕ) → length (map f l) ≡ n → length l ≡ n

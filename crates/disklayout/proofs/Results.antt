@@ -1,7 +1,8 @@
 -- What a result says where the device is made, and where it is not. Assumes nothing.
-use mathlib.Core.Path.{◌≡◌}
-use mathlib.Core.Bool.{Bool, true, false}
+use mathlib.Core.Path.{◌≡◌, refl}
+use mathlib.Core.Bool.{Bool, true, false, cond}
 use mathlib.Core.Logic.{◌↔◌}
+use mathlib.Core.Option as maybe
 use Prim.Native.Nat.{ℕ, ◌≤◌}
 use borrow.Author.Tests.{leb-true, le-leb}
 use Rattle.std.specs.Prelude.{Option, None, Ok, Err}
@@ -10,11 +11,17 @@ use Rattle.base.proofs.Tests.{and_iff, split}
 use Rattle.disklayout.specs.declared.Kind.{Kind}
 use Rattle.disklayout.specs.declared.Refused.{Refused}
 use Rattle.disklayout.specs.declared.Refused.TheVariants.{Undefined}
-use Rattle.disklayout.specs.Calls.{answered, answered_if, holds_on, kind_or_none, number_on}
+use Rattle.disklayout.specs.Calls.{answered, answered_if, answered_when, holds_on, kind_or_none, number_on, told}
 use Rattle.disklayout.specs.Device.{made}
 
 pub made_iff : (d : ℕ) → (made d ≡ true) ↔ (d ≤ 2)
 made_iff d = (leb-true d 2, le-leb d 2)
+
+-- an option that is handed on where ok holds
+pub option_handed : (ok : Bool) (o : maybe.Option ℕ) →
+    cond ok (answered_when true (told o)) (answered_when false (told maybe.none)) ≡ answered_when ok (told o)
+option_handed true o = refl
+option_handed false o = refl
 
 module _ (d : ℕ) where
   -- a question passes where the device is made and the answer is yes
