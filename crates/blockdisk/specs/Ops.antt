@@ -148,6 +148,11 @@ abbrev pub settled_outcome : Result DiskState DiskRefusal → DiskState → Disk
 settled_outcome (Ok next) old = record { answer = 0; disk = next }
 settled_outcome (Err e) old = record { answer = refusal_number e; disk = old }
 
+-- of one that changes the disk in place: `next` is what the disk is after it
+abbrev pub moved_outcome : {A : Type 0} → Result A DiskRefusal → DiskState → DiskState → DiskOutcome
+moved_outcome (Ok a) next old = settled_outcome (Ok next) old
+moved_outcome (Err e) next old = settled_outcome (Err e) old
+
 abbrev pub disk_rows : ℕ → DiskState → DiskCall → List Row
 disk_rows d s c = (1 when not (disk_form d s && node_form c.node && table_form c.table)) ∷ op_rows d s c.op c.node c.table
 

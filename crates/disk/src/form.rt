@@ -13,7 +13,8 @@ use disklayout::{Kind, Location};
 use queue::{Request, Requests};
 use sectortype::{Node, Table};
 
-// One record of area k: an absent one is zeros, one that is there lies in the area.
+// One record of area k: an absent one is zeros, one that is there lies in the area; an absent one isn't asked for its place. Inlined, as a call
+// of its own would copy the table.
 #[tactic(auto, using(disklayout::proofs::Results::answered_yes), unfolding(blockdisk::specs::Form::table_record_checked))]
 #[inline(always)]
 fn table_record_ok(device: u64, k: u64, r: &Record<Table>) -> Checked
@@ -26,7 +27,7 @@ fn table_record_ok(device: u64, k: u64, r: &Record<Table>) -> Checked
     }
 }
 
-// One record, of whichever of the 128 blocks begins at `at`, likewise.
+// One record, of whichever of the 128 blocks begins at `at`, likewise; inlined too, as it is asked 128 times for a call.
 #[inline(always)]
 fn node_record_ok(device: u64, at: u64, r: &Record<Node>) -> Checked
     ensures { (k : ℕ) → k < 128 → at ≡ running_on device k → result ≡ node_record_checked device k r.now }

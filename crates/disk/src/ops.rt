@@ -1,14 +1,14 @@
 // Upstream's transitions of the disk: four requests, four answers, no operation. The entry judges the written form once, before all.
-// A transition takes the disk by value and returns the answer's number and the state.
+// A transition changes the disk in place, or tells why it is refused.
 ghost use Rattle.std.specs.Prelude.{◌&&◌, not, ◌≡◌};
 ghost use Rattle.sectortype.specs.Form.{zero_node, empty_table};
-ghost use Rattle.blockdisk.specs.Ops.{request_of, request_outcome, answer_outcome, refusal_number, settled_outcome, something_in, op_outcome};
+ghost use Rattle.blockdisk.specs.Ops.{request_of, request_outcome, answer_outcome, refusal_number, moved_outcome, something_in, op_outcome};
 ghost use Rattle.blockdisk.specs.Ops.{disk_step};
 
 use crate::Disk;
 use crate::form::{disk_ok, node_allowed, queues_ok, records_ok, table_allowed};
 use crate::read::{node_at, table_at, with_node, with_table};
-use blockdisk::{Brought, DiskCall, DiskOp, DiskOutcome, DiskRefusal, DiskState, Record};
+use blockdisk::{Brought, DiskCall, DiskOp, DiskOutcome, DiskRefusal, Record};
 use disklayout::Location;
 use queue::{Request, Requests};
 use sectortype::{Node, Table};
@@ -63,20 +63,6 @@ fn number(refusal: DiskRefusal) -> u64
     }
 }
 
-// What an operation gives, as the outcome of its call.
-#[inline(always)]
-fn settled(next: Result<DiskState, DiskRefusal>, old: DiskState) -> DiskOutcome
-    ensures { result ≡ settled_outcome next old }
-{
-    match next {
-        Ok(disk) => DiskOutcome { answer: 0, disk },
-        Err(refusal) => DiskOutcome {
-            answer: number(refusal),
-            disk: old,
-        },
-    }
-}
-
 // A read answer that brings nothing is never wrong.
 fn brings(b: Brought) -> bool
     ensures { result ≡ something_in b }
@@ -96,96 +82,108 @@ fn not_stored<T>(x: &Record<T>, b: Brought, same: bool) -> bool
 }
 
 impl Disk {
-    fn recv_read_indirection_table(self, id: u64, loc: Location) -> Result<DiskState, DiskRefusal>
-        ensures { settled_outcome result self.state ≡ op_outcome self.device self.state (DiskOp.ReqReadIndirectionTableOp id loc) zero_node empty_table }
+    fn recv_read_indirection_table(&mut self, id: u64, loc: Location) -> Result<(), DiskRefusal>
+        ensures { moved_outcome result self.new.state self.old.state ≡ op_outcome self.old.device self.old.state (DiskOp.ReqReadIndirectionTableOp id loc) zero_node empty_table }
     {
-        let mut s = self.state;
         let allowed = table_allowed(self.device, loc);
-        s.queues.tablereads = ask(s.queues.tablereads, id, loc, allowed)?;
-        Ok(s)
+        self.state.queues.tablereads = ask(self.state.queues.tablereads, id, loc, allowed)?;
+        Ok(())
     }
 
-    fn recv_read_node(self, id: u64, loc: Location) -> Result<DiskState, DiskRefusal>
-        ensures { settled_outcome result self.state ≡ op_outcome self.device self.state (DiskOp.ReqReadNodeOp id loc) zero_node empty_table }
+    fn recv_read_node(&mut self, id: u64, loc: Location) -> Result<(), DiskRefusal>
+        ensures { moved_outcome result self.new.state self.old.state ≡ op_outcome self.old.device self.old.state (DiskOp.ReqReadNodeOp id loc) zero_node empty_table }
     {
-        let mut s = self.state;
         let allowed = node_allowed(self.device, loc);
-        s.queues.nodereads = ask(s.queues.nodereads, id, loc, allowed)?;
-        Ok(s)
+        self.state.queues.nodereads = ask(self.state.queues.nodereads, id, loc, allowed)?;
+        Ok(())
     }
 
     // The write takes effect at once: it replaces its area's record and nothing else.
     fn recv_write_indirection_table(
-        self,
+        &mut self,
         id: u64,
         loc: Location,
         table: Table,
-    ) -> Result<DiskState, DiskRefusal>
-        ensures { settled_outcome result self.state ≡ op_outcome self.device self.state (DiskOp.ReqWriteIndirectionTableOp id loc) zero_node table }
+    ) -> Result<(), DiskRefusal>
+        ensures { moved_outcome result self.new.state self.old.state ≡ op_outcome self.old.device self.old.state (DiskOp.ReqWriteIndirectionTableOp id loc) zero_node table }
     {
-        let mut s = self.state;
         let allowed = table_allowed(self.device, loc);
-        s.queues.tablewrites = ask(s.queues.tablewrites, id, loc, allowed)?;
-        s.records = with_table(self.device, s.records, loc, table);
-        Ok(s)
+        self.state.queues.tablewrites = ask(self.state.queues.tablewrites, id, loc, allowed)?;
+        self.state.records = with_table(self.device, self.state.records, loc, table);
+        Ok(())
     }
 
     // The write takes effect at once: it replaces its block's record and nothing else.
-    fn recv_write_node(self, id: u64, loc: Location, node: Node) -> Result<DiskState, DiskRefusal>
-        ensures { settled_outcome result self.state ≡ op_outcome self.device self.state (DiskOp.ReqWriteNodeOp id loc) node empty_table }
+    fn recv_write_node(&mut self, id: u64, loc: Location, node: Node) -> Result<(), DiskRefusal>
+        ensures { moved_outcome result self.new.state self.old.state ≡ op_outcome self.old.device self.old.state (DiskOp.ReqWriteNodeOp id loc) node empty_table }
     {
-        let mut s = self.state;
         let allowed = node_allowed(self.device, loc);
-        s.queues.nodewrites = ask(s.queues.nodewrites, id, loc, allowed)?;
-        s.records = with_node(self.device, s.records, loc, node);
-        Ok(s)
+        self.state.queues.nodewrites = ask(self.state.queues.nodewrites, id, loc, allowed)?;
+        self.state.records = with_node(self.device, self.state.records, loc, node);
+        Ok(())
     }
 
     fn ack_read_indirection_table(
-        self,
+        &mut self,
         id: u64,
         b: Brought,
         table: Table,
-    ) -> Result<DiskState, DiskRefusal>
-        ensures { settled_outcome result self.state ≡ op_outcome self.device self.state (DiskOp.RespReadIndirectionTableOp id b) zero_node table }
+    ) -> Result<(), DiskRefusal>
+        ensures { moved_outcome result self.new.state self.old.state ≡ op_outcome self.old.device self.old.state (DiskOp.RespReadIndirectionTableOp id b) zero_node table }
     {
-        let mut s = self.state;
-        let asked = queue::entry(s.queues.tablereads, id);
-        let stored = table_at(self.device, s.records, asked.loc);
+        let asked = queue::entry(self.state.queues.tablereads, id);
+        let stored = table_at(self.device, self.state.records, asked.loc);
         let wrong = not_stored(&stored, b, sector::same_table(stored.held, table));
-        s.queues.tablereads = take(s.queues.tablereads, id, wrong)?;
-        Ok(s)
+        self.state.queues.tablereads = take(self.state.queues.tablereads, id, wrong)?;
+        Ok(())
     }
 
-    fn ack_read_node(self, id: u64, b: Brought, node: Node) -> Result<DiskState, DiskRefusal>
-        ensures { settled_outcome result self.state ≡ op_outcome self.device self.state (DiskOp.RespReadNodeOp id b) node empty_table }
+    fn ack_read_node(&mut self, id: u64, b: Brought, node: Node) -> Result<(), DiskRefusal>
+        ensures { moved_outcome result self.new.state self.old.state ≡ op_outcome self.old.device self.old.state (DiskOp.RespReadNodeOp id b) node empty_table }
     {
-        let mut s = self.state;
-        let asked = queue::entry(s.queues.nodereads, id);
-        let stored = node_at(self.device, s.records, asked.loc);
+        let asked = queue::entry(self.state.queues.nodereads, id);
+        let stored = node_at(self.device, self.state.records, asked.loc);
         let wrong = not_stored(&stored, b, sector::same_node(stored.held, node));
-        s.queues.nodereads = take(s.queues.nodereads, id, wrong)?;
-        Ok(s)
+        self.state.queues.nodereads = take(self.state.queues.nodereads, id, wrong)?;
+        Ok(())
     }
 
-    fn ack_write_indirection_table(self, id: u64) -> Result<DiskState, DiskRefusal>
-        ensures { settled_outcome result self.state ≡ op_outcome self.device self.state (DiskOp.RespWriteIndirectionTableOp id) zero_node empty_table }
+    fn ack_write_indirection_table(&mut self, id: u64) -> Result<(), DiskRefusal>
+        ensures { moved_outcome result self.new.state self.old.state ≡ op_outcome self.old.device self.old.state (DiskOp.RespWriteIndirectionTableOp id) zero_node empty_table }
     {
-        let mut s = self.state;
-        s.queues.tablewrites = take(s.queues.tablewrites, id, false)?;
-        Ok(s)
+        self.state.queues.tablewrites = take(self.state.queues.tablewrites, id, false)?;
+        Ok(())
     }
 
-    fn ack_write_node(self, id: u64) -> Result<DiskState, DiskRefusal>
-        ensures { settled_outcome result self.state ≡ op_outcome self.device self.state (DiskOp.RespWriteNodeOp id) zero_node empty_table }
+    fn ack_write_node(&mut self, id: u64) -> Result<(), DiskRefusal>
+        ensures { moved_outcome result self.new.state self.old.state ≡ op_outcome self.old.device self.old.state (DiskOp.RespWriteNodeOp id) zero_node empty_table }
     {
-        let mut s = self.state;
-        s.queues.nodewrites = take(s.queues.nodewrites, id, false)?;
-        Ok(s)
+        self.state.queues.nodewrites = take(self.state.queues.nodewrites, id, false)?;
+        Ok(())
     }
 
-    // Any call on any disk. Its written form is asked of its parts, and the match on the operation stands here, since a function between
-    // that took the whole disk would copy it once more at each call.
+    // The operation's own transition, in place: a function that took the whole disk by value would copy it once more at each call.
+    fn transition(&mut self, call: &DiskCall) -> Result<(), DiskRefusal>
+        ensures { moved_outcome result self.new.state self.old.state ≡ op_outcome self.old.device self.old.state call.now.op call.now.node call.now.table }
+    {
+        match call.op {
+            DiskOp::ReqReadIndirectionTableOp(id, loc) => self.recv_read_indirection_table(id, loc),
+            DiskOp::ReqReadNodeOp(id, loc) => self.recv_read_node(id, loc),
+            DiskOp::ReqWriteIndirectionTableOp(id, loc) => self.recv_write_indirection_table(
+                id, loc, call.table,
+            ),
+            DiskOp::ReqWriteNodeOp(id, loc) => self.recv_write_node(id, loc, call.node),
+            DiskOp::RespReadIndirectionTableOp(id, b) => self.ack_read_indirection_table(
+                id, b, call.table,
+            ),
+            DiskOp::RespReadNodeOp(id, b) => self.ack_read_node(id, b, call.node),
+            DiskOp::RespWriteIndirectionTableOp(id) => self.ack_write_indirection_table(id),
+            DiskOp::RespWriteNodeOp(id) => self.ack_write_node(id),
+            DiskOp::NoDiskOp => Ok(()),
+        }
+    }
+
+    // Any call on any disk. Its written form is asked of its parts, as a function that took the whole disk would copy it.
     pub fn next(self, call: DiskCall) -> DiskOutcome
         ensures { result ≡ disk_step self.device self.state call }
     {
@@ -199,21 +197,16 @@ impl Disk {
         if !good {
             return DiskOutcome { answer: 1, disk: s };
         }
-        let next = match call.op {
-            DiskOp::ReqReadIndirectionTableOp(id, loc) => self.recv_read_indirection_table(id, loc),
-            DiskOp::ReqReadNodeOp(id, loc) => self.recv_read_node(id, loc),
-            DiskOp::ReqWriteIndirectionTableOp(id, loc) => self.recv_write_indirection_table(
-                id, loc, call.table,
-            ),
-            DiskOp::ReqWriteNodeOp(id, loc) => self.recv_write_node(id, loc, call.node),
-            DiskOp::RespReadIndirectionTableOp(id, b) => self.ack_read_indirection_table(
-                id, b, call.table,
-            ),
-            DiskOp::RespReadNodeOp(id, b) => self.ack_read_node(id, b, call.node),
-            DiskOp::RespWriteIndirectionTableOp(id) => self.ack_write_indirection_table(id),
-            DiskOp::RespWriteNodeOp(id) => self.ack_write_node(id),
-            DiskOp::NoDiskOp => Ok(s),
-        };
-        settled(next, s)
+        let mut after = self;
+        if let Err(refusal) = after.transition(&call) {
+            return DiskOutcome {
+                answer: number(refusal),
+                disk: s,
+            };
+        }
+        DiskOutcome {
+            answer: 0,
+            disk: after.state,
+        }
     }
 }

@@ -8,7 +8,6 @@ use disklayout::Location;
 use sectortype::{Node, Table};
 
 // No record, around a table or a node of zeros.
-#[inline(always)]
 pub fn absent<T>(zero: T) -> Record<T>
     ensures { result ≡ absent_record zero }
 {
@@ -20,7 +19,6 @@ pub fn absent<T>(zero: T) -> Record<T>
 }
 
 // This table or node at this place.
-#[inline(always)]
 pub fn present<T>(loc: Location, held: T) -> Record<T>
     ensures { result ≡ present_record loc held }
 {
@@ -55,7 +53,6 @@ fn block_of(device: u64, loc: Location) -> Option<u64>
 }
 
 // The record that number `at` has at exactly this place, or an empty one.
-#[inline(always)]
 fn record_at<T: Copy>(records: &[Record<T>], at: Option<u64>, loc: Location, zero: T) -> Record<T>
     ensures { result ≡ record_in at records.now loc zero }
 {

@@ -29,7 +29,7 @@ pub struct Store {
 }
 
 impl Store {
-    // The cache, with the device and the rule that the disk carries.
+    // The cache, with the device and the rule that the disk carries. Both are inlined: else what they make would be copied once more.
     #[inline(always)]
     fn in_cache(&self) -> Cache
         ensures { result ≡ record { settings = settings_of self.now.device self.now.disk; state = self.now.cache } }

@@ -1,18 +1,19 @@
 -- Refused or accepted as the queue says. Assumes nothing.
-use mathlib.Core.Path.{◌∙◌, ◌≡◌, ap, sym}
+use mathlib.Core.Path.{ap, refl, sym, ◌∙◌, ◌≡◌}
 use borrow.Author.Rules.{rules}
 use Rattle.std.specs.Prelude.{Err}
-use Rattle.blockdisk.specs.Ops.{with_node_writes, with_queues, with_records}
+use Rattle.blockdisk.specs.Ops.{moved_outcome, with_node_writes, with_queues, with_records}
 use Rattle.blockdisk.specs.Records.{with_node}
 use Rattle.disk.proofs.Requests.{asked_no, asked_yes}
 use Rattle.disk.proofs.Disk.recv_write_node.Goals as goal
 
-pub returns-in_err-s : goal.returns-in_err-s
-returns-in_err-s c =
-    let r : c.from_residual.result ≡ Err c.in_err-s.field-0.0 = search rules in
-    asked_no _ _ _ _ _ _ (c.node_allowed-allowed.ensures) (sym c.ask.ensures ∙ c.in_err-s.was) r
+pub returns-in_err-self : goal.returns-in_err-self
+returns-in_err-self c =
+    let r : c.from_residual.result ≡ Err c.in_err-self.field-0.0 = search rules in
+    ap (λ o. moved_outcome o c.args.self.now.state c.args.self.now.state) r
+    ∙ asked_no _ _ _ _ _ _ (c.node_allowed-allowed.ensures) (sym c.ask.ensures ∙ c.in_err-self.was) refl
 
 pub returns : goal.returns
 returns c =
-    let s = c.args.self.state in
-    asked_yes _ _ _ _ (λ q. with_records (with_queues s (with_node_writes s.queues q)) (with_node c.args.self.device s.records c.args.loc c.args.node)) s (c.node_allowed-allowed.ensures) (sym c.ask.ensures ∙ c.in_ok-s.was) (ap (λ r. record { records = r; queues = with_node_writes s.queues c.in_ok-s.field-0; rule = s.rule }) c.with_node-s.ensures)
+    let s = c.args.self.now.state in
+    asked_yes _ _ _ _ (λ q. with_records (with_queues s (with_node_writes s.queues q)) (with_node c.args.self.now.device s.records c.args.loc c.args.node)) s (c.node_allowed-allowed.ensures) (sym c.ask.ensures ∙ c.in_ok-self.was) (ap (λ r. record { records = r; queues = with_node_writes s.queues c.in_ok-self.field-0; rule = s.rule }) c.with_node-self.ensures)
