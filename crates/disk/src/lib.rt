@@ -9,7 +9,7 @@ mod read;
 use blockdisk::DiskState;
 pub use crashing::empty_queues;
 pub use form::is_rule;
-pub use read::{absent, empty_records, node_at, present, table_at};
+pub use read::{absent, empty_records, node_at, node_in, present, table_at};
 
 // A disk: which device it is, and its state. A step takes it by value and returns the answer's number and the state; the device stays.
 #[derive(Clone, Copy)]

@@ -69,11 +69,18 @@ pub fn table_at(device: u64, r: Records, loc: Location) -> Record<Table>
     record_at(&r.tables, area_of(device, loc), loc, sector::empty_table())
 }
 
+// Of lent records: whoever reads many places copies none of the others.
 #[tactic(auto, using(blockdisk::proofs::Numbers::node_in_block))]
+pub fn node_in(device: u64, r: &Records, loc: Location) -> Record<Node>
+    ensures { result ≡ read_node device r.now loc }
+{
+    record_at(&r.nodes, block_of(device, loc), loc, sector::zero_node())
+}
+
 pub fn node_at(device: u64, r: Records, loc: Location) -> Record<Node>
     ensures { result ≡ read_node device r loc }
 {
-    record_at(&r.nodes, block_of(device, loc), loc, sector::zero_node())
+    node_in(device, &r, loc)
 }
 
 // The records with this one in its area, and every other as it was.

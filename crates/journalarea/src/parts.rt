@@ -21,7 +21,7 @@ fn journal_length(device: u64) -> Result<u64, Refused>
     Ok(end - begin)
 }
 
-// The part that lies at a location of the journal; the device is asked for here too, as a device that is not made has a journal of length 0.
+// The part that lies at a location of the journal. A device that is not made has no journal, and is refused here too.
 fn part_at(device: u64, bytes: u64, location: Option<Location>) -> Result<Part, PartRefused>
     requires { (l : Location) → located location ≡ some l → journal_start_addr ≤ l.addr }
     ensures { result ≡ part_of device true bytes (located location) }

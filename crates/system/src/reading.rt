@@ -7,12 +7,12 @@ use blockdisk::{Record, Records};
 use blocksystem::{Counts, Named};
 use sectortype::{Entry, Node, Slot, Table};
 
-// A reference's node on the disk, through the table that was read; nothing where there is none.
-fn through_table(device: u64, r: Records, x: Record<Table>, e: Entry) -> Record<Node>
-    ensures { result ≡ through_table device r x e }
+// A reference's node on the disk, through the table that was read; nothing where there is none. All are lent: a count asks 64 times.
+fn through_table(device: u64, r: &Records, x: &Record<Table>, e: &Entry) -> Record<Node>
+    ensures { result ≡ through_table device r.now x.now e.now }
 {
     if x.present & e.located {
-        return disk::node_at(device, r, e.loc);
+        return disk::node_in(device, r, e.loc);
     }
     disk::absent(sector::zero_node())
 }
@@ -50,7 +50,7 @@ impl Store {
         let mut c: u64 = 0;
         for (i, e) in through.held.entries.iter().enumerate() {
             let slot = m.picture.slots[i];
-            let y = through_table(self.device, records, through, *e);
+            let y = through_table(self.device, &records, &through, e);
             a += lost(y, slot);
             b += added(y, slot);
             c += altered(y, slot);
